@@ -1,0 +1,2 @@
+-- What is proved of cards.
+pub mod Examples

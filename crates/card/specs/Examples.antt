@@ -1,0 +1,60 @@
+-- The rows marked P of document 01, At the edges: ONE table, and what it says of a row.
+use mathlib.Core.Path.{_≡_}
+use mathlib.Core.List.{List, [], _∷_, _++_}
+use mathlib.Core.Option.{Option, some, none}
+use Prim.Native.Nat.{ℕ}
+use lib.ListN.{replicate}
+use Rattle.tsc.specs.Tables.{tsc2Table}
+use Rattle.tsc.specs.Step.{step}
+use Rattle.tsc.specs.Word.{word}
+use Rattle.card.specs.Reading.{cardOf}
+use Rattle.card.specs.Verdict.{verdict}
+
+-- a state and its word
+pub record Drawn : Type 0 where
+  pub state : List ℕ
+  pub word : ℕ
+
+-- a card, its verdict and, where given, the state and the word that follow the all-zero state
+pub record Row : Type 0 where
+  pub bytes : List ℕ
+  pub verdict : ℕ
+  pub fromZero : Option Drawn
+
+abbrev accepted : List ℕ → List ℕ → ℕ → Row
+accepted b s w = record { bytes = b; verdict = 0; fromZero = some (record { state = s; word = w }) }
+
+abbrev refused : List ℕ → ℕ → Row
+refused b v = record { bytes = b; verdict = v; fromZero = none }
+
+-- P1 to P12. The states and words of P6, P11 and P12 are not the paper's: they come from a second program
+unfoldable pub rows : List Row
+rows =
+    accepted (0x00 ∷ []) (0xffffffff ∷ 0x12488421 ∷ 0xedb77bde ∷ 0xedb77bde ∷ []) 0x0b857478
+    ∷ accepted (0x74 ∷ tsc2Table ++ (0x00 ∷ 0x01 ∷ 0x00 ∷ 0x00 ∷ 0x00 ∷ 0x02 ∷ [])) (1 ∷ 0 ∷ 1 ∷ 0 ∷ []) 0x02401008
+    ∷ refused [] 1
+    ∷ refused (0x01 ∷ 0x03 ∷ []) 4
+    ∷ refused (0x02 ∷ 0x1c ∷ []) 6
+    ∷ accepted (0x02 ∷ 0x1d ∷ []) (0x1fffffff ∷ 0x12488421 ∷ 0x0db77bde ∷ 0x0db77bde ∷ []) 0x0b85b436
+    ∷ refused (0x05 ∷ 0x02 ∷ 0x00 ∷ 0x01 ∷ 0x02 ∷ 0x03 ∷ []) 7
+    ∷ refused (0x05 ∷ 0x02 ∷ 0x00 ∷ 0x01 ∷ 0x02 ∷ 0x03 ∷ 0x00 ∷ []) 5
+    ∷ refused (0x08 ∷ 0x01 ∷ []) 3
+    ∷ refused (0x08 ∷ 0x02 ∷ []) 9
+    ∷ accepted (0x08 ∷ 0x03 ∷ []) (0xffffffff ∷ 0x12488421 ∷ 0xffffffff ∷ 0xedb77bde ∷ []) 0x2fc78501
+    ∷ accepted (0x10 ∷ 0x00 ∷ []) (0x12488421 ∷ 0x12488421 ∷ 0x00000000 ∷ 0x00000000 ∷ []) 0x6322d1a8
+    ∷ []
+
+-- what follows the all-zero state of a card
+abbrev pub Follows : List ℕ → Option Drawn → Type 0
+Follows bytes none = Unit {0}
+Follows bytes (some d) =
+    let card = cardOf bytes in
+    let next = step card (replicate (card .words) 0) in
+    (next ≡ d .state) × (word card next ≡ d .word)
+
+abbrev pub Holds : Row → Type 0
+Holds r = (verdict (r .bytes) ≡ r .verdict) × Follows (r .bytes) (r .fromZero)
+
+abbrev pub AllHold : List Row → Type 0
+AllHold [] = Unit {0}
+AllHold (r ∷ rs) = Holds r × AllHold rs

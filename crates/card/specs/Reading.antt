@@ -1,0 +1,75 @@
+-- What the bytes of a card mean, and refusals 1 to 6 (document 01, The card and Refusal table). The first byte is the map; bytes past the end count as 0.
+use mathlib.Core.Bool.{Bool, cond, not, _&&_}
+use mathlib.Core.List.{List, [], _∷_, _++_}
+use Prim.Native.Nat.{ℕ, zero, suc, _+_, _-_, _^_}
+use lib.Dec.{eqb, leb, ltb}
+use lib.ListN.{length, getD, drop, replicate}
+use Rattle.cycle.specs.Notation.{sum, bit}
+use Rattle.tsc.specs.declared.Card.{Card}
+use Rattle.tsc.specs.Bounds.{mostWords}
+use Rattle.card.specs.Refusals.{Check, check, NoneApplies, truncated, outOfRange, redundant, tableMissing, trailingBytes, constantTooWide}
+use Rattle.card.specs.Fields.{field, tableBit, extent, numbers, allowed, same}
+
+-- whether field k is present
+abbrev pub present : List ℕ → ℕ → Bool
+present bytes k = eqb (bit k (getD bytes 0 0)) 1
+
+-- where field k starts on a card of m words: after the map and the present fields before it
+unfoldable pub offset : ℕ → List ℕ → ℕ → ℕ
+offset m bytes k = 1 + sum k (λ j. cond (present bytes j) (extent (field m j)) 0)
+
+-- the numbers of field k on a card of m words, given or absent
+unfoldable pub valuesAt : ℕ → List ℕ → ℕ → List ℕ
+valuesAt m bytes k = cond (present bytes k) (numbers (field m k) (drop (offset m bytes k) bytes)) (field m k .absent)
+
+-- m, by field 0, whose place and size do not depend on m
+unfoldable pub wordsOf : List ℕ → ℕ
+wordsOf bytes = getD (valuesAt 0 bytes 0) 0 0
+
+abbrev pub values : List ℕ → ℕ → List ℕ
+values bytes k = valuesAt (wordsOf bytes) bytes k
+
+abbrev pub value : List ℕ → ℕ → ℕ
+value bytes k = getD (values bytes k) 0 0
+
+-- the eight values, with unused table entries 0
+unfoldable pub cardOf : List ℕ → Card
+cardOf bytes =
+    record {
+      words = value bytes 0;
+      width = value bytes 1;
+      table = values bytes tableBit ++ replicate (2 ^ mostWords - length (values bytes tableBit)) 0;
+      «odd_power» = value bytes 3;
+      «even_power» = value bytes 4;
+      constant = value bytes 5;
+      filter = value bytes 6;
+      «sum_term» = value bytes 7;
+    }
+
+-- a field's checks, in their order; 4 stands at the table's place
+unfoldable pub fieldChecks : List ℕ → ℕ → List Check
+fieldChecks bytes k =
+    let m = wordsOf bytes in
+    let here = present bytes k in
+    check tableMissing (not here && (eqb k tableBit && not (eqb m 4)))
+    ∷ check truncated (here && ltb (length bytes) (offset m bytes k + extent (field m k)))
+    ∷ check outOfRange (here && not (allowed (field m k) (values bytes k)))
+    ∷ check redundant (here && same (values bytes k) (field m k .absent))
+    ∷ []
+
+-- the map, then the fields before field k
+unfoldable pub checksTo : List ℕ → ℕ → List Check
+checksTo bytes zero = check truncated (eqb (length bytes) 0) ∷ []
+checksTo bytes (suc k) = checksTo bytes k ++ fieldChecks bytes k
+
+-- conditions 1 to 6
+unfoldable pub formChecks : List ℕ → List Check
+formChecks bytes =
+    checksTo bytes 8
+    ++ (check trailingBytes (ltb (offset (wordsOf bytes) bytes 8) (length bytes))
+    ∷ check constantTooWide (leb (2 ^ value bytes 1) (value bytes 5))
+    ∷ [])
+
+-- a card of sound form: none of conditions 1 to 6 applies
+abbrev pub SoundForm : List ℕ → Type 0
+SoundForm bytes = NoneApplies (formChecks bytes)

@@ -1,0 +1,22 @@
+-- Refusals 7 to 9 and the verdict on any byte string (document 01, Refusal table).
+use mathlib.Core.Bool.{not, _||_}
+use mathlib.Core.List.{List, [], _∷_, _++_}
+use Prim.Native.Nat.{ℕ, _%_, _^_}
+use lib.Dec.{eqb}
+use Rattle.cycle.specs.Cycle.{firstReturn}
+use Rattle.tsc.specs.declared.Card.{Card}
+use Rattle.tsc.specs.Step.{entry}
+use Rattle.card.specs.Refusals.{Check, check, firstOf, notSingleCycle, evenConstant, powerParity}
+use Rattle.card.specs.Reading.{cardOf, formChecks}
+
+-- conditions 7 to 9, on a card's values: from 0 the table does not first return to 0 after all 2^m entries; C is even; a is even or b is odd
+unfoldable pub periodChecks : Card → List Check
+periodChecks card =
+    check notSingleCycle (not (eqb (firstReturn (entry card) (2 ^ card .words)) (2 ^ card .words)))
+    ∷ check evenConstant (eqb (card .constant % 2) 0)
+    ∷ check powerParity (eqb (card .«odd_power» % 2) 0 || eqb (card .«even_power» % 2) 1)
+    ∷ []
+
+-- 0 for an accepted card, else the number of its refusal, 1 to 9
+unfoldable pub verdict : List ℕ → ℕ
+verdict bytes = firstOf (formChecks bytes ++ periodChecks (cardOf bytes))

@@ -1,0 +1,34 @@
+// The refusal numbers of document 01, each with its trade word.
+
+// short
+pub const TRUNCATED: u8 = 1;
+// range
+pub const OUT_OF_RANGE: u8 = 2;
+// idle
+pub const REDUNDANT: u8 = 3;
+// tableless
+pub const TABLE_MISSING: u8 = 4;
+// long
+pub const TRAILING_BYTES: u8 = 5;
+// wide
+pub const CONSTANT_TOO_WIDE: u8 = 6;
+// broken ring
+pub const NOT_SINGLE_CYCLE: u8 = 7;
+// even constant
+pub const EVEN_CONSTANT: u8 = 8;
+// powers
+pub const POWER_PARITY: u8 = 9;
+// word count
+pub const WORD_COUNT: u8 = 10;
+// high bits
+pub const WORD_TOO_WIDE: u8 = 11;
+// uneven
+pub const LENGTH_MISMATCH: u8 = 12;
+// no shovel
+pub const NO_SHOVEL: u8 = 13;
+// crowd
+pub const TOO_MANY_SHOVELS: u8 = 14;
+// twice
+pub const DUPLICATE_SHOVEL: u8 = 15;
+// small page
+pub const BUFFER_TOO_SMALL: u8 = 16;

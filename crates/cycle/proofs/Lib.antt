@@ -1,0 +1,11 @@
+-- Laws, each at its most general place; the crates above cite them.
+pub mod Parity
+pub mod Sum
+pub mod Count
+pub mod Digits
+pub mod Bits
+pub mod Iterate
+pub mod Cycle
+pub mod FirstReturn
+pub mod Inverse
+pub mod Skew

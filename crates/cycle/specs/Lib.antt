@@ -1,0 +1,3 @@
+-- Notation, and what a single cycle is.
+pub mod Notation
+pub mod Cycle

@@ -1,0 +1,34 @@
+-- The output word of a state: filters 1 and 2 (document 002, 15 and 20), within n bits as document 01 says.
+use mathlib.Core.Bool.{cond}
+use mathlib.Core.List.{List}
+use Prim.Native.Nat.{ℕ, _+_, _-_, _*_, _/_, _%_, _^_}
+use lib.Dec.{eqb}
+use lib.ListN.{getD}
+use Rattle.tsc.specs.declared.Card.{Card}
+
+module _ (n : ℕ) where
+  infixl 65 _⊞_
+  infixl 70 _⋘_
+  -- the sum modulo 2^n
+  unfoldable pub _⊞_ : ℕ → ℕ → ℕ
+  _⊞_ x y = (x + y) % 2 ^ n
+
+  -- x turned left by k modulo n, within n bits: what leaves at the top comes in at the bottom
+  unfoldable pub _⋘_ : ℕ → ℕ → ℕ
+  _⋘_ x k = x * 2 ^ (k % n) % 2 ^ n + x / 2 ^ (n - k % n)
+
+  -- document 002 (15)
+  unfoldable pub filter1 : ℕ → ℕ → ℕ → ℕ → ℕ
+  filter1 x0 x1 x2 x3 = ((x0 ⋘ 9 ⊞ x1) ⋘ 15) ⊞ (x2 ⋘ 7 ⊞ x3)
+
+  -- document 002 (20)
+  unfoldable pub filter2 : ℕ → ℕ → ℕ → ℕ → ℕ
+  filter2 x0 x1 x2 x3 = ((x0 ⋘ 11 ⊞ x1) ⋘ 14) ⊞ ((x0 ⋘ 13 ⊞ x2) ⋘ 22) ⊞ (x0 ⋘ 12 ⊞ x3)
+
+-- the word of a state; absent words count as 0. The word of a draw is that of the state after the step
+unfoldable pub word : Card → List ℕ → ℕ
+word card xs =
+    let n = card .width in
+    cond (eqb (card .filter) 2)
+    (filter2 n (getD xs 0 0) (getD xs 1 0) (getD xs 2 0) (getD xs 3 0))
+    (filter1 n (getD xs 0 0) (getD xs 1 0) (getD xs 2 0) (getD xs 3 0))
