@@ -14,4 +14,4 @@ use Rattle.card.specs.Examples.{rows, AllHold}
 
 pub rows-hold : AllHold rows
 unfolding sum tabulate iterate returnFrom firstReturn column fromColumns andWords sumWords selector step _⊞_ _⋘_ filter1 filter2 word firstOf fields field numbers allowed same offset valuesAt wordsOf cardOf fieldChecks checksTo formChecks periodChecks verdict rows
-rows-hold = ((refl, (refl, refl)), ((refl, (refl, refl)), ((refl, tt), ((refl, tt), ((refl, tt), ((refl, (refl, refl)), ((refl, tt), ((refl, tt), ((refl, tt), ((refl, tt), ((refl, (refl, refl)), ((refl, (refl, refl)), tt))))))))))))
+rows-hold = (refl, (refl, refl), (refl, (refl, refl), (refl, tt, (refl, tt, (refl, tt, (refl, (refl, refl), (refl, tt, (refl, tt, (refl, tt, (refl, tt, (refl, (refl, refl), (refl, (refl, refl), tt))))))))))))

@@ -1,2 +1,5 @@
 -- What is proved of cards.
+pub mod Refusals
+pub mod Sound
+pub mod Verdict
 pub mod Examples

@@ -4,25 +4,20 @@ use mathlib.Core.List.{List, [], _∷_, _++_}
 use mathlib.Core.Option.{Option, some, none}
 use Prim.Native.Nat.{ℕ}
 use lib.ListN.{replicate}
-use Rattle.tsc.specs.Tables.{tsc2Table}
+use Rattle.tsc.specs.Constants.{tsc2Table}
 use Rattle.tsc.specs.Step.{step}
 use Rattle.tsc.specs.Word.{word}
 use Rattle.card.specs.Reading.{cardOf}
 use Rattle.card.specs.Verdict.{verdict}
 
--- a state and its word
-pub record Drawn : Type 0 where
-  pub state : List ℕ
-  pub word : ℕ
-
--- a card, its verdict and, where given, the state and the word that follow the all-zero state
+-- a card, its verdict and, where given, the state that follows the all-zero state, and its word
 pub record Row : Type 0 where
   pub bytes : List ℕ
   pub verdict : ℕ
-  pub fromZero : Option Drawn
+  pub fromZero : Option (List ℕ × ℕ)
 
 abbrev accepted : List ℕ → List ℕ → ℕ → Row
-accepted b s w = record { bytes = b; verdict = 0; fromZero = some (record { state = s; word = w }) }
+accepted b s w = record { bytes = b; verdict = 0; fromZero = some (s, w) }
 
 abbrev refused : List ℕ → ℕ → Row
 refused b v = record { bytes = b; verdict = v; fromZero = none }
@@ -45,16 +40,14 @@ rows =
     ∷ []
 
 -- what follows the all-zero state of a card
-abbrev pub Follows : List ℕ → Option Drawn → Type 0
+abbrev pub Follows : List ℕ → Option (List ℕ × ℕ) → Type 0
 Follows bytes none = Unit {0}
 Follows bytes (some d) =
     let card = cardOf bytes in
     let next = step card (replicate (card .words) 0) in
-    (next ≡ d .state) × (word card next ≡ d .word)
+    (next ≡ d .0) × (word card next ≡ d .1)
 
-abbrev pub Holds : Row → Type 0
-Holds r = (verdict (r .bytes) ≡ r .verdict) × Follows (r .bytes) (r .fromZero)
-
+-- THE STATEMENT: each row's verdict, and what follows the all-zero state where it is given
 abbrev pub AllHold : List Row → Type 0
 AllHold [] = Unit {0}
-AllHold (r ∷ rs) = Holds r × AllHold rs
+AllHold (r ∷ rs) = (verdict (r .bytes) ≡ r .verdict) × Follows (r .bytes) (r .fromZero) × AllHold rs

@@ -5,8 +5,7 @@ use Prim.Native.Nat.{ℕ, _+_, _-_, _*_, _/_, _%_, _^_}
 use lib.Dec.{eqb, leb}
 use lib.ListN.{getD}
 use Rattle.cycle.specs.Notation.{sum, tabulate}
-use Rattle.tsc.specs.Bounds.{fewestWords, mostWords, narrowestWidth, widestWidth}
-use Rattle.tsc.specs.Tables.{tsc1Constant, tsc1Table}
+use Rattle.tsc.specs.Constants.{fewestWords, mostWords, narrowestWidth, widestWidth, tsc1Constant, tsc1Table}
 
 -- a field is `count` numbers of `size` bytes each, low byte first, each from `least` to `most`; `absent` is what stands for it when its bit is 0
 pub record Field : Type 0 where

@@ -6,7 +6,7 @@ use lib.Dec.{eqb, leb, ltb}
 use lib.ListN.{length, getD, drop, replicate}
 use Rattle.cycle.specs.Notation.{sum, bit}
 use Rattle.tsc.specs.declared.Card.{Card}
-use Rattle.tsc.specs.Bounds.{mostWords}
+use Rattle.tsc.specs.Constants.{mostWords}
 use Rattle.card.specs.Refusals.{Check, check, NoneApplies, truncated, outOfRange, redundant, tableMissing, trailingBytes, constantTooWide}
 use Rattle.card.specs.Fields.{field, tableBit, extent, numbers, allowed, same}
 

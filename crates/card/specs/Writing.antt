@@ -1,5 +1,5 @@
 -- What the writer writes, and its refusals (document 01, after the refusal table).
-use mathlib.Core.Bool.{Bool, true, cond, not, _&&_, _||_}
+use mathlib.Core.Bool.{Bool, true, cond, not, _&&_}
 use mathlib.Core.List.{List, [], _∷_, _++_}
 use Prim.Native.Nat.{ℕ, zero, suc, _^_}
 use lib.Dec.{leb, ltb}
@@ -10,21 +10,14 @@ use Rattle.card.specs.Refusals.{Check, check, outOfRange, constantTooWid
 use Rattle.card.specs.Fields.{field, bytesOf, allowed, same}
 use Rattle.card.specs.Verdict.{periodChecks}
 
--- the numbers of field k of a card
+-- the numbers of each field of a card, from bit 0 up
+abbrev pub numbersIn : Card → List (List ℕ)
+numbersIn card =
+    (card .words ∷ []) ∷ (card .width ∷ []) ∷ take (2 ^ card .words) (card .table) ∷ (card .«odd_power» ∷ [])
+    ∷ (card .«even_power» ∷ []) ∷ (card .constant ∷ []) ∷ (card .filter ∷ []) ∷ (card .«sum_term» ∷ []) ∷ []
+
 unfoldable pub numbersOf : Card → ℕ → List ℕ
-numbersOf card k =
-    getD
-    ((card .words ∷ [])
-    ∷ (card .width ∷ [])
-    ∷ take (2 ^ card .words) (card .table)
-    ∷ (card .«odd_power» ∷ [])
-    ∷ (card .«even_power» ∷ [])
-    ∷ (card .constant ∷ [])
-    ∷ (card .filter ∷ [])
-    ∷ (card .«sum_term» ∷ [])
-    ∷ [])
-    k
-    []
+numbersOf card k = getD (numbersIn card) k []
 
 -- a field is written only when it differs from its absent value; so the table always is when m is not 4
 abbrev pub isWritten : Card → ℕ → Bool

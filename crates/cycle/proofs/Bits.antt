@@ -7,7 +7,7 @@ use lib.Bits.{bitAnd, bitXor, differ, and-step, xor-step, and-shr, xor-shr}
 use lib.Pow.{pow-pos, field, mod-mod-pow, ones-split, high, ones-lt}
 use Rattle.cycle.specs.Notation.{bit}
 use Rattle.cycle.proofs.Parity.{two-pos, bits-cases}
-use Rattle.cycle.proofs.Digits.{fromDigits, fromDigits-ext, fromDigits-of}
+use Rattle.cycle.proofs.Digits.{fromDigits-ext, fromDigits-of}
 
 pub bit-lt : (i x : ℕ) → bit i x < 2
 bit-lt i x = mod-lt (x / 2 ^ i) two-pos

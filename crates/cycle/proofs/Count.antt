@@ -1,5 +1,5 @@
 -- Counting how often a function on 0 .. n - 1 takes a value: the pigeonhole principle, and sums along a permutation.
-use mathlib.Core.Path.{_≡_, refl, sym, ap, _∙_}
+use mathlib.Core.Path.{_≡_, refl, sym, _∙_}
 use mathlib.Core.Logic.{_≢_}
 use mathlib.Core.Bool.{cond}
 use Prim.Native.Nat.{ℕ, zero, suc, _+_, _*_, _≤_, _<_}
@@ -9,7 +9,7 @@ use native.Mathlib.Omega.{arith}
 use borrow.Author.Tests.{eq-eqb, ne-eqb}
 use lib.Dec.{eqb}
 use Rattle.cycle.specs.Notation.{sum}
-use Rattle.cycle.proofs.Sum.{sum-ext, sum-mono, sum-const, sum-zero, sum-one, sum-scale, sum-swap, term-le-sum, le-sum, sum-le}
+use Rattle.cycle.proofs.Sum.{sum-ext, sum-one, sum-scale, sum-swap, term-le-sum, le-sum, sum-le}
 
 -- ---- Kronecker's delta: 1 where the numbers are equal, else 0
 

@@ -1,6 +1,6 @@
 -- Single cycles: what makes a map one, each number comes once a round, and the start is free.
 use mathlib.Core.Path.{_≡_, sym, ap, _∙_}
-use Prim.Native.Nat.{ℕ, zero, suc, pred, _+_, _-_, _*_, _%_, _≤_, _<_}
+use Prim.Native.Nat.{ℕ, suc, pred, _+_, _-_, _*_, _%_, _≤_, _<_}
 use native.Mathlib.Nat.{mul-suc, add-comm, add-left-comm, mod-lt, suc-pred-eq-of-pos}
 use native.Mathlib.Decide.{decLt}
 use native.Mathlib.Omega.{arith}

@@ -1,5 +1,5 @@
 -- A function applied repeatedly.
-use mathlib.Core.Path.{_≡_, refl, sym, ap, _∙_}
+use mathlib.Core.Path.{_≡_, sym, ap, _∙_}
 use Prim.Native.Nat.{ℕ, zero, suc, _+_, _*_, _/_, _%_, _<_}
 use native.Mathlib.Nat.{zero-add, suc-add, zero-mul, suc-mul, mod-add-div'}
 use Rattle.cycle.specs.Notation.{iterate}

@@ -2,15 +2,15 @@
 use mathlib.Core.Path.{_≡_, refl, sym, ap, ap₂, _∙_}
 use mathlib.Core.List.{List, [], _∷_}
 use Prim.Native.Nat.{ℕ, zero, suc, _+_, _*_, _/_, _%_, _^_, _<_}
-use native.Mathlib.Nat.{zero-mul, le-refl, pow-suc, add-mul, add-mod, add-mod-mod, mod-lt, suc-inj}
+use native.Mathlib.Nat.{zero-mul, le-refl, pow-suc, add-mul, add-mod, add-mod-mod, suc-inj}
 use native.Mathlib.Omega.{arith}
 use lib.ListN.{length}
-use Rattle.cycle.specs.Notation.{sum, tabulate, bit}
+use Rattle.cycle.specs.Notation.{tabulate, bit}
 use Rattle.cycle.proofs.Parity.{two-pos}
 use Rattle.cycle.proofs.Sum.{sum-ext, sum-add, sum-zero}
-use Rattle.cycle.proofs.Digits.{fromDigits, fromDigits-ext, fromDigits-lt, fromDigits-of, digit-fromDigits, length-tabulate, tabulate-ext}
+use Rattle.cycle.proofs.Digits.{fromDigits, fromDigits-ext, fromDigits-lt, fromDigits-of, digit-fromDigits, length-tabulate, getD-tabulate, tabulate-ext}
 use Rattle.cycle.proofs.Bits.{bit-lt, bit-suc, bit-and, bit-ones, bits-ext}
-use Rattle.tsc.specs.Columns.{WordsBelow, InRange, column, fromColumns}
+use Rattle.tsc.specs.Columns.{InRange, column, fromColumns}
 use Rattle.tsc.specs.Selector.{andWords, sumWords}
 
 pub column-lt : (i : ℕ) (xs : List ℕ) → column i xs < 2 ^ length xs
@@ -44,29 +44,25 @@ column-fromColumns (suc m) n c i l h =
     digit-fromDigits 2 n (λ j. bit 0 (c j)) two-pos (λ j k. bit-lt 0 (c j)) i l in
     omega (arith, u, b)
 
-tabulate-below : (n m : ℕ) (f : ℕ → ℕ) → ((k : ℕ) → f k < 2 ^ n) → WordsBelow n (tabulate m f)
-unfolding tabulate
-tabulate-below n zero f h = tt
-tabulate-below n (suc m) f h = (h 0, tabulate-below n m (λ k. f (suc k)) (λ k. h (suc k)))
-
 pub fromColumns-in-range : (m n : ℕ) (c : ℕ → ℕ) → InRange m n (fromColumns m n c)
 unfolding fromColumns
 fromColumns-in-range m n c = (
   length-tabulate m (λ k. fromDigits 2 n (λ i. bit k (c i))),
-  tabulate-below n m (λ k. fromDigits 2 n (λ i. bit k (c i))) (λ k. fromDigits-lt 2 n (λ i. bit k (c i)) (λ i l. bit-lt k (c i))),
+  λ k l. rw (getD-tabulate m (λ k. fromDigits 2 n (λ i. bit k (c i))) k l) (fromDigits-lt 2 n (λ i. bit k (c i)) (λ i l. bit-lt k (c i))),
 )
 
 -- states with the same columns are equal
-pub columns-ext : (n : ℕ) (xs ys : List ℕ) → length xs ≡ length ys → WordsBelow n xs → WordsBelow n ys
-    → ((i : ℕ) → i < n → column i xs ≡ column i ys) → xs ≡ ys
+pub columns-ext : (m n : ℕ) (xs ys : List ℕ) → InRange m n xs → InRange m n ys → ((i : ℕ) → i < n → column i xs ≡ column i ys) → xs ≡ ys
 unfolding column
-columns-ext n [] [] e bx by h = refl
-columns-ext n [] (y ∷ ys) e bx by h = absurd (omega arith)
-columns-ext n (x ∷ xs) [] e bx by h = absurd (omega arith)
-columns-ext n (x ∷ xs) (y ∷ ys) e bx by h =
+columns-ext zero n [] [] rx ry h = refl
+columns-ext zero n [] (y ∷ ys) rx ry h = absurd (omega arith)
+columns-ext zero n (x ∷ xs) ys rx ry h = absurd (omega arith)
+columns-ext (suc m) n [] ys rx ry h = absurd (omega arith)
+columns-ext (suc m) n (x ∷ xs) [] rx ry h = absurd (omega arith)
+columns-ext (suc m) n (x ∷ xs) (y ∷ ys) rx ry h =
     ap₂ (λ (a : ℕ) (l : List ℕ). a ∷ l)
-    (bits-ext n x y (bx .0) (by .0) (λ i l. omega (arith, h i l)))
-    (columns-ext n xs ys (suc-inj e) (bx .1) (by .1) (λ i l. omega (arith, h i l)))
+    (bits-ext n x y (rx .1 0 (omega arith)) (ry .1 0 (omega arith)) (λ i l. omega (arith, h i l)))
+    (columns-ext m n xs ys (suc-inj (rx .0), λ k l. rx .1 (suc k) (omega arith)) (suc-inj (ry .0), λ k l. ry .1 (suc k) (omega arith)) (λ i l. omega (arith, h i l)))
 
 -- ---- p and s by columns
 

@@ -6,7 +6,7 @@
 use mathlib.Core.Path.{_≡_, refl, sym, ap, ap₂, _∙_, subst}
 use mathlib.Core.Logic.{_↔_, _⊎_, inl, inr}
 use mathlib.Core.List.{List}
-use Prim.Native.Nat.{ℕ, zero, suc, pred, _+_, _-_, _*_, _%_, _^_, _≤_, _<_}
+use Prim.Native.Nat.{ℕ, zero, suc, pred, _+_, _-_, _*_, _%_, _^_, _<_}
 use native.Mathlib.Nat.{zero-add, suc-add, add-zero, zero-mul, mul-zero, mul-suc, mul-comm, add-comm, le-refl, le-trans, mod-lt, pow-zero, pow-suc, pow-succ', one-le-pow, mod-eq-of-lt, mul-one, one-mul, mul-pos, suc-pred-eq-of-pos, lt-of-lt-of-le, pow-le-pow-right, le-suc, mod-one, div-one, suc-mul, eq-zero-or-pos, mul-mod-left, add-mod}
 use native.Mathlib.Decide.{decLt}
 use native.Mathlib.Omega.{arith}
@@ -20,7 +20,6 @@ use Rattle.cycle.proofs.Iterate.{MapsBelow, iterate-add}
 use Rattle.cycle.proofs.Cycle.{Reaches, cycle-of-return, cycle-of-reaches, cycle-reaches, visits-once, cycle-from, sum-around}
 use Rattle.cycle.proofs.Skew.{skew, roundPower, skew-cycle, skew-even, skew-low, skew-below}
 use Rattle.tsc.specs.declared.Card.{Card}
-use Rattle.tsc.specs.Columns.{InRange}
 use Rattle.tsc.specs.Step.{entry, power, orbit}
 use Rattle.tsc.specs.Coverage.{IsState, states, Covers, WellFormed, FullPeriod}
 use Rattle.tsc.proofs.Number.{number, number-lt, number-injective, stateOf, stateOf-in-range, number-stateOf}

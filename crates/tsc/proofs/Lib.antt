@@ -7,3 +7,4 @@ pub mod Step
 pub mod Table
 pub mod Coverage
 pub mod Preimage
+pub mod Word

@@ -1,11 +1,10 @@
 -- A state as one number: its columns are the digits in base 2^m, column 0 lowest.
-use mathlib.Core.Path.{_≡_, refl, sym, ap, _∙_, subst}
+use mathlib.Core.Path.{_≡_, _∙_, subst}
 use mathlib.Core.List.{List}
-use Prim.Native.Nat.{ℕ, zero, suc, _+_, _*_, _/_, _%_, _^_, _<_}
+use Prim.Native.Nat.{ℕ, suc, _+_, _*_, _/_, _%_, _^_, _<_}
 use native.Mathlib.Nat.{mod-lt, mod-eq-of-lt}
 use lib.ListN.{length}
 use lib.Pow.{pow-pos}
-use Rattle.cycle.specs.Notation.{sum}
 use Rattle.cycle.proofs.Digits.{fromDigits, Digits, fromDigits-ext, fromDigits-suc, fromDigits-lt, fromDigits-div, fromDigits-mod, fromDigits-of, fromDigits-injective}
 use Rattle.tsc.specs.Columns.{InRange, column, fromColumns}
 use Rattle.tsc.proofs.Columns.{column-lt, column-fromColumns, fromColumns-in-range, columns-ext}
@@ -45,7 +44,7 @@ number-ext m i xs ys h = fromDigits-ext (2 ^ m) i (λ j. column j xs) (λ j. col
 pub number-injective : (m n : ℕ) (xs ys : List ℕ) → InRange m n xs → InRange m n ys → number m n xs ≡ number m n ys → xs ≡ ys
 unfolding number
 number-injective m n xs ys rx ry e =
-    columns-ext n xs ys (rx .0 ∙ sym (ry .0)) (rx .1) (ry .1)
+    columns-ext m n xs ys rx ry
     (fromDigits-injective (2 ^ m) n (λ i. column i xs) (λ i. column i ys) (pow-pos m) (columns m xs (rx .0) n) (columns m ys (ry .0) n) e)
 
 pub stateOf-in-range : (m n z : ℕ) → InRange m n (stateOf m n z)

@@ -2,7 +2,7 @@
 use mathlib.Core.Path.{_≡_, refl, sym, ap, ap₂, _∙_}
 use mathlib.Core.Bool.{Bool, true, false, cond}
 use Prim.Native.Nat.{ℕ, zero, suc, _+_, _*_, _/_, _%_, _^_, _≤_, _<_}
-use native.Mathlib.Nat.{zero-add, zero-mul, mul-assoc, add-right-comm, mod-lt, mod-mod, pow-zero, pow-suc, pow-succ', one-le-pow, add-mul-div-right, div-div-eq-div-mul, one-mul, div-one, mul-div-mul-left, mul-mod-right}
+use native.Mathlib.Nat.{zero-add, zero-mul, mul-assoc, add-right-comm, mod-lt, mod-mod, pow-zero, pow-suc, pow-succ', add-mul-div-right, div-div-eq-div-mul, one-mul, div-one, mul-div-mul-left, mul-mod-right}
 use native.Mathlib.Omega.{arith}
 use lib.Arith.{digits-div, digits-mod}
 use lib.Pow.{pow-pos}

@@ -1,7 +1,7 @@
 -- Where the orbit covers, each state is the step of exactly one state: number N - 1 of its own orbit.
 use mathlib.Core.Path.{_≡_, refl, sym, ap, _∙_}
 use mathlib.Core.List.{List}
-use Prim.Native.Nat.{ℕ, zero, suc, pred, _*_, _^_, _<_}
+use Prim.Native.Nat.{ℕ, suc, pred, _*_, _<_}
 use native.Mathlib.Nat.{suc-pred-eq-of-pos}
 use native.Mathlib.Decide.{decLt}
 use native.Mathlib.Omega.{arith}

@@ -14,7 +14,7 @@ use Rattle.cycle.proofs.Sum.{sum-ext}
 use Rattle.cycle.proofs.Digits.{fromDigits, fromDigits-ext, fromDigits-of}
 use Rattle.cycle.proofs.Bits.{bit-xor, bit-mod, mod-pow-mod, shift-add, bit-double}
 use Rattle.tsc.specs.declared.Card.{Card}
-use Rattle.tsc.specs.Bounds.{fewestWords}
+use Rattle.tsc.specs.Constants.{fewestWords}
 use Rattle.tsc.specs.Columns.{column}
 use Rattle.tsc.specs.Selector.{andWords, sumWords, selector}
 use Rattle.tsc.proofs.Columns.{allOnes, popcount, bit-andWords, sumWords-mod}

@@ -6,10 +6,10 @@ use native.Mathlib.Omega.{arith}
 use lib.Dec.{eqb}
 use lib.ListN.{length}
 use Rattle.cycle.specs.Notation.{sum, iterate, bit}
-use Rattle.cycle.proofs.Iterate.{MapsBelow, iterate-below}
+use Rattle.cycle.proofs.Iterate.{iterate-below}
 use Rattle.cycle.proofs.Skew.{skew}
 use Rattle.tsc.specs.declared.Card.{Card}
-use Rattle.tsc.specs.Columns.{InRange, column}
+use Rattle.tsc.specs.Columns.{column}
 use Rattle.tsc.specs.Selector.{selector}
 use Rattle.tsc.specs.Step.{entry, power, step, orbit}
 use Rattle.tsc.specs.Coverage.{IsState, WellFormed}

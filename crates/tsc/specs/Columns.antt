@@ -2,17 +2,12 @@
 use mathlib.Core.Path.{_≡_}
 use mathlib.Core.List.{List, [], _∷_}
 use Prim.Native.Nat.{ℕ, _+_, _*_, _^_, _<_}
-use lib.ListN.{length}
+use lib.ListN.{length, getD}
 use Rattle.cycle.specs.Notation.{sum, tabulate, bit}
-
--- each word has n bits
-abbrev pub WordsBelow : ℕ → List ℕ → Type 0
-WordsBelow n [] = Unit {0}
-WordsBelow n (x ∷ xs) = (x < 2 ^ n) × WordsBelow n xs
 
 -- a state in range: m words of n bits
 abbrev pub InRange : ℕ → ℕ → List ℕ → Type 0
-InRange m n xs = (length xs ≡ m) × WordsBelow n xs
+InRange m n xs = (length xs ≡ m) × ((k : ℕ) → k < m → getD xs k 0 < 2 ^ n)
 
 -- document 002 (2): column i is the number whose bit k is bit i of word k
 unfoldable pub column : ℕ → List ℕ → ℕ

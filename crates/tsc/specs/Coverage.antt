@@ -4,7 +4,7 @@ use mathlib.Core.List.{List}
 use Prim.Native.Nat.{ℕ, _*_, _%_, _^_, _≤_, _<_}
 use Rattle.cycle.specs.Cycle.{SingleCycle}
 use Rattle.tsc.specs.declared.Card.{Card}
-use Rattle.tsc.specs.Bounds.{fewestWords, narrowestWidth}
+use Rattle.tsc.specs.Constants.{fewestWords, narrowestWidth}
 use Rattle.tsc.specs.Columns.{InRange}
 use Rattle.tsc.specs.Step.{entry, orbit}
 

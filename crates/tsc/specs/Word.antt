@@ -18,17 +18,15 @@ module _ (n : ℕ) where
   _⋘_ x k = x * 2 ^ (k % n) % 2 ^ n + x / 2 ^ (n - k % n)
 
   -- document 002 (15)
-  unfoldable pub filter1 : ℕ → ℕ → ℕ → ℕ → ℕ
-  filter1 x0 x1 x2 x3 = ((x0 ⋘ 9 ⊞ x1) ⋘ 15) ⊞ (x2 ⋘ 7 ⊞ x3)
+  unfoldable pub filter1 : (ℕ → ℕ) → ℕ
+  filter1 x = ((x 0 ⋘ 9 ⊞ x 1) ⋘ 15) ⊞ (x 2 ⋘ 7 ⊞ x 3)
 
   -- document 002 (20)
-  unfoldable pub filter2 : ℕ → ℕ → ℕ → ℕ → ℕ
-  filter2 x0 x1 x2 x3 = ((x0 ⋘ 11 ⊞ x1) ⋘ 14) ⊞ ((x0 ⋘ 13 ⊞ x2) ⋘ 22) ⊞ (x0 ⋘ 12 ⊞ x3)
+  unfoldable pub filter2 : (ℕ → ℕ) → ℕ
+  filter2 x = ((x 0 ⋘ 11 ⊞ x 1) ⋘ 14) ⊞ ((x 0 ⋘ 13 ⊞ x 2) ⋘ 22) ⊞ (x 0 ⋘ 12 ⊞ x 3)
 
 -- the word of a state; absent words count as 0. The word of a draw is that of the state after the step
 unfoldable pub word : Card → List ℕ → ℕ
 word card xs =
-    let n = card .width in
-    cond (eqb (card .filter) 2)
-    (filter2 n (getD xs 0 0) (getD xs 1 0) (getD xs 2 0) (getD xs 3 0))
-    (filter1 n (getD xs 0 0) (getD xs 1 0) (getD xs 2 0) (getD xs 3 0))
+    let x : ℕ → ℕ = λ k. getD xs k 0 in
+    cond (eqb (card .filter) 2) (filter2 (card .width) x) (filter1 (card .width) x)

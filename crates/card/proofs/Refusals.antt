@@ -1,0 +1,64 @@
+-- Which refusal is told: 0 exactly where no condition holds, and the first list's before the second's.
+use mathlib.Core.Path.{_≡_, refl}
+use mathlib.Core.Bool.{Bool, true, false, cond}
+use mathlib.Core.List.{List, [], _∷_, _++_}
+use Prim.Native.Nat.{_<_}
+use native.Mathlib.Omega.{arith}
+use lib.Dec.{lit<}
+use Rattle.card.specs.Refusals.{Refusal, number, Check, firstOf, NoneApplies, truncated, outOfRange, redundant, tableMissing, trailingBytes, constantTooWide, notSingleCycle, evenConstant, powerParity, wordCount, wordTooWide, lengthMismatch, noShovel, tooManyShovels, duplicateShovel, bufferTooSmall}
+
+pub number-pos : (r : Refusal) → 0 < number r
+number-pos =
+    elim [
+      | truncated ↦ lit< tt
+      | outOfRange ↦ lit< tt
+      | redundant ↦ lit< tt
+      | tableMissing ↦ lit< tt
+      | trailingBytes ↦ lit< tt
+      | constantTooWide ↦ lit< tt
+      | notSingleCycle ↦ lit< tt
+      | evenConstant ↦ lit< tt
+      | powerParity ↦ lit< tt
+      | wordCount ↦ lit< tt
+      | wordTooWide ↦ lit< tt
+      | lengthMismatch ↦ lit< tt
+      | noShovel ↦ lit< tt
+      | tooManyShovels ↦ lit< tt
+      | duplicateShovel ↦ lit< tt
+      | bufferTooSmall ↦ lit< tt
+    ]
+
+pub first-none : (cs : List Check) → NoneApplies cs → firstOf cs ≡ 0
+unfolding firstOf NoneApplies
+first-none [] h = refl
+first-none (c ∷ cs) h = simp (h .0) (first-none cs (h .1))
+
+pub none-first : (cs : List Check) → firstOf cs ≡ 0 → NoneApplies cs
+unfolding firstOf NoneApplies
+none-first [] e = tt
+none-first (c ∷ cs) e = go (c .applies) e (λ q. none-first cs q)
+  where
+    go : (b : Bool) → cond b (number (c .refusal)) (firstOf cs) ≡ 0 → (firstOf cs ≡ 0 → NoneApplies cs) → (b ≡ false) × NoneApplies cs
+    go true q ih = absurd (omega (arith, number-pos (c .refusal)))
+    go false q ih = (refl, ih q)
+
+-- the lists of checks of one call follow one another
+pub first-append : (cs ds : List Check) → firstOf cs ≡ 0 → firstOf (cs ++ ds) ≡ firstOf ds
+unfolding firstOf
+first-append [] ds e = refl
+first-append (c ∷ cs) ds e = go (c .applies) e (λ q. first-append cs ds q)
+  where
+    go : (b : Bool) → cond b (number (c .refusal)) (firstOf cs) ≡ 0 → (firstOf cs ≡ 0 → firstOf (cs ++ ds) ≡ firstOf ds)
+        → cond b (number (c .refusal)) (firstOf (cs ++ ds)) ≡ firstOf ds
+    go true q ih = absurd (omega (arith, number-pos (c .refusal)))
+    go false q ih = ih q
+
+pub none-left : (cs ds : List Check) → NoneApplies (cs ++ ds) → NoneApplies cs
+unfolding NoneApplies
+none-left [] ds h = tt
+none-left (c ∷ cs) ds h = (h .0, none-left cs ds (h .1))
+
+pub none-right : (cs ds : List Check) → NoneApplies (cs ++ ds) → NoneApplies ds
+unfolding NoneApplies
+none-right [] ds h = h
+none-right (c ∷ cs) ds h = none-right cs ds (h .1)

@@ -1,0 +1,110 @@
+-- A card of sound form: each field holds allowed numbers, as many as it should, so that the coverage theorem speaks of its values.
+use mathlib.Core.Path.{_≡_, refl, sym, subst}
+use mathlib.Core.Bool.{Bool, true, false, cond, not, _&&_, and-eq-true-iff}
+use mathlib.Core.List.{List, [], _∷_}
+use Prim.Native.Nat.{ℕ, zero, suc, _^_, _≤_, _<_}
+use native.Mathlib.Decide.{ℕ-discrete}
+use native.Mathlib.Omega.{arith}
+use borrow.Author.Tests.{leb-true, eqb-true, eq-eqb, not-false}
+use lib.Dec.{eqb, leb}
+use lib.ListN.{length, getD, drop, List·getD-append}
+use lib.Pow.{pow-pos}
+use Rattle.cycle.specs.Notation.{sum}
+use Rattle.cycle.proofs.Digits.{length-tabulate}
+use Rattle.tsc.specs.Step.{entry}
+use Rattle.tsc.specs.Coverage.{WellFormed}
+use Rattle.card.specs.Refusals.{NoneApplies}
+use Rattle.card.specs.Fields.{Field, fields, field, tableBit, numbers, allowed}
+use Rattle.card.specs.Reading.{present, offset, valuesAt, wordsOf, values, value, cardOf, fieldChecks, checksTo, formChecks, SoundForm}
+use Rattle.card.proofs.Refusals.{none-left, none-right}
+
+-- ---- allowed numbers
+
+pub allowed-at : (f : Field) (xs : List ℕ) → allowed f xs ≡ true → (i : ℕ) → i < length xs → (f .least ≤ getD xs i 0) × (getD xs i 0 ≤ f .most)
+unfolding allowed
+allowed-at f [] h i l = absurd (omega arith)
+allowed-at f (x ∷ xs) h zero l =
+    let a = and-eq-true-iff (leb (f .least) x && leb x (f .most)) (allowed f xs) .0 h in
+    let b = and-eq-true-iff (leb (f .least) x) (leb x (f .most)) .0 (a .0) in
+    (leb-true (f .least) x (b .0), leb-true x (f .most) (b .1))
+allowed-at f (x ∷ xs) h (suc i) l =
+    allowed-at f xs (and-eq-true-iff (leb (f .least) x && leb x (f .most)) (allowed f xs) .0 h .1) i (omega arith)
+
+-- the numbers that stand for a field on a card of m words: allowed, and as many as the field has
+pub record Fitting (m k : ℕ) (xs : List ℕ) : Type 0 where
+  pub allow : allowed (field m k) xs ≡ true
+  pub count : length xs ≡ field m k .count
+
+-- so is each absent value, the table's where m is 4
+absent-fitting : (m k : ℕ) → k < 8 → (k ≡ tableBit → m ≡ 4) → Fitting m k (field m k .absent)
+unfolding fields field allowed
+absent-fitting m zero l t = record { allow = refl; count = refl }
+absent-fitting m (suc zero) l t = record { allow = refl; count = refl }
+absent-fitting m (suc (suc zero)) l t = subst (λ (m : ℕ). Fitting m 2 (field m 2 .absent)) (sym (t refl)) (record { allow = refl; count = refl })
+absent-fitting m (suc (suc (suc zero))) l t = record { allow = refl; count = refl }
+absent-fitting m (suc (suc (suc (suc zero)))) l t = record { allow = refl; count = refl }
+absent-fitting m (suc (suc (suc (suc (suc zero))))) l t = record { allow = refl; count = refl }
+absent-fitting m (suc (suc (suc (suc (suc (suc zero)))))) l t = record { allow = refl; count = refl }
+absent-fitting m (suc (suc (suc (suc (suc (suc (suc zero))))))) l t = record { allow = refl; count = refl }
+absent-fitting m (suc (suc (suc (suc (suc (suc (suc (suc k)))))))) l t = absurd (omega arith)
+
+-- ---- sound form, field by field
+
+fields-none : (bytes : List ℕ) (k K : ℕ) → k < K → NoneApplies (checksTo bytes K) → NoneApplies (fieldChecks bytes k)
+unfolding checksTo
+fields-none bytes k zero l h = absurd (omega arith)
+fields-none bytes k (suc K) l h = go (ℕ-discrete k K) (λ j. fields-none bytes k K j (none-left (checksTo bytes K) (fieldChecks bytes K) h))
+  where
+    go : Dec (k ≡ K) → (k < K → NoneApplies (fieldChecks bytes k)) → NoneApplies (fieldChecks bytes k)
+    go (yes e) ih = rw e (none-right (checksTo bytes K) (fieldChecks bytes K) h)
+    go (no ne) ih = ih (omega arith)
+
+pub field-none : (bytes : List ℕ) → SoundForm bytes → (k : ℕ) → k < 8 → NoneApplies (fieldChecks bytes k)
+unfolding formChecks
+field-none bytes s k l = fields-none bytes k 8 l (none-left (checksTo bytes 8) _ s)
+
+pub sound-fitting : (bytes : List ℕ) → SoundForm bytes → (k : ℕ) → k < 8 → Fitting (wordsOf bytes) k (values bytes k)
+unfolding fieldChecks NoneApplies valuesAt numbers
+sound-fitting bytes s k l =
+    let none = field-none bytes s k l in
+    go (wordsOf bytes) (present bytes k) (none .0) (none .1 .1 .0)
+  where
+    go : (m : ℕ) (here : Bool) → (not here && (eqb k tableBit && not (eqb m 4))) ≡ false
+        → (here && not (allowed (field m k) (cond here (numbers (field m k) (drop (offset m bytes k) bytes)) (field m k .absent)))) ≡ false
+        → Fitting m k (cond here (numbers (field m k) (drop (offset m bytes k) bytes)) (field m k .absent))
+    go m true a b = record { allow = not-false _ b; count = length-tabulate _ _ }
+    go m false a b = absent-fitting m k l (λ e. eqb-true m 4 (not-false _ (rw (eq-eqb k tableBit e) at a)))
+
+-- ---- the values
+
+-- m is the words field's value
+pub value-words : (bytes : List ℕ) → value bytes 0 ≡ wordsOf bytes
+unfolding wordsOf valuesAt offset sum field fields
+value-words bytes = refl
+
+-- a field of one number has it between its bounds
+pub sound-value : (bytes : List ℕ) → SoundForm bytes → (k : ℕ) → k < 8 → field (wordsOf bytes) k .count ≡ 1
+    → (field (wordsOf bytes) k .least ≤ value bytes k) × (value bytes k ≤ field (wordsOf bytes) k .most)
+sound-value bytes s k l one =
+    let f = sound-fitting bytes s k l in
+    allowed-at (field (wordsOf bytes) k) (values bytes k) (f .allow) 0 (omega (arith, f .count, one))
+
+-- an entry of the table is below 2^m
+sound-entry : (bytes : List ℕ) → SoundForm bytes → (y : ℕ) → y < 2 ^ wordsOf bytes → entry (cardOf bytes) y < 2 ^ wordsOf bytes
+unfolding cardOf field fields
+sound-entry bytes s y l =
+    let f = sound-fitting bytes s tableBit (omega arith) in
+    let c : length (values bytes tableBit) ≡ 2 ^ wordsOf bytes = f .count in
+    let in-table : y < length (values bytes tableBit) = omega arith in
+    let a = allowed-at (field (wordsOf bytes) tableBit) (values bytes tableBit) (f .allow) y in-table in
+    let e : entry (cardOf bytes) y ≡ getD (values bytes tableBit) y 0 = List·getD-append (values bytes tableBit) _ 0 y in-table in
+    omega (arith, e, a .1, pow-pos (wordsOf bytes))
+
+pub sound-card : (bytes : List ℕ) → SoundForm bytes → WellFormed (cardOf bytes)
+unfolding cardOf field fields
+sound-card bytes s =
+    record {
+      words = sound-value bytes s 0 (omega arith) refl .0;
+      width = sound-value bytes s 1 (omega arith) refl .0;
+      entries = subst (λ (m : ℕ). (y : ℕ) → y < 2 ^ m → entry (cardOf bytes) y < 2 ^ m) (sym (value-words bytes)) (sound-entry bytes s);
+    }

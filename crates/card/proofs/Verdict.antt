@@ -1,0 +1,70 @@
+-- DEMAND 3 on the definitions: for every byte string of sound form and every start in range, the verdict is 0 exactly where the orbit covers.
+use mathlib.Core.Path.{_≡_, refl, sym, _∙_}
+use mathlib.Core.Logic.{_↔_}
+use mathlib.Core.Bool.{Bool, true, false, _||_, true≢false}
+use mathlib.Core.List.{List}
+use Prim.Native.Nat.{ℕ, _%_, _^_}
+use native.Mathlib.Omega.{arith}
+use borrow.Author.Tests.{eqb-true, eqb-false, eq-eqb, ne-eqb, not-false}
+use lib.Dec.{eqb}
+use Rattle.cycle.specs.Cycle.{firstReturn}
+use Rattle.tsc.specs.declared.Card.{Card}
+use Rattle.tsc.specs.Step.{entry}
+use Rattle.tsc.specs.Coverage.{IsState, Covers, WellFormed, FullPeriod}
+use Rattle.tsc.proofs.Table.{table-cycle}
+use Rattle.tsc.proofs.Coverage.{coverage}
+use Rattle.card.specs.Refusals.{firstOf, NoneApplies}
+use Rattle.card.specs.Reading.{cardOf, formChecks, SoundForm}
+use Rattle.card.specs.Verdict.{periodChecks, verdict}
+use Rattle.card.proofs.Refusals.{first-none, none-first, first-append}
+use Rattle.card.proofs.Sound.{sound-card}
+
+-- a number that is not even is odd, and the other way round
+odd-of : (x : ℕ) → eqb (x % 2) 0 ≡ false → x % 2 ≡ 1
+odd-of x h = omega (arith, eqb-false (x % 2) 0 h)
+
+even-of : (x : ℕ) → eqb (x % 2) 1 ≡ false → x % 2 ≡ 0
+even-of x h = omega (arith, eqb-false (x % 2) 1 h)
+
+neither : (a b : Bool) → (a || b) ≡ false → (a ≡ false) × (b ≡ false)
+neither true b h = absurd (true≢false h)
+neither false b h = (refl, h)
+
+-- conditions 7 to 9 do not hold exactly where the premises of the coverage theorem do
+pub period-none : (card : Card) → WellFormed card → NoneApplies (periodChecks card) ↔ FullPeriod card
+unfolding periodChecks NoneApplies
+period-none card wf = (forth, back)
+  where
+    forth : NoneApplies (periodChecks card) → FullPeriod card
+    forth h =
+        let p = neither (eqb (card .«odd_power» % 2) 0) (eqb (card .«even_power» % 2) 1) (h .1 .1 .0) in
+        record {
+          cycle = table-cycle card wf .0 (eqb-true (firstReturn (entry card) (2 ^ card .words)) (2 ^ card .words) (not-false _ (h .0)));
+          constant = odd-of (card .constant) (h .1 .0);
+          odd = odd-of (card .«odd_power») (p .0);
+          even = even-of (card .«even_power») (p .1);
+        }
+
+    back : FullPeriod card → NoneApplies (periodChecks card)
+    back f =
+        let o = f .odd in
+        let e = f .even in
+        let c = f .constant in (
+          simp (eq-eqb _ _ (table-cycle card wf .1 (f .cycle))),
+          (
+            ne-eqb (card .constant % 2) 0 (omega arith),
+            (simp (ne-eqb (card .«odd_power» % 2) 0 (omega arith), ne-eqb (card .«even_power» % 2) 1 (omega arith)), tt),
+          ),
+        )
+
+-- what the check must answer, for every card of sound form and every start
+pub verdict-covers : (bytes : List ℕ) → SoundForm bytes → (start : List ℕ) → IsState (cardOf bytes) start
+    → (verdict bytes ≡ 0) ↔ Covers (cardOf bytes) start
+unfolding verdict
+verdict-covers bytes s start st =
+    let card = cardOf bytes in
+    let wf = sound-card bytes s in
+    let told : verdict bytes ≡ firstOf (periodChecks card) = first-append (formChecks bytes) (periodChecks card) (first-none (formChecks bytes) s) in (
+      λ z. coverage card wf start st .1 (period-none card wf .0 (none-first (periodChecks card) (sym told ∙ z))),
+      λ c. told ∙ first-none (periodChecks card) (period-none card wf .1 (coverage card wf start st .0 c)),
+    )

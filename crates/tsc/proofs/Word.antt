@@ -1,0 +1,75 @@
+-- Rotation within n bits: it stays within n bits, and moves bit i to bit (i + k) modulo n. A word is below 2^n.
+use mathlib.Core.Path.{_≡_, sym, ap, ap₂, _∙_, subst}
+use mathlib.Core.Bool.{Bool, true, false, cond}
+use mathlib.Core.List.{List}
+use Prim.Native.Nat.{ℕ, _+_, _-_, _*_, _/_, _%_, _^_, _<_}
+use native.Mathlib.Nat.{add-comm, add-zero, mul-mod-left, mod-lt, mod-eq-of-lt, add-mod-mod, add-mod-right}
+use native.Mathlib.Decide.{decLt}
+use native.Mathlib.Omega.{arith}
+use lib.Arith.{digits-lt}
+use lib.Dec.{eqb}
+use lib.ListN.{getD}
+use lib.Pow.{pow-pos, pow-add, shl-shr, shr-shr, shr-lt, mod-pow-add, high, low}
+use Rattle.cycle.specs.Notation.{bit}
+use Rattle.cycle.proofs.Bits.{bit-mod}
+use Rattle.tsc.specs.declared.Card.{Card}
+use Rattle.tsc.specs.Word.{_⊞_, _⋘_, filter1, filter2, word}
+
+module _ (n x k : ℕ) (pos : 0 < n) (lx : x < 2 ^ n) where
+  -- r places to the left, d places to the right
+  r : ℕ
+  r = k % n
+
+  d : ℕ
+  d = n - r
+
+  r-lt : r < n
+  unfolding r
+  r-lt = mod-lt k pos
+
+  split : n ≡ d + r
+  unfolding d
+  split = omega (arith, r-lt)
+
+  rotate-parts : _⋘_ n x k ≡ x % 2 ^ d * 2 ^ r + x / 2 ^ d
+  unfolding _⋘_ d r
+  rotate-parts =
+      ap (λ (a : ℕ). a + x / 2 ^ d)
+      (ap (λ (a : ℕ). x * 2 ^ r % 2 ^ a) split ∙ mod-pow-add (x * 2 ^ r) d r
+      ∙ ap₂ (λ (a b : ℕ). a % 2 ^ d * 2 ^ r + b) (shl-shr x r) (mul-mod-left x (2 ^ r)) ∙ add-zero (x % 2 ^ d * 2 ^ r))
+
+  top-lt : x / 2 ^ d < 2 ^ r
+  top-lt = shr-lt r d (subst (λ (a : ℕ). x < 2 ^ a) (split ∙ add-comm d r) lx)
+
+  pub rotate-lt : _⋘_ n x k < 2 ^ n
+  rotate-lt =
+      rw rotate-parts
+      (subst (λ (a : ℕ). x % 2 ^ d * 2 ^ r + x / 2 ^ d < a) (sym (ap (λ (a : ℕ). 2 ^ a) split ∙ pow-add 2 d r)) (digits-lt (mod-lt x (pow-pos d)) top-lt))
+
+  pub rotate-bit : (i : ℕ) → i < n → bit ((i + k) % n) (_⋘_ n x k) ≡ bit i x
+  unfolding r
+  rotate-bit i l = ap₂ (λ (a b : ℕ). bit a b) (sym (add-mod-mod i k n)) rotate-parts ∙ go (decLt i d)
+    where
+      L : ℕ
+      L = x % 2 ^ d
+
+      go : Dec (i < d) → bit ((i + r) % n) (L * 2 ^ r + x / 2 ^ d) ≡ bit i x
+      go (yes below) =
+          let place : (i + r) % n ≡ r + i = mod-eq-of-lt (omega (arith, split)) ∙ add-comm i r in
+          ap (λ (a : ℕ). bit a (L * 2 ^ r + x / 2 ^ d)) place ∙ ap (λ (a : ℕ). a % 2) (sym (shr-shr (L * 2 ^ r + x / 2 ^ d) r i))
+          ∙ ap (λ (a : ℕ). a / 2 ^ i % 2) (high L r top-lt) ∙ bit-mod d i x below
+      go (no above) =
+          let j : ℕ = i - d in
+          let jn : i + r ≡ j + n = omega (arith, split) in
+          let place : (i + r) % n ≡ j = ap (λ (a : ℕ). a % n) jn ∙ add-mod-right j n ∙ mod-eq-of-lt (omega arith) in
+          let ji : d + j ≡ i = omega arith in
+          ap (λ (a : ℕ). bit a (L * 2 ^ r + x / 2 ^ d)) place ∙ sym (bit-mod r j (L * 2 ^ r + x / 2 ^ d) (omega (arith, split)))
+          ∙ ap (bit j) (low L r top-lt) ∙ ap (λ (a : ℕ). a % 2) (shr-shr x d j) ∙ ap (λ (a : ℕ). bit a x) ji
+
+pub word-lt : (card : Card) (xs : List ℕ) → word card xs < 2 ^ card .width
+unfolding word filter1 filter2 _⊞_
+word-lt card xs = go (eqb (card .filter) 2)
+  where
+    go : (b : Bool) → cond b (filter2 (card .width) (λ k. getD xs k 0)) (filter1 (card .width) (λ k. getD xs k 0)) < 2 ^ card .width
+    go true = mod-lt _ (pow-pos (card .width))
+    go false = mod-lt _ (pow-pos (card .width))
