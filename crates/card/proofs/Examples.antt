@@ -1,4 +1,4 @@
--- The P rows hold of the definitions, by computing.
+-- The P rows hold of the definitions, by computing: a `refl` for each verdict, state and word.
 use mathlib.Core.Path.{refl}
 use Rattle.cycle.specs.Notation.{sum, tabulate, iterate}
 use Rattle.cycle.specs.Cycle.{returnFrom, firstReturn}

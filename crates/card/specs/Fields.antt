@@ -21,7 +21,7 @@ row c s l h a = record { count = c; size = s; least = l; most = h; absent = a }
 -- the eight fields of a card of m words, by their bits from 0 up. The table's absent value has 16 entries: no table of another m equals it
 unfoldable pub fields : ℕ → List Field
 fields m =
-    --  count   size least          most          absent
+    -- count, size, least, most, absent
     row 1 1 fewestWords mostWords (4 ∷ [])  -- 0 words m
     ∷ row 1 1 narrowestWidth widestWidth (32 ∷ [])  -- 1 width n
     ∷ row (2 ^ m) 1 0 (2 ^ m - 1) tsc1Table  -- 2 table

@@ -1,5 +1,10 @@
 // The types that a generator is made of. What they mean is in specs/, and what holds of them in proofs/.
 
+// The most words of a state, and the entries of a table for that many.
+pub const MOST_WORDS: usize = 4;
+
+pub const TABLE_SIZE: usize = 16;
+
 // The values of a card (document 01, The card): what a generator is set up by.
 pub struct Card {
     // m, the words of a state
@@ -7,7 +12,7 @@ pub struct Card {
     // n, the bits of a word
     pub width: u8,
     // S: the first 2^m entries are used, the others are 0
-    pub table: [u8; 16],
+    pub table: [u8; TABLE_SIZE],
     // a, how often the table is applied to a column whose selector bit is 1
     pub odd_power: u8,
     // b, and where it is 0
@@ -22,5 +27,5 @@ pub struct Card {
 
 // A state: the first m words are used, x0 first, and the others are 0.
 pub struct State {
-    pub words: [u32; 4],
+    pub words: [u32; MOST_WORDS],
 }
