@@ -42,16 +42,11 @@ none-first (c ∷ cs) e = go (c .applies) e (λ q. none-first cs q)
     go true q ih = absurd (omega (arith, number-pos (c .refusal)))
     go false q ih = (refl, ih q)
 
--- the lists of checks of one call follow one another
-pub first-append : (cs ds : List Check) → firstOf cs ≡ 0 → firstOf (cs ++ ds) ≡ firstOf ds
-unfolding firstOf
-first-append [] ds e = refl
-first-append (c ∷ cs) ds e = go (c .applies) e (λ q. first-append cs ds q)
-  where
-    go : (b : Bool) → cond b (number (c .refusal)) (firstOf cs) ≡ 0 → (firstOf cs ≡ 0 → firstOf (cs ++ ds) ≡ firstOf ds)
-        → cond b (number (c .refusal)) (firstOf (cs ++ ds)) ≡ firstOf ds
-    go true q ih = absurd (omega (arith, number-pos (c .refusal)))
-    go false q ih = ih q
+-- where none of the first list applies, the second list tells
+pub first-append : (cs ds : List Check) → NoneApplies cs → firstOf (cs ++ ds) ≡ firstOf ds
+unfolding firstOf NoneApplies
+first-append [] ds h = refl
+first-append (c ∷ cs) ds h = simp (h .0) (first-append cs ds (h .1))
 
 pub none-left : (cs ds : List Check) → NoneApplies (cs ++ ds) → NoneApplies cs
 unfolding NoneApplies

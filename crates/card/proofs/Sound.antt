@@ -1,5 +1,6 @@
 -- A card of sound form: each field holds allowed numbers, as many as it should, so that the coverage theorem speaks of its values.
-use mathlib.Core.Path.{_≡_, refl, sym, subst}
+use mathlib.Core.Path.{_≡_, refl, sym, ap, subst}
+use mathlib.Core.Logic.{_≢_}
 use mathlib.Core.Bool.{Bool, true, false, cond, not, _&&_, and-eq-true-iff}
 use mathlib.Core.List.{List, [], _∷_}
 use Prim.Native.Nat.{ℕ, zero, suc, _^_, _≤_, _<_}
@@ -9,12 +10,14 @@ use borrow.Author.Tests.{leb-true, eqb-true, eq-eqb, not-false}
 use lib.Dec.{eqb, leb}
 use lib.ListN.{length, getD, drop, List·getD-append}
 use lib.Pow.{pow-pos}
-use Rattle.cycle.specs.Notation.{sum}
+use lib.Seq.{getD-set-other}
+use Rattle.cycle.specs.Notation.{sum, every}
+use Rattle.cycle.proofs.Every.{every-at}
 use Rattle.cycle.proofs.Digits.{length-tabulate}
 use Rattle.tsc.specs.Step.{entry}
 use Rattle.tsc.specs.Coverage.{WellFormed}
 use Rattle.card.specs.Refusals.{NoneApplies}
-use Rattle.card.specs.Fields.{Field, fields, field, tableBit, numbers, allowed}
+use Rattle.card.specs.Fields.{Field, row, fields, field, tableBit, numbers, allowed}
 use Rattle.card.specs.Reading.{present, offset, valuesAt, wordsOf, values, value, cardOf, fieldChecks, checksTo, formChecks, SoundForm}
 use Rattle.card.proofs.Refusals.{none-left, none-right}
 
@@ -30,23 +33,36 @@ allowed-at f (x ∷ xs) h zero l =
 allowed-at f (x ∷ xs) h (suc i) l =
     allowed-at f xs (and-eq-true-iff (leb (f .least) x && leb x (f .most)) (allowed f xs) .0 h .1) i (omega arith)
 
--- the numbers that stand for a field on a card of m words: allowed, and as many as the field has
-pub record Fitting (m k : ℕ) (xs : List ℕ) : Type 0 where
-  pub allow : allowed (field m k) xs ≡ true
-  pub count : length xs ≡ field m k .count
+-- the numbers that stand for a field: allowed, and as many as the field has
+pub record Fitting (f : Field) (xs : List ℕ) : Type 0 where
+  pub allow : allowed f xs ≡ true
+  pub count : length xs ≡ f .count
 
--- so is each absent value, the table's where m is 4
-absent-fitting : (m k : ℕ) → k < 8 → (k ≡ tableBit → m ≡ 4) → Fitting m k (field m k .absent)
-unfolding fields field allowed
-absent-fitting m zero l t = record { allow = refl; count = refl }
-absent-fitting m (suc zero) l t = record { allow = refl; count = refl }
-absent-fitting m (suc (suc zero)) l t = subst (λ (m : ℕ). Fitting m 2 (field m 2 .absent)) (sym (t refl)) (record { allow = refl; count = refl })
-absent-fitting m (suc (suc (suc zero))) l t = record { allow = refl; count = refl }
-absent-fitting m (suc (suc (suc (suc zero)))) l t = record { allow = refl; count = refl }
-absent-fitting m (suc (suc (suc (suc (suc zero))))) l t = record { allow = refl; count = refl }
-absent-fitting m (suc (suc (suc (suc (suc (suc zero)))))) l t = record { allow = refl; count = refl }
-absent-fitting m (suc (suc (suc (suc (suc (suc (suc zero))))))) l t = record { allow = refl; count = refl }
-absent-fitting m (suc (suc (suc (suc (suc (suc (suc (suc k)))))))) l t = absurd (omega arith)
+-- m enters the table's row alone
+field-fixed : (m k : ℕ) → k ≢ tableBit → field m k ≡ field 4 k
+unfolding fields field
+field-fixed m k ne = getD-set-other (fields 4) tableBit k (field m tableBit) (row 0 0 0 0 []) ne
+
+-- each absent value fits, the table's where m is 4: computed for m = 4
+fits : ℕ → Bool
+fits k = allowed (field 4 k) (field 4 k .absent) && eqb (length (field 4 k .absent)) (field 4 k .count)
+
+all-fit : every 8 fits ≡ true
+unfolding every fits fields field allowed
+all-fit = refl
+
+absent-fitting : (m k : ℕ) → k < 8 → (k ≡ tableBit → m ≡ 4) → Fitting (field m k) (field m k .absent)
+unfolding fits
+absent-fitting m k l t = subst (λ (f : Field). Fitting f (f .absent)) (sym (same-field (ℕ-discrete k tableBit))) four
+  where
+    same-field : Dec (k ≡ tableBit) → field m k ≡ field 4 k
+    same-field (yes e) = ap (λ (m : ℕ). field m k) (t e)
+    same-field (no ne) = field-fixed m k ne
+
+    four : Fitting (field 4 k) (field 4 k .absent)
+    four =
+        let b = and-eq-true-iff (allowed (field 4 k) (field 4 k .absent)) (eqb (length (field 4 k .absent)) (field 4 k .count)) .0 (every-at 8 fits all-fit k l) in
+        record { allow = b .0; count = eqb-true _ _ (b .1) }
 
 -- ---- sound form, field by field
 
@@ -63,7 +79,7 @@ pub field-none : (bytes : List ℕ) → SoundForm bytes → (k : ℕ) → k < 8 
 unfolding formChecks
 field-none bytes s k l = fields-none bytes k 8 l (none-left (checksTo bytes 8) _ s)
 
-pub sound-fitting : (bytes : List ℕ) → SoundForm bytes → (k : ℕ) → k < 8 → Fitting (wordsOf bytes) k (values bytes k)
+pub sound-fitting : (bytes : List ℕ) → SoundForm bytes → (k : ℕ) → k < 8 → Fitting (field (wordsOf bytes) k) (values bytes k)
 unfolding fieldChecks NoneApplies valuesAt numbers
 sound-fitting bytes s k l =
     let none = field-none bytes s k l in
@@ -71,7 +87,7 @@ sound-fitting bytes s k l =
   where
     go : (m : ℕ) (here : Bool) → (not here && (eqb k tableBit && not (eqb m 4))) ≡ false
         → (here && not (allowed (field m k) (cond here (numbers (field m k) (drop (offset m bytes k) bytes)) (field m k .absent)))) ≡ false
-        → Fitting m k (cond here (numbers (field m k) (drop (offset m bytes k) bytes)) (field m k .absent))
+        → Fitting (field m k) (cond here (numbers (field m k) (drop (offset m bytes k) bytes)) (field m k .absent))
     go m true a b = record { allow = not-false _ b; count = length-tabulate _ _ }
     go m false a b = absent-fitting m k l (λ e. eqb-true m 4 (not-false _ (rw (eq-eqb k tableBit e) at a)))
 

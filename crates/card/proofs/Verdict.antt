@@ -19,13 +19,6 @@ use Rattle.card.specs.Verdict.{periodChecks, verdict}
 use Rattle.card.proofs.Refusals.{first-none, none-first, first-append}
 use Rattle.card.proofs.Sound.{sound-card}
 
--- a number that is not even is odd, and the other way round
-odd-of : (x : ℕ) → eqb (x % 2) 0 ≡ false → x % 2 ≡ 1
-odd-of x h = omega (arith, eqb-false (x % 2) 0 h)
-
-even-of : (x : ℕ) → eqb (x % 2) 1 ≡ false → x % 2 ≡ 0
-even-of x h = omega (arith, eqb-false (x % 2) 1 h)
-
 neither : (a b : Bool) → (a || b) ≡ false → (a ≡ false) × (b ≡ false)
 neither true b h = absurd (true≢false h)
 neither false b h = (refl, h)
@@ -40,9 +33,9 @@ period-none card wf = (forth, back)
         let p = neither (eqb (card .«odd_power» % 2) 0) (eqb (card .«even_power» % 2) 1) (h .1 .1 .0) in
         record {
           cycle = table-cycle card wf .0 (eqb-true (firstReturn (entry card) (2 ^ card .words)) (2 ^ card .words) (not-false _ (h .0)));
-          constant = odd-of (card .constant) (h .1 .0);
-          odd = odd-of (card .«odd_power») (p .0);
-          even = even-of (card .«even_power») (p .1);
+          constant = omega (arith, eqb-false (card .constant % 2) 0 (h .1 .0));
+          odd = omega (arith, eqb-false (card .«odd_power» % 2) 0 (p .0));
+          even = omega (arith, eqb-false (card .«even_power» % 2) 1 (p .1));
         }
 
     back : FullPeriod card → NoneApplies (periodChecks card)
@@ -64,7 +57,7 @@ unfolding verdict
 verdict-covers bytes s start st =
     let card = cardOf bytes in
     let wf = sound-card bytes s in
-    let told : verdict bytes ≡ firstOf (periodChecks card) = first-append (formChecks bytes) (periodChecks card) (first-none (formChecks bytes) s) in (
+    let told : verdict bytes ≡ firstOf (periodChecks card) = first-append (formChecks bytes) (periodChecks card) s in (
       λ z. coverage card wf start st .1 (period-none card wf .0 (none-first (periodChecks card) (sym told ∙ z))),
       λ c. told ∙ first-none (periodChecks card) (period-none card wf .1 (coverage card wf start st .0 c)),
     )

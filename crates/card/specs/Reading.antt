@@ -62,12 +62,16 @@ unfoldable pub checksTo : List ℕ → ℕ → List Check
 checksTo bytes zero = check truncated (eqb (length bytes) 0) ∷ []
 checksTo bytes (suc k) = checksTo bytes k ++ fieldChecks bytes k
 
+-- condition 6, on a card's values
+abbrev pub constantCheck : Card → Check
+constantCheck card = check constantTooWide (leb (2 ^ card .width) (card .constant))
+
 -- conditions 1 to 6
 unfoldable pub formChecks : List ℕ → List Check
 formChecks bytes =
     checksTo bytes 8
     ++ (check trailingBytes (ltb (offset (wordsOf bytes) bytes 8) (length bytes))
-    ∷ check constantTooWide (leb (2 ^ value bytes 1) (value bytes 5))
+    ∷ constantCheck (cardOf bytes)
     ∷ [])
 
 -- a card of sound form: none of conditions 1 to 6 applies

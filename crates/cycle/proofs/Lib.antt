@@ -1,4 +1,5 @@
 -- Laws, each at its most general place; the crates above cite them.
+pub mod Every
 pub mod Parity
 pub mod Sum
 pub mod Count

@@ -1,4 +1,5 @@
--- Notation: a finite sum, a list by its entries, a function applied repeatedly, a bit.
+-- Notation: a finite sum, a test of all numbers below n, a list by its entries, a function applied repeatedly, a bit.
+use mathlib.Core.Bool.{Bool, true, _&&_}
 use mathlib.Core.List.{List, [], _∷_}
 use Prim.Native.Nat.{ℕ, zero, suc, _+_, _/_, _%_, _^_}
 
@@ -6,6 +7,11 @@ use Prim.Native.Nat.{ℕ, zero, suc, _+_, _/_, _%_, _^_}
 unfoldable pub sum : ℕ → (ℕ → ℕ) → ℕ
 sum zero f = 0
 sum (suc n) f = sum n f + f n
+
+-- whether p holds of 0, 1, .., n - 1
+unfoldable pub every : ℕ → (ℕ → Bool) → Bool
+every zero p = true
+every (suc n) p = every n p && p n
 
 -- the list f 0, f 1, .., f (n - 1)
 unfoldable pub tabulate : ℕ → (ℕ → ℕ) → List ℕ
