@@ -14,10 +14,9 @@ use Rattle.card.specs.Verdict.{periodChecks}
 -- the numbers of field k of a card
 unfoldable pub numbersOf : Card → ℕ → List ℕ
 numbersOf card k =
-    let numeric : ℕ → List ℕ = λ x. x ∷ [] in
     getD
-    (numeric (card .words) ∷ numeric (card .width) ∷ take (2 ^ card .words) (card .table) ∷ numeric (card .«odd_power»)
-    ∷ numeric (card .«even_power») ∷ numeric (card .constant) ∷ numeric (card .filter) ∷ numeric (card .«sum_term») ∷ [])
+    ((card .words ∷ []) ∷ (card .width ∷ []) ∷ take (2 ^ card .words) (card .table) ∷ (card .«odd_power» ∷ [])
+    ∷ (card .«even_power» ∷ []) ∷ (card .constant ∷ []) ∷ (card .filter ∷ []) ∷ (card .«sum_term» ∷ []) ∷ [])
     k []
 
 -- a field is written only when it differs from its absent value; so the table always is when m is not 4
