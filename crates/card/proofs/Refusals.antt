@@ -1,5 +1,6 @@
 -- Which refusal is told: 0 exactly where no condition holds, and the first list's before the second's.
-use mathlib.Core.Path.{_≡_, refl}
+use mathlib.Core.Path.{_≡_, refl, _∙_}
+use mathlib.Core.Logic.{_≢_}
 use mathlib.Core.Bool.{Bool, true, false, cond}
 use mathlib.Core.List.{List, [], _∷_, _++_}
 use Prim.Native.Nat.{_<_}
@@ -48,6 +49,17 @@ unfolding firstOf NoneApplies
 first-append [] ds h = refl
 first-append (c ∷ cs) ds h = simp (h .0) (first-append cs ds (h .1))
 
+-- where the first list tells, the second doesn't matter
+pub first-left : (cs ds : List Check) → firstOf cs ≢ 0 → firstOf (cs ++ ds) ≡ firstOf cs
+unfolding firstOf
+first-left [] ds ne = absurd (ne refl)
+first-left (c ∷ cs) ds ne = go (c .applies) ne (first-left cs ds)
+  where
+    go : (b : Bool) → cond b (number (c .refusal)) (firstOf cs) ≢ 0 → (firstOf cs ≢ 0 → firstOf (cs ++ ds) ≡ firstOf cs)
+        → cond b (number (c .refusal)) (firstOf (cs ++ ds)) ≡ cond b (number (c .refusal)) (firstOf cs)
+    go true q ih = refl
+    go false q ih = ih q
+
 pub none-left : (cs ds : List Check) → NoneApplies (cs ++ ds) → NoneApplies cs
 unfolding NoneApplies
 none-left [] ds h = tt
@@ -57,3 +69,6 @@ pub none-right : (cs ds : List Check) → NoneApplies (cs ++ ds) → NoneApplies
 unfolding NoneApplies
 none-right [] ds h = h
 none-right (c ∷ cs) ds h = none-right cs ds (h .1)
+
+pub none-append : (cs ds : List Check) → NoneApplies cs → NoneApplies ds → NoneApplies (cs ++ ds)
+none-append cs ds h t = none-first (cs ++ ds) (first-append cs ds h ∙ first-none ds t)

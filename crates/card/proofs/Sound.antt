@@ -16,32 +16,16 @@ use Rattle.cycle.proofs.Every.{every-at}
 use Rattle.cycle.proofs.Digits.{length-tabulate}
 use Rattle.tsc.specs.Step.{entry}
 use Rattle.tsc.specs.Coverage.{WellFormed}
-use Rattle.card.specs.Refusals.{NoneApplies}
+use Rattle.card.specs.Refusals.{NoneApplies, check, tableMissing}
 use Rattle.card.specs.Fields.{Field, row, fields, field, tableBit, numbers, allowed}
-use Rattle.card.specs.Reading.{present, offset, valuesAt, wordsOf, values, value, cardOf, fieldChecks, checksTo, formChecks, SoundForm}
+use Rattle.card.specs.Reading.{present, offset, valuesAt, wordsOf, values, value, cardOf, partChecks, fieldChecks, checksTo, formChecks, SoundForm}
 use Rattle.card.proofs.Refusals.{none-left, none-right}
-
--- ---- allowed numbers
-
-pub allowed-at : (f : Field) (xs : List ℕ) → allowed f xs ≡ true → (i : ℕ) → i < length xs → (f .least ≤ getD xs i 0) × (getD xs i 0 ≤ f .most)
-unfolding allowed
-allowed-at f [] h i l = absurd (omega arith)
-allowed-at f (x ∷ xs) h zero l =
-    let a = and-eq-true-iff (leb (f .least) x && leb x (f .most)) (allowed f xs) .0 h in
-    let b = and-eq-true-iff (leb (f .least) x) (leb x (f .most)) .0 (a .0) in
-    (leb-true (f .least) x (b .0), leb-true x (f .most) (b .1))
-allowed-at f (x ∷ xs) h (suc i) l =
-    allowed-at f xs (and-eq-true-iff (leb (f .least) x && leb x (f .most)) (allowed f xs) .0 h .1) i (omega arith)
+use Rattle.card.proofs.Fields.{field-fixed, allowed-at}
 
 -- the numbers that stand for a field: allowed, and as many as the field has
 pub record Fitting (f : Field) (xs : List ℕ) : Type 0 where
   pub allow : allowed f xs ≡ true
   pub count : length xs ≡ f .count
-
--- m enters the table's row alone
-field-fixed : (m k : ℕ) → k ≢ tableBit → field m k ≡ field 4 k
-unfolding fields field
-field-fixed m k ne = getD-set-other (fields 4) tableBit k (field m tableBit) (row 0 0 0 0 []) ne
 
 -- each absent value fits, the table's where m is 4: computed for m = 4
 fits : ℕ → Bool
@@ -66,7 +50,7 @@ absent-fitting m k l t = subst (λ (f : Field). Fitting f (f .absent)) (sym (sam
 
 -- ---- sound form, field by field
 
-fields-none : (bytes : List ℕ) (k K : ℕ) → k < K → NoneApplies (checksTo bytes K) → NoneApplies (fieldChecks bytes k)
+pub fields-none : (bytes : List ℕ) (k K : ℕ) → k < K → NoneApplies (checksTo bytes K) → NoneApplies (fieldChecks bytes k)
 unfolding checksTo
 fields-none bytes k zero l h = absurd (omega arith)
 fields-none bytes k (suc K) l h = go (ℕ-discrete k K) (λ j. fields-none bytes k K j (none-left (checksTo bytes K) (fieldChecks bytes K) h))
@@ -79,17 +63,18 @@ pub field-none : (bytes : List ℕ) → SoundForm bytes → (k : ℕ) → k < 8 
 unfolding formChecks
 field-none bytes s k l = fields-none bytes k 8 l (none-left (checksTo bytes 8) _ s)
 
-pub sound-fitting : (bytes : List ℕ) → SoundForm bytes → (k : ℕ) → k < 8 → Fitting (field (wordsOf bytes) k) (values bytes k)
-unfolding fieldChecks NoneApplies valuesAt numbers
-sound-fitting bytes s k l =
-    let none = field-none bytes s k l in
-    go (wordsOf bytes) (present bytes k) (none .0) (none .1 .1 .0)
+pub none-fitting : (bytes : List ℕ) (k : ℕ) → k < 8 → NoneApplies (fieldChecks bytes k) → Fitting (field (wordsOf bytes) k) (values bytes k)
+unfolding fieldChecks partChecks NoneApplies valuesAt numbers
+none-fitting bytes k l none = go (wordsOf bytes) (present bytes k) none
   where
-    go : (m : ℕ) (here : Bool) → (not here && (eqb k tableBit && not (eqb m 4))) ≡ false
-        → (here && not (allowed (field m k) (cond here (numbers (field m k) (drop (offset m bytes k) bytes)) (field m k .absent)))) ≡ false
+    go : (m : ℕ) (here : Bool)
+        → NoneApplies (cond here (partChecks (field m k) (drop (offset m bytes k) bytes)) (check tableMissing (eqb k tableBit && not (eqb m 4)) ∷ []))
         → Fitting (field m k) (cond here (numbers (field m k) (drop (offset m bytes k) bytes)) (field m k .absent))
-    go m true a b = record { allow = not-false _ b; count = length-tabulate _ _ }
-    go m false a b = absent-fitting m k l (λ e. eqb-true m 4 (not-false _ (rw (eq-eqb k tableBit e) at a)))
+    go m true h = record { allow = not-false _ (h .1 .0); count = length-tabulate _ _ }
+    go m false h = absent-fitting m k l (λ e. eqb-true m 4 (not-false _ (rw (eq-eqb k tableBit e) at (h .0))))
+
+pub sound-fitting : (bytes : List ℕ) → SoundForm bytes → (k : ℕ) → k < 8 → Fitting (field (wordsOf bytes) k) (values bytes k)
+sound-fitting bytes s k l = none-fitting bytes k l (field-none bytes s k l)
 
 -- ---- the values
 

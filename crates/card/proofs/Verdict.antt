@@ -1,9 +1,9 @@
 -- DEMAND 3 on the definitions: for every byte string of sound form and every start in range, the verdict is 0 exactly where the orbit covers.
-use mathlib.Core.Path.{_≡_, refl, sym, _∙_}
-use mathlib.Core.Logic.{_↔_}
+use mathlib.Core.Path.{_≡_, refl, sym, ap, _∙_}
+use mathlib.Core.Logic.{_↔_, _≢_}
 use mathlib.Core.Bool.{Bool, true, false, _||_, true≢false}
 use mathlib.Core.List.{List}
-use Prim.Native.Nat.{ℕ, _%_, _^_}
+use Prim.Native.Nat.{ℕ, _%_, _^_, _≤_}
 use native.Mathlib.Omega.{arith}
 use borrow.Author.Tests.{eqb-true, eqb-false, eq-eqb, ne-eqb, not-false}
 use lib.Dec.{eqb}
@@ -13,11 +13,14 @@ use Rattle.tsc.specs.Step.{entry}
 use Rattle.tsc.specs.Coverage.{IsState, Covers, WellFormed, FullPeriod}
 use Rattle.tsc.proofs.Table.{table-cycle}
 use Rattle.tsc.proofs.Coverage.{coverage}
+use Rattle.tsc.specs.Constants.{mostWords}
+use Rattle.card.specs.declared.read.Reading.{Reading}
+use Rattle.card.specs.Fields.{field, fields}
 use Rattle.card.specs.Refusals.{firstOf, NoneApplies}
-use Rattle.card.specs.Reading.{cardOf, formChecks, SoundForm}
+use Rattle.card.specs.Reading.{cardOf, formChecks, SoundForm, reading}
 use Rattle.card.specs.Verdict.{periodChecks, verdict}
-use Rattle.card.proofs.Refusals.{first-none, none-first, first-append}
-use Rattle.card.proofs.Sound.{sound-card}
+use Rattle.card.proofs.Refusals.{first-none, none-first, first-append, first-left}
+use Rattle.card.proofs.Sound.{sound-value, sound-card}
 
 neither : (a b : Bool) → (a || b) ≡ false → (a ≡ false) × (b ≡ false)
 neither true b h = absurd (true≢false h)
@@ -61,3 +64,30 @@ verdict-covers bytes s start st =
       λ z. coverage card wf start st .1 (period-none card wf .0 (none-first (periodChecks card) (sym told ∙ z))),
       λ c. told ∙ first-none (periodChecks card) (period-none card wf .1 (coverage card wf start st .0 c)),
     )
+
+-- an answer that is the verdict says of every card of sound form whether its orbit covers
+pub verdict-told : (bytes : List ℕ) (r : ℕ) → r ≡ verdict bytes
+    → (r ≡ verdict bytes) × (SoundForm bytes → (start : List ℕ) → IsState (cardOf bytes) start → (r ≡ 0) ↔ Covers (cardOf bytes) start)
+verdict-told bytes r e = (e, λ s start st. let v = verdict-covers bytes s start st in (λ z. v .0 (sym e ∙ z), λ c. e ∙ v .1 c))
+
+-- ---- what the reader says of the verdict
+
+-- a card that the reader refuses has the reader's refusal
+pub verdict-form : (bytes : List ℕ) → firstOf (formChecks bytes) ≢ 0 → firstOf (formChecks bytes) ≡ verdict bytes
+unfolding verdict
+verdict-form bytes ne = sym (first-left (formChecks bytes) (periodChecks (cardOf bytes)) ne)
+
+-- of any other the values decide
+pub verdict-period : (bytes : List ℕ) → SoundForm bytes → firstOf (periodChecks (cardOf bytes)) ≡ verdict bytes
+unfolding verdict
+verdict-period bytes s = sym (first-append (formChecks bytes) (periodChecks (cardOf bytes)) s)
+
+pub reading-sound : (bytes : List ℕ) (r : Reading) → r ≡ reading bytes → r .refusal ≡ 0 → SoundForm bytes × (r .card ≡ cardOf bytes)
+unfolding reading
+reading-sound bytes r e z =
+    let f : firstOf (formChecks bytes) ≡ 0 = sym (ap (λ (r : Reading). r .refusal) e) ∙ z in
+    (none-first _ f, ap (λ (r : Reading). r .card) e ∙ rw f refl)
+
+pub words-sound : (bytes : List ℕ) → SoundForm bytes → cardOf bytes .words ≤ mostWords
+unfolding cardOf field fields
+words-sound bytes s = sound-value bytes s 0 (omega arith) refl .1

@@ -4,4 +4,5 @@ pub mod Fields
 pub mod Reading
 pub mod Verdict
 pub mod Writing
+pub mod Steps
 pub mod Examples

@@ -7,8 +7,9 @@ use lib.ListN.{length, getD, drop, replicate}
 use Rattle.cycle.specs.Notation.{sum, bit}
 use Rattle.tsc.specs.declared.Card.{Card}
 use Rattle.tsc.specs.Constants.{mostWords}
-use Rattle.card.specs.Refusals.{Check, check, NoneApplies, truncated, outOfRange, redundant, tableMissing, trailingBytes, constantTooWide}
-use Rattle.card.specs.Fields.{field, tableBit, extent, numbers, allowed, same}
+use Rattle.card.specs.declared.read.Reading.{Reading}
+use Rattle.card.specs.Refusals.{Check, check, firstOf, NoneApplies, truncated, outOfRange, redundant, tableMissing, trailingBytes, constantTooWide}
+use Rattle.card.specs.Fields.{Field, field, tableBit, extent, numbers, allowed, same}
 
 -- whether field k is present
 abbrev pub present : List ℕ → ℕ → Bool
@@ -32,30 +33,42 @@ values bytes k = valuesAt (wordsOf bytes) bytes k
 abbrev pub value : List ℕ → ℕ → ℕ
 value bytes k = getD (values bytes k) 0 0
 
--- the eight values, with unused table entries 0
-unfoldable pub cardOf : List ℕ → Card
-cardOf bytes =
+-- a table as a card holds it: unused entries are 0
+abbrev pub padded : List ℕ → List ℕ
+padded xs = xs ++ replicate (2 ^ mostWords - length xs) 0
+
+-- the card of these numbers, by their bits, and this table
+abbrev pub cardFrom : (ℕ → ℕ) → List ℕ → Card
+cardFrom number table =
     record {
-      words = value bytes 0;
-      width = value bytes 1;
-      table = values bytes tableBit ++ replicate (2 ^ mostWords - length (values bytes tableBit)) 0;
-      «odd_power» = value bytes 3;
-      «even_power» = value bytes 4;
-      constant = value bytes 5;
-      filter = value bytes 6;
-      «sum_term» = value bytes 7;
+      words = number 0;
+      width = number 1;
+      table = table;
+      «odd_power» = number 3;
+      «even_power» = number 4;
+      constant = number 5;
+      filter = number 6;
+      «sum_term» = number 7;
     }
 
--- a field's checks, in their order; 4 stands at the table's place
+-- the eight values
+unfoldable pub cardOf : List ℕ → Card
+cardOf bytes = cardFrom (value bytes) (padded (values bytes tableBit))
+
+-- a present field's checks, in their order, on the card's bytes from the field's start on
+unfoldable pub partChecks : Field → List ℕ → List Check
+partChecks f part =
+    check truncated (ltb (length part) (extent f))
+    ∷ check outOfRange (not (allowed f (numbers f part)))
+    ∷ check redundant (same (numbers f part) (f .absent))
+    ∷ []
+
+-- the checks of field k; 4 stands at the table's place
 unfoldable pub fieldChecks : List ℕ → ℕ → List Check
 fieldChecks bytes k =
     let m = wordsOf bytes in
-    let here = present bytes k in
-    check tableMissing (not here && (eqb k tableBit && not (eqb m 4)))
-    ∷ check truncated (here && ltb (length bytes) (offset m bytes k + extent (field m k)))
-    ∷ check outOfRange (here && not (allowed (field m k) (values bytes k)))
-    ∷ check redundant (here && same (values bytes k) (field m k .absent))
-    ∷ []
+    cond (present bytes k) (partChecks (field m k) (drop (offset m bytes k) bytes))
+    (check tableMissing (eqb k tableBit && not (eqb m 4)) ∷ [])
 
 -- the map, then the fields before field k
 unfoldable pub checksTo : List ℕ → ℕ → List Check
@@ -77,3 +90,13 @@ formChecks bytes =
 -- a card of sound form: none of conditions 1 to 6 applies
 abbrev pub SoundForm : List ℕ → Type 0
 SoundForm bytes = NoneApplies (formChecks bytes)
+
+-- the card that goes with a refusal: every value 0, which no check accepts
+abbrev pub noCard : Card
+noCard = cardFrom (λ k. 0) (padded [])
+
+-- what the reader answers: 0 and the eight values, or the first of refusals 1 to 6
+unfoldable pub reading : List ℕ → Reading
+reading bytes =
+    let r = firstOf (formChecks bytes) in
+    record { refusal = r; card = cond (eqb r 0) (cardOf bytes) noCard }

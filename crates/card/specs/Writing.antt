@@ -2,11 +2,13 @@
 use mathlib.Core.Bool.{Bool, cond, not, _&&_}
 use mathlib.Core.List.{List, [], _∷_, _++_}
 use Prim.Native.Nat.{ℕ, zero, suc, _^_}
-use lib.Dec.{ltb}
+use lib.Dec.{eqb, ltb}
 use lib.ListN.{length, getD, take, drop, replicate}
 use Rattle.cycle.specs.Notation.{sum, every}
 use Rattle.tsc.specs.declared.Card.{Card}
-use Rattle.card.specs.Refusals.{Check, check, outOfRange, bufferTooSmall}
+use Rattle.card.specs.declared.write.Written.{Written}
+use Rattle.card.specs.declared.write.Written.the-variants.{Length, Refused}
+use Rattle.card.specs.Refusals.{Check, check, firstOf, outOfRange, bufferTooSmall}
 use Rattle.card.specs.Fields.{field, bytesOf, allowed, same}
 use Rattle.card.specs.Reading.{constantCheck}
 use Rattle.card.specs.Verdict.{periodChecks}
@@ -23,22 +25,48 @@ numbersOf card k =
 abbrev pub isWritten : Card → ℕ → Bool
 isWritten card k = not (same (numbersOf card k) (field (card .words) k .absent))
 
+-- the bytes that are written for field k
+unfoldable pub fieldBytes : Card → ℕ → List ℕ
+fieldBytes card k = cond (isWritten card k) (bytesOf (field (card .words) k) (numbersOf card k)) []
+
+-- the map's bits of the fields before field k
+abbrev pub mapTo : Card → ℕ → ℕ
+mapTo card k = sum k (λ j. cond (isWritten card j) (2 ^ j) 0)
+
 -- the map, then the fields before field k
 unfoldable pub writtenTo : Card → ℕ → List ℕ
-writtenTo card zero = sum 8 (λ k. cond (isWritten card k) (2 ^ k) 0) ∷ []
-writtenTo card (suc k) = writtenTo card k ++ cond (isWritten card k) (bytesOf (field (card .words) k) (numbersOf card k)) []
+writtenTo card zero = mapTo card 8 ∷ []
+writtenTo card (suc k) = writtenTo card k ++ fieldBytes card k
 
 abbrev pub written : Card → List ℕ
 written card = writtenTo card 8
 
--- whether the unused table entries are 0
-abbrev pub unusedClear : Card → Bool
-unusedClear card = let rest = drop (2 ^ card .words) (card .table) in same rest (replicate (length rest) 0)
+-- whether the entries past 2^m are 0
+abbrev pub unusedClear : ℕ → List ℕ → Bool
+unusedClear m table = let rest = drop (2 ^ m) table in same rest (replicate (length rest) 0)
 
--- 2, 6, 7, 8, 9, 16, for a page of `room` bytes
-unfoldable pub writeChecks : Card → ℕ → List Check
-writeChecks card room =
-    check outOfRange (not (every 8 (λ k. allowed (field (card .words) k) (numbersOf card k)) && unusedClear card))
+-- whether every value is allowed, and unused table entries are 0
+unfoldable pub inRange : Card → Bool
+inRange card = every 8 (λ k. allowed (field (card .words) k) (numbersOf card k)) && unusedClear (card .words) (card .table)
+
+-- 2, 6, 7, 8, 9, on a card's values
+unfoldable pub valueChecks : Card → List Check
+valueChecks card =
+    check outOfRange (not (inRange card))
     ∷ constantCheck card
     ∷ periodChecks card
-    ++ (check bufferTooSmall (ltb room (length (written card))) ∷ [])
+
+-- and 16, for a page of `room` bytes
+unfoldable pub writeChecks : Card → ℕ → List Check
+writeChecks card room = valueChecks card ++ (check bufferTooSmall (ltb room (length (written card))) ∷ [])
+
+-- what the writer answers for a page of `room` bytes: the length, or the refusal
+unfoldable pub writing : Card → ℕ → Written
+writing card room =
+    let r = firstOf (writeChecks card room) in
+    cond (eqb r 0) (Length (length (written card))) (Refused r)
+
+-- the page after the call: bytes past the length are as they were, and so is the whole page after a refusal
+unfoldable pub pageAfter : Card → List ℕ → List ℕ
+pageAfter card page =
+    cond (eqb (firstOf (writeChecks card (length page))) 0) (written card ++ drop (length (written card)) page) page

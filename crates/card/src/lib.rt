@@ -1,3 +1,7 @@
-// Cards: bytes that set up a generator. Until the reader, the check and the writer stand here, the crate is the refusal numbers,
-// the definitions (specs/) and what is proved of them (proofs/).
+// Cards (document 01, The card): bytes that set up a generator. What they mean and which are accepted is in specs/.
+pub mod check;
+mod field;
+pub mod read;
 pub mod refusal;
+mod table;
+pub mod write;

@@ -1,12 +1,12 @@
 -- Numbers in base B, lowest digit first; and lists by their entries.
 use mathlib.Core.Path.{_≡_, refl, sym, ap, ap₂, _∙_}
-use mathlib.Core.List.{List, _∷_}
-use Prim.Native.Nat.{ℕ, zero, suc, _+_, _-_, _*_, _/_, _%_, _^_, _<_}
+use mathlib.Core.List.{List, [], _∷_}
+use Prim.Native.Nat.{ℕ, zero, suc, _+_, _-_, _*_, _/_, _%_, _^_, _≤_, _<_}
 use native.Mathlib.Nat.{mul-assoc, add-comm, le-refl, pow-zero, pow-succ', one-le-pow, mod-one, mod-eq-of-lt, add-mul-div-right, add-mul-mod-self-right}
 use native.Mathlib.Decide.{ℕ-discrete}
 use native.Mathlib.Omega.{arith}
 use lib.Arith.{digits-div, digits-mod, digits-lt, mod-mul}
-use lib.ListN.{length, getD}
+use lib.ListN.{length, getD, take}
 use lib.Pow.{pow-add}
 use Rattle.cycle.specs.Notation.{sum, tabulate}
 use Rattle.cycle.proofs.Sum.{sum-ext}
@@ -91,3 +91,9 @@ unfolding tabulate
 tabulate-ext zero f g h = refl
 tabulate-ext (suc n) f g h =
     ap₂ (λ (x : ℕ) (l : List ℕ). x ∷ l) (h 0 (omega arith)) (tabulate-ext n (λ i. f (suc i)) (λ i. g (suc i)) (λ i l. h (suc i) (omega arith)))
+
+pub tabulate-getD : (n : ℕ) (xs : List ℕ) → n ≤ length xs → tabulate n (λ i. getD xs i 0) ≡ take n xs
+unfolding tabulate
+tabulate-getD zero xs l = refl
+tabulate-getD (suc n) [] l = absurd (omega arith)
+tabulate-getD (suc n) (x ∷ xs) l = ap (λ (r : List ℕ). x ∷ r) (tabulate-getD n xs (omega arith))

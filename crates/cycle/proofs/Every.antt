@@ -1,6 +1,6 @@
--- A test of all numbers below n, which antt computes where it is closed, and the rule that it gives at each of them.
-use mathlib.Core.Path.{_≡_}
-use mathlib.Core.Bool.{Bool, true, and-eq-true-iff}
+-- A test of all numbers below n, which antt computes where it is closed, and the rule that it gives at each of them; and back.
+use mathlib.Core.Path.{_≡_, refl, sym, _∙_}
+use mathlib.Core.Bool.{Bool, true, false, and-eq-true-iff, true≢false}
 use Prim.Native.Nat.{ℕ, zero, suc, _<_}
 use native.Mathlib.Decide.{ℕ-discrete}
 use native.Mathlib.Omega.{arith}
@@ -16,3 +16,15 @@ every-at (suc n) p h k l =
     go : p n ≡ true → Dec (k ≡ n) → (k < n → p k ≡ true) → p k ≡ true
     go t (yes e) ih = rw e t
     go t (no ne) ih = ih (omega arith)
+
+pub every-of : (n : ℕ) (p : ℕ → Bool) → ((k : ℕ) → k < n → p k ≡ true) → every n p ≡ true
+unfolding every
+every-of zero p h = refl
+every-of (suc n) p h = and-eq-true-iff (every n p) (p n) .1 (every-of n p (λ k l. h k (omega arith)), h n (omega arith))
+
+pub every-not : (n : ℕ) (p : ℕ → Bool) (k : ℕ) → k < n → p k ≡ false → every n p ≡ false
+every-not n p k l h = go (every n p) refl
+  where
+    go : (b : Bool) → every n p ≡ b → b ≡ false
+    go true e = absurd (true≢false (sym (every-at n p e k l) ∙ h))
+    go false e = refl

@@ -1,0 +1,70 @@
+-- For the loops: a list whose front is overwritten one by one, and what holds of all numbers below i.
+use mathlib.Core.Path.{_≡_, refl, sym, ap, ap₂, _∙_, subst}
+use mathlib.Core.List.{List, [], _∷_, _++_, append-assoc, append-nil}
+use Prim.Native.Nat.{ℕ, zero, suc, _+_, _-_, _<_, _≤_}
+use native.Mathlib.Nat.{le-of-eq, zero-add, zero-sub, sub-zero, suc-sub-suc}
+use native.Mathlib.Decide.{ℕ-discrete}
+use native.Mathlib.Numerals.{add-one}
+use native.Mathlib.Omega.{arith}
+use lib.ListN.{length, getD, set, take, drop, replicate, length-append, length-drop, drop-of-length-le}
+use lib.Seq.{paste, paste-suc, take-all, length-take-le, drop-nil, drop-drop, take-at, drop-at}
+
+-- what holds below i and at i, holds below i + 1
+pub extend : (P : ℕ → Type 0) (i : ℕ) → ((j : ℕ) → j < i → P j) → P i → (j : ℕ) → j < i + 1 → P j
+extend P i h t j l = go (ℕ-discrete j i)
+  where
+    go : Dec (j ≡ i) → P j
+    go (yes e) = subst P (sym e) t
+    go (no ne) = h j (omega arith)
+
+-- d with the first n of s in its place
+abbrev pub over : List ℕ → List ℕ → ℕ → List ℕ
+over s d n = take n s ++ drop n d
+
+pub over-suc : (s d : List ℕ) (i : ℕ) → i < length s → i < length d → set (over s d i) i (getD s i 0) ≡ over s d (i + 1)
+over-suc s d i hs hd =
+    ap₂ (λ (j k : ℕ). set (take i s ++ drop j d) k (getD s i 0)) (sym (zero-add i)) (sym (zero-add i))
+    ∙ paste-suc d 0 s i 0 (omega arith) hs
+    ∙ ap₂ (λ (j k : ℕ). take j s ++ drop k d) (sym (add-one i)) (zero-add (suc i) ∙ sym (add-one i))
+
+pub length-over : (s d : List ℕ) (i : ℕ) → i ≤ length s → i ≤ length d → length (over s d i) ≡ length d
+length-over s d i hs hd = omega (arith, length-append (take i s) (drop i d), length-take-le i s hs, length-drop i d)
+
+pub drop-replicate : (n i a : ℕ) → drop i (replicate n a) ≡ replicate (n - i) a
+drop-replicate zero i a = drop-nil i ∙ ap (λ (k : ℕ). replicate k a) (sym (zero-sub i))
+drop-replicate (suc n) zero a = ap (λ (k : ℕ). replicate k a) (sym (sub-zero (suc n)))
+drop-replicate (suc n) (suc i) a = drop-replicate n i a ∙ ap (λ (k : ℕ). replicate k a) (sym (suc-sub-suc n i))
+
+-- an entry set to itself
+pub set-own : (l : List ℕ) (i : ℕ) → set l i (getD l i 0) ≡ l
+set-own [] i = refl
+set-own (x ∷ l) zero = refl
+set-own (x ∷ l) (suc i) = ap (λ (r : List ℕ). x ∷ r) (set-own l i)
+
+-- the part `&l[a..]`
+pub part-rest : (a : ℕ) (l : List ℕ) → take (length l - a) (drop a l) ≡ drop a l
+part-rest a l = take-all (length l - a) (drop a l) (omega (arith, length-drop a l))
+
+-- a page whose front is w, once the part after it has come back with f at its front
+pub put-next : (w d f : List ℕ) (at : ℕ) → length w ≡ at → let page = w ++ drop at d in let part = take (length page - at) (drop at page) in
+    take at page ++ ((f ++ drop (length f) part) ++ drop (length page - at) (drop at page)) ≡ (w ++ f) ++ drop (at + length f) d
+put-next w d f at e =
+    let page = w ++ drop at d in
+    let rest : drop at page ≡ drop at d = drop-at w (drop at d) at e in
+    ap₂ (λ (x y : List ℕ). x ++ y) (take-at w (drop at d) at e)
+    (ap₂ (λ (x y : List ℕ). (f ++ drop (length f) x) ++ y) (part-rest at page ∙ rest) (drop-of-length-le (drop at page) (le-of-eq (length-drop at page)))
+    ∙ append-nil _ ∙ ap (λ (r : List ℕ). f ++ r) (drop-drop (length f) at d))
+    ∙ sym (append-assoc w f _)
+
+pub length-front : (w d : List ℕ) (at : ℕ) → length w ≡ at → at ≤ length d → length (w ++ drop at d) ≡ length d
+length-front w d at e h = omega (arith, length-append w (drop at d), length-drop at d)
+
+-- the first entry set
+pub set-first : (l : List ℕ) (x : ℕ) → 0 < length l → set l 0 x ≡ x ∷ drop 1 l
+set-first [] x h = absurd (omega arith)
+set-first (y ∷ l) x h = refl
+
+pub drop-set-first : (l : List ℕ) (x n : ℕ) → 0 < n → drop n (set l 0 x) ≡ drop n l
+drop-set-first l x zero h = absurd (omega arith)
+drop-set-first [] x (suc n) h = refl
+drop-set-first (y ∷ l) x (suc n) h = refl

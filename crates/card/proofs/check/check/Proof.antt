@@ -1,0 +1,47 @@
+use mathlib.Core.Path.{_≡_, sym, ap, _∙_, subst}
+use mathlib.Core.List.{List}
+use Prim.Native.Nat.{ℕ, _≤_}
+use Rattle.tsc.specs.declared.Card.{Card}
+use Rattle.tsc.specs.Coverage.{WellFormed}
+use Rattle.card.specs.declared.read.Reading.{Reading}
+use Rattle.card.specs.Refusals.{firstOf}
+use Rattle.card.specs.Reading.{reading, formChecks}
+use Rattle.card.specs.Verdict.{periodChecks}
+use Rattle.card.proofs.Sound.{sound-card}
+use Rattle.card.proofs.Verdict.{verdict-told, verdict-form, verdict-period, reading-sound, words-sound}
+use borrow.Author.Needs.{needs}
+use Rattle.card.proofs.check.check.Statement.{statement}
+use Rattle.card.proofs.check.check.Tie as tie
+use Rattle.card.proofs.check.check.Reads as reads
+use Rattle.card.proofs.check.check.Lts as lts
+use Rattle.card.proofs.check.period_refusal.Reads as period-refusal-reads
+use Rattle.card.proofs.read.read.Reads as read-reads
+
+-- src/check.rt:43:9
+read-requires : tie.Need-read-requires
+read-requires c κs = search needs
+
+-- src/check.rt:45:9
+returns : tie.Need-returns
+unfolding reading
+returns c =
+    let bytes = c .before .before .before .before .args .card .now in
+    let e = ap (λ (r : Reading). r .refusal) (c .before .before .read .ensures) in
+    verdict-told bytes _ (e ∙ verdict-form bytes (λ z. c .if1 .taken (e ∙ z)))
+
+-- src/check.rt:48:5
+period-refusal-requires : tie.Need-period-refusal-requires
+period-refusal-requires c κs =
+    let bytes = c .before .before .before .before .before .args .card .now in
+    let h = reading-sound bytes _ (c .before .before .before .read .ensures) (c .before .if1 .left) in
+    subst (λ (card : Card). WellFormed card × (card .words ≤ 4)) (sym (h .1)) (sound-card bytes (h .0), words-sound bytes (h .0))
+
+-- src/check.rt:39:1
+returns-2 : tie.Need-returns-2
+returns-2 c =
+    let bytes = c .before .before .before .before .before .before .args .card .now in
+    let h = reading-sound bytes _ (c .before .before .before .before .read .ensures) (c .before .before .if1 .left) in
+    verdict-told bytes _ (c .period-refusal .ensures ∙ ap (λ (card : Card). firstOf (periodChecks card)) (h .1) ∙ verdict-period bytes (h .0))
+
+pub check-spec : {M : Type 1} → statement M
+check-spec = tie.close (tie.spec read-requires returns period-refusal-requires returns-2)

@@ -1,0 +1,37 @@
+use mathlib.Core.Path.{_≡_, sym, ap, _∙_}
+use Prim.Native.Nat.{ℕ, _^_}
+use native.Mathlib.Nat.{mul-one, one-mul}
+use lib.ListN.{getD}
+use Rattle.card.specs.Fields.{Field, field, fields, tableBit, extent}
+use Rattle.card.proofs.Fields.{sizes, numeric}
+use borrow.Author.Needs.{needs}
+use Rattle.card.proofs.field.extent_of.Statement.{statement}
+use Rattle.card.proofs.field.extent_of.Tie as tie
+use Rattle.card.proofs.field.extent_of.Reads as reads
+use Rattle.card.proofs.field.extent_of.Lts as lts
+use Rattle.card.proofs.table.entries.Reads as entries-reads
+
+-- src/field.rt:26:9
+entries-requires : tie.Need-entries-requires
+entries-requires c κs = search needs
+
+-- src/field.rt:26:9
+returns : tie.Need-returns
+unfolding field fields
+returns c = c .entries .ensures ∙ sym (mul-one (2 ^ c .before .before .args .m)) ∙ ap (λ (k : ℕ). extent (field (c .before .before .args .m) k)) (sym (c .before .if1 .taken))
+
+-- src/field.rt:28:5
+mul-result : tie.Need-mul-result
+mul-result c = search needs
+
+-- src/field.rt:28:5
+array-read-result : tie.Need-array-read-result
+array-read-result c = search needs
+
+-- src/field.rt:21:1
+returns-2 : tie.Need-returns-2
+returns-2 c = sym (ap extent (numeric (c .before .args .m) (c .before .args .k) (c .before .pre .0) (c .if1 .left)) ∙ one-mul (getD sizes (c .before .args .k) 0))
+
+pub extent-of-spec : {M : Type 1} → statement M
+extent-of-spec =
+    tie.close (tie.spec entries-requires returns mul-result array-read-result returns-2)

@@ -1,0 +1,130 @@
+use mathlib.Core.Path.{_≡_, refl, sym, ap, ap₂, _∙_}
+use mathlib.Core.Logic.{_≢_}
+use mathlib.Core.Bool.{Bool, true, false, cond, not}
+use mathlib.Core.List.{List}
+use Prim.Native.Nat.{ℕ, _^_, _≤_, _<_}
+use native.Mathlib.Nat.{mul-one}
+use native.Mathlib.Omega.{arith}
+use borrow.Author.Tests.{ne-eqb, not-true, not-false}
+use lib.ListN.{length, getD, take}
+use Rattle.tsc.specs.Constants.{tsc1Table}
+use Rattle.card.specs.declared.read.Values.{Values}
+use Rattle.card.specs.Refusals.{firstOf}
+use Rattle.card.specs.Fields.{field, fields, tableBit, extent, numbers, allowed, same}
+use Rattle.card.specs.Reading.{partChecks, padded}
+use Rattle.card.specs.Steps.{refusedAt, fieldRead}
+use Rattle.card.proofs.Fields.{few-entries, take-padded, numbers-table, table-short, table-refusal}
+use borrow.Author.Needs.{needs}
+use Rattle.card.proofs.read.read_table.Statement.{statement}
+use Rattle.card.proofs.read.read_table.Tie as tie
+use Rattle.card.proofs.read.read_table.Reads as reads
+use Rattle.card.proofs.read.read_table.Lts as lts
+use Rattle.card.proofs.read.refused_at.Reads as refused-at-reads
+use Rattle.card.proofs.table.entries.Reads as entries-reads
+use Rattle.card.proofs.table.entries_allowed.Reads as entries-allowed-reads
+use Rattle.card.proofs.table.is_tsc1.Reads as is-tsc1-reads
+use Rattle.card.proofs.table.table_from.Reads as table-from-reads
+
+refused-as : (part : List ℕ) (v : Values) (r : ℕ) → r ≢ 0 → firstOf (partChecks (field (getD (v .numbers) 0 0) tableBit) part) ≡ r
+    → refusedAt v r ≡ fieldRead tableBit part v
+unfolding fieldRead
+refused-as part v r ne e = rw e (simp (ne-eqb r 0 ne))
+
+stored-as : (part : List ℕ) (v : Values) (size : ℕ) (t : List ℕ) → size ≡ 2 ^ getD (v .numbers) 0 0 → t ≡ padded (take size part)
+    → 2 ^ getD (v .numbers) 0 0 ≤ length part → firstOf (partChecks (field (getD (v .numbers) 0 0) tableBit) part) ≡ 0
+    → record { refusal = 0; used = size; numbers = v .numbers; table = t } ≡ fieldRead tableBit part v
+unfolding fieldRead field fields
+stored-as part v size t es et h e =
+    rw e
+    (rw (numbers-table (getD (v .numbers) 0 0) part h)
+    (ap₂ {C = Values} (λ (n : ℕ) (t : List ℕ). record { refusal = 0; used = n; numbers = v .numbers; table = t })
+    (es ∙ sym (mul-one _)) (et ∙ ap (λ (n : ℕ). padded (take n part)) es)))
+
+-- the table has the entries of the part
+shown : (part : List ℕ) (m size : ℕ) (t : List ℕ) → size ≡ 2 ^ m → size ≤ length part → t ≡ padded (take size part)
+    → (2 ^ m ≤ length part) × (take (2 ^ m) t ≡ take (2 ^ m) part)
+shown part m size t es h et =
+    (omega (arith, es), rw (sym es) (ap (λ (t : List ℕ). take size t) et ∙ take-padded part size h))
+
+-- src/read.rt:91:13
+element-copy-out-m : tie.Need-element-copy-out-m
+element-copy-out-m c = search needs
+
+-- src/read.rt:92:9
+entries-requires : tie.Need-entries-requires
+entries-requires c κs = search needs
+
+-- src/read.rt:94:9
+refused-at-requires : tie.Need-refused-at-requires
+refused-at-requires c κs = search needs
+
+-- src/read.rt:94:9
+returns : tie.Need-returns
+returns c =
+    let a = c .before .before .before .before .before .args in
+    c .refused-at .ensures ∙ refused-as (a .part .now) (a .t2) 1 (λ e. absurd (omega arith))
+    (table-short (getD (a .t2 .numbers) 0 0) (a .part .now) (omega (arith, c .before .before .entries .ensures)))
+
+-- src/read.rt:96:9
+table-from-requires : tie.Need-table-from-requires
+table-from-requires c κs = (omega (arith, c .before .entries .ensures, few-entries (getD (c .before .before .before .before .args .t2 .numbers) 0 0) (c .before .before .before .before .pre)), search needs)
+
+-- src/read.rt:97:9
+entries-allowed-requires : tie.Need-entries-allowed-requires
+entries-allowed-requires c κs = search needs
+
+-- src/read.rt:98:9
+refused-at-requires-2 : tie.Need-refused-at-requires-2
+refused-at-requires-2 c κs = search needs
+
+-- src/read.rt:98:9
+returns-2 : tie.Need-returns-2
+returns-2 c =
+    let a = c .before .before .before .before .before .before .before .before .args in
+    let m = getD (a .t2 .numbers) 0 0 in
+    let e = shown (a .part .now) m _ _ (c .before .before .before .before .before .entries .ensures) (c .before .before .before .before .if1 .left) (c .before .before .before .table-from .ensures) in
+    c .refused-at2 .ensures ∙ refused-as (a .part .now) (a .t2) 2 (λ e. absurd (omega arith))
+    (table-refusal m (a .part .now) (e .0) _ (e .1) ∙ simp (sym (c .before .before .entries-allowed .ensures) ∙ not-true _ (c .before .if2 .taken)))
+
+-- src/read.rt:100:8
+is-tsc1-requires : tie.Need-is-tsc1-requires
+is-tsc1-requires c κs = search needs
+
+-- src/read.rt:101:9
+refused-at-requires-3 : tie.Need-refused-at-requires-3
+refused-at-requires-3 c κs = search needs
+
+-- src/read.rt:101:9
+returns-3 : tie.Need-returns-3
+returns-3 c =
+    let a = c .before .before .before .before .before .before .before .before .before .before .args in
+    let m = getD (a .t2 .numbers) 0 0 in
+    let e = shown (a .part .now) m _ _ (c .before .before .before .before .before .before .before .entries .ensures) (c .before .before .before .before .before .before .if1 .left) (c .before .before .before .before .before .table-from .ensures) in
+    c .refused-at3 .ensures ∙ refused-as (a .part .now) (a .t2) 3 (λ e. absurd (omega arith))
+    (table-refusal m (a .part .now) (e .0) _ (e .1) ∙ simp (sym (c .before .before .before .before .entries-allowed .ensures) ∙ not-false _ (c .before .before .before .if2 .left), sym (c .before .before .is-tsc1 .ensures) ∙ c .before .if3 .taken))
+
+-- src/read.rt:87:1
+returns-4 : tie.Need-returns-4
+returns-4 c =
+    let a = c .before .before .before .before .before .before .before .before .before .before .args in
+    let m = getD (a .t2 .numbers) 0 0 in
+    let e = shown (a .part .now) m _ _ (c .before .before .before .before .before .before .before .entries .ensures) (c .before .before .before .before .before .before .if1 .left) (c .before .before .before .before .before .table-from .ensures) in
+    stored-as (a .part .now) (a .t2) _ _ (c .before .before .before .before .before .before .before .entries .ensures) (c .before .before .before .before .before .table-from .ensures) (e .0)
+    (table-refusal m (a .part .now) (e .0) _ (e .1) ∙ simp (sym (c .before .before .before .before .entries-allowed .ensures) ∙ not-false _ (c .before .before .before .if2 .left), sym (c .before .before .is-tsc1 .ensures) ∙ c .before .if3 .left))
+
+pub read-table-spec : {M : Type 1} → statement M
+read-table-spec =
+    tie.close
+    (tie.spec
+    element-copy-out-m
+    entries-requires
+    refused-at-requires
+    returns
+    table-from-requires
+    entries-allowed-requires
+    refused-at-requires-2
+    returns-2
+    is-tsc1-requires
+    refused-at-requires-3
+    returns-3
+    returns-4)

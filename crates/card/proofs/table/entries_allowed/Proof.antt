@@ -1,0 +1,76 @@
+use mathlib.Core.Path.{_≡_, sym, subst}
+use mathlib.Core.Bool.{false, true}
+use Prim.Native.Nat.{ℕ, _-_, _^_, _≤_, _<_}
+use native.Mathlib.Omega.{arith}
+use borrow.Author.Needs.{needs}
+use lib.ListN.{length, getD, take}
+use Rattle.card.proofs.Lists.{extend}
+use Rattle.card.proofs.Fields.{few-entries, entries-allowed, entry-not-allowed}
+use Rattle.card.proofs.table.entries_allowed.Statement.{statement}
+use Rattle.card.proofs.table.entries_allowed.Tie as tie
+use Rattle.card.proofs.table.entries_allowed.Reads as reads
+use Rattle.card.proofs.table.entries_allowed.Lts as lts
+use Rattle.card.proofs.table.entries.Reads as entries-reads
+use Rattle.card.proofs.table.wide.Reads as wide-reads
+
+abbrev Inv-loop : tie.InvT-loop
+Inv-loop m table size i₀ i = (i ≤ size) × (size ≡ 2 ^ m) × (size ≤ 16) × ((j : ℕ) → j < i → getD table j 0 < size)
+
+abbrev μ-loop : tie.MeasureT-loop
+μ-loop m table size i₀ i = size - i
+
+-- src/table.rt:48:9
+entries-requires : tie.Need-entries-requires Inv-loop μ-loop
+entries-requires c κs = search needs
+
+-- src/table.rt:50:5
+loop-holds : tie.Need-loop-holds Inv-loop μ-loop
+loop-holds c = (omega arith, c .entries .ensures, omega (arith, c .entries .ensures, few-entries (c .before .args .m) (omega arith)), λ j l. absurd (omega arith))
+
+-- src/table.rt:51:25
+array-read-wide : tie.Need-array-read-wide Inv-loop μ-loop
+array-read-wide c = omega arith
+
+-- src/table.rt:51:20
+wide-requires : tie.Need-wide-requires Inv-loop μ-loop
+wide-requires c κs = search needs
+
+-- src/table.rt:52:13
+returns : tie.Need-returns Inv-loop μ-loop
+returns c =
+    let e = c .before .before .before .loop .inv .1 in
+    sym (entry-not-allowed (c .before .before .before .before .before .args .m) (c .before .before .before .before .before .args .t1) (c .before .before .before .loop .i) (omega (arith, e)) (omega (arith, e)) (omega (arith, e, c .before .wide .ensures)))
+
+-- src/table.rt:54:9
+add-i : tie.Need-add-i Inv-loop μ-loop
+add-i c = search needs
+
+-- src/table.rt:50:5
+loop-less : tie.Need-loop-less Inv-loop μ-loop
+loop-less c = omega arith
+
+-- src/table.rt:50:5
+loop-again : tie.Need-loop-again Inv-loop μ-loop
+loop-again c = (omega arith, c .before .before .before .loop .inv .1, omega arith, extend _ _ (c .before .before .before .loop .inv .3) (omega (arith, c .before .wide .ensures)))
+
+-- src/table.rt:44:1
+returns-2 : tie.Need-returns-2 Inv-loop μ-loop
+returns-2 c =
+    let e = c .before .loop .inv .1 in
+    sym (entries-allowed (c .before .before .before .args .m) (c .before .before .before .args .t1) (omega (arith, e)) (λ i l. omega (arith, e, c .before .loop .inv .3 i (omega (arith, e)))))
+
+pub entries-allowed-spec : {M : Type 1} → statement M
+entries-allowed-spec =
+    tie.close
+    (tie.spec
+    Inv-loop
+    μ-loop
+    entries-requires
+    loop-holds
+    array-read-wide
+    wide-requires
+    returns
+    add-i
+    loop-less
+    loop-again
+    returns-2)

@@ -1,0 +1,71 @@
+use mathlib.Core.Path.{_≡_, refl, sym, ap, _∙_}
+use mathlib.Core.List.{List}
+use Prim.Native.Nat.{ℕ, _-_, _≤_}
+use native.Mathlib.Omega.{arith}
+use borrow.Author.Needs.{needs}
+use lib.ListN.{length, getD, set, replicate}
+use Rattle.card.proofs.Lists.{over, over-suc}
+use Rattle.card.proofs.Fields.{over-padded}
+use Rattle.card.proofs.table.table_from.Statement.{statement}
+use Rattle.card.proofs.table.table_from.Tie as tie
+use Rattle.card.proofs.table.table_from.Reads as reads
+use Rattle.card.proofs.table.table_from.Lts as lts
+
+abbrev Inv-loop : tie.InvT-loop
+Inv-loop part size table₀ i₀ table i = (i ≤ size) × (size ≤ 16) × (size ≤ length part) × (table ≡ over part (replicate 16 0) i)
+
+abbrev μ-loop : tie.MeasureT-loop
+μ-loop part size table₀ i₀ table i = size - i
+
+-- src/table.rt:36:5
+loop-holds : tie.Need-loop-holds Inv-loop μ-loop
+loop-holds c = (omega arith, omega arith, omega arith, refl)
+
+-- src/table.rt:37:20
+shared-slice-read-table : tie.Need-shared-slice-read-table Inv-loop μ-loop
+shared-slice-read-table c = omega arith
+
+-- src/table.rt:37:9
+array-write-table : tie.Need-array-write-table Inv-loop μ-loop
+array-write-table c = omega arith
+
+-- src/table.rt:38:9
+add-i : tie.Need-add-i Inv-loop μ-loop
+add-i c = search needs
+
+-- src/table.rt:36:5
+loop-less : tie.Need-loop-less Inv-loop μ-loop
+loop-less c = omega arith
+
+-- src/table.rt:36:5
+loop-again : tie.Need-loop-again Inv-loop μ-loop
+loop-again c =
+    let l = c .before .before .loop in
+    let p = c .before .before .before .args .part .now in (
+      omega arith,
+      omega arith,
+      omega arith,
+      ap (λ (t : List ℕ). set t (l .i) (getD p (l .i) 0)) (l .inv .3) ∙ over-suc p (replicate 16 0) (l .i) (omega arith) (omega arith),
+    )
+
+-- src/table.rt:30:1
+returns : tie.Need-returns Inv-loop μ-loop
+returns c =
+    let l = c .before .loop in
+    let p = c .before .before .args .part .now in
+    let e : l .i ≡ c .before .before .args .size = omega arith in
+    l .inv .3 ∙ ap (over p (replicate 16 0)) e ∙ over-padded p (c .before .before .args .size) (omega arith)
+
+pub table-from-spec : {M : Type 1} → statement M
+table-from-spec =
+    tie.close
+    (tie.spec
+    Inv-loop
+    μ-loop
+    loop-holds
+    shared-slice-read-table
+    array-write-table
+    add-i
+    loop-less
+    loop-again
+    returns)

@@ -1,0 +1,65 @@
+use mathlib.Core.Path.{_≡_, sym}
+use Prim.Native.Nat.{ℕ, _-_, _^_, _≤_, _<_}
+use native.Mathlib.Omega.{arith}
+use borrow.Author.Needs.{needs}
+use lib.ListN.{length, getD, take}
+use Rattle.card.proofs.Lists.{extend}
+use Rattle.card.proofs.Fields.{few-entries, unused-clear, unused-not-clear}
+use Rattle.card.proofs.table.unused_clear.Statement.{statement}
+use Rattle.card.proofs.table.unused_clear.Tie as tie
+use Rattle.card.proofs.table.unused_clear.Reads as reads
+use Rattle.card.proofs.table.unused_clear.Lts as lts
+use Rattle.card.proofs.table.entries.Reads as entries-reads
+
+abbrev Inv-loop : tie.InvT-loop
+Inv-loop m table i₀ i = (2 ^ m ≤ i) × (i ≤ 16) × ((j : ℕ) → j < i → 2 ^ m ≤ j → getD table j 0 ≡ 0)
+
+abbrev μ-loop : tie.MeasureT-loop
+μ-loop m table i₀ i = 16 - i
+
+-- src/table.rt:82:9
+entries-requires : tie.Need-entries-requires Inv-loop μ-loop
+entries-requires c κs = search needs
+
+-- src/table.rt:83:5
+loop-holds : tie.Need-loop-holds Inv-loop μ-loop
+loop-holds c = (omega (arith, c .entries .ensures), omega (arith, c .entries .ensures, few-entries (c .before .args .m) (omega arith)), λ j l h. absurd (omega (arith, c .entries .ensures)))
+
+-- src/table.rt:84:12
+array-read-if1 : tie.Need-array-read-if1 Inv-loop μ-loop
+array-read-if1 c = omega arith
+
+-- src/table.rt:85:13
+returns : tie.Need-returns Inv-loop μ-loop
+returns c = sym (unused-not-clear (c .before .before .before .before .args .m) (c .before .before .before .before .args .t1) (c .before .before .loop .i) (omega arith) (omega arith) (c .if1 .taken))
+
+-- src/table.rt:87:9
+add-i : tie.Need-add-i Inv-loop μ-loop
+add-i c = search needs
+
+-- src/table.rt:83:5
+loop-less : tie.Need-loop-less Inv-loop μ-loop
+loop-less c = omega arith
+
+-- src/table.rt:83:5
+loop-again : tie.Need-loop-again Inv-loop μ-loop
+loop-again c = (omega arith, omega arith, extend (λ (j : ℕ). 2 ^ c .before .before .before .before .args .m ≤ j → getD (c .before .before .before .before .args .t1) j 0 ≡ 0) _ (c .before .before .loop .inv .2) (λ h. c .if1 .left))
+
+-- src/table.rt:78:1
+returns-2 : tie.Need-returns-2 Inv-loop μ-loop
+returns-2 c = sym (unused-clear (c .before .before .before .args .m) (c .before .before .before .args .t1) (λ i l h. c .before .loop .inv .2 i (omega arith) h))
+
+pub unused-clear-spec : {M : Type 1} → statement M
+unused-clear-spec =
+    tie.close
+    (tie.spec
+    Inv-loop
+    μ-loop
+    entries-requires
+    loop-holds
+    array-read-if1
+    returns
+    add-i
+    loop-less
+    loop-again
+    returns-2)

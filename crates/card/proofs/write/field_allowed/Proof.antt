@@ -1,0 +1,78 @@
+use mathlib.Core.Path.{_≡_, sym, ap, _∙_}
+use mathlib.Core.Bool.{false}
+use mathlib.Core.List.{List}
+use Prim.Native.Nat.{ℕ}
+use native.Mathlib.Omega.{arith}
+use borrow.Author.Tests.{lt-leb, le-leb}
+use Rattle.card.specs.Fields.{field, allowed}
+use Rattle.card.specs.Writing.{numbersOf}
+use Rattle.card.proofs.Writer.{allowed-one}
+use borrow.Author.Needs.{needs}
+use Rattle.card.proofs.write.field_allowed.Statement.{statement}
+use Rattle.card.proofs.write.field_allowed.Tie as tie
+use Rattle.card.proofs.write.field_allowed.Reads as reads
+use Rattle.card.proofs.write.field_allowed.Lts as lts
+use Rattle.card.proofs.table.entries_allowed.Reads as entries-allowed-reads
+use Rattle.card.proofs.write.number_of.Reads as number-of-reads
+
+-- src/write.rt:57:39
+cast-entries-allowed : tie.Need-cast-entries-allowed
+cast-entries-allowed c = search needs
+
+-- src/write.rt:57:9
+entries-allowed-requires : tie.Need-entries-allowed-requires
+entries-allowed-requires c κs = c .before .before .before .pre .1 (omega (arith, c .before .before .if1 .taken))
+
+-- src/write.rt:57:9
+returns : tie.Need-returns
+unfolding numbersOf
+returns c =
+    let a = c .before .before .before .before .args in
+    c .entries-allowed .ensures ∙ ap (λ (k : ℕ). allowed (field (a .card .words) k) (numbersOf (a .card) k)) (sym (c .before .before .before .if1 .taken))
+
+-- src/write.rt:59:9
+number-of-requires : tie.Need-number-of-requires
+number-of-requires c κs = search needs
+
+-- src/write.rt:60:12
+mul-if2 : tie.Need-mul-if2
+mul-if2 c = search needs
+
+-- src/write.rt:60:12
+array-read-if2 : tie.Need-array-read-if2
+array-read-if2 c = search needs
+
+-- src/write.rt:61:9
+returns-2 : tie.Need-returns-2
+returns-2 c =
+    let a = c .before .before .before .args in
+    rw (c .before .number-of .ensures, allowed-one (a .card .words) (a .k) (c .before .number-of .result) (c .before .before .before .pre .0) (c .before .before .if1 .left), lt-leb _ _ (c .if2 .taken))
+
+-- src/write.rt:63:10
+mul-result : tie.Need-mul-result
+mul-result c = search needs
+
+-- src/write.rt:63:10
+array-read-result : tie.Need-array-read-result
+array-read-result c = search needs
+
+-- src/write.rt:51:1
+returns-3 : tie.Need-returns-3
+returns-3 c =
+    let a = c .before .before .before .args in
+    rw (c .before .number-of .ensures, allowed-one (a .card .words) (a .k) (c .before .number-of .result) (c .before .before .before .pre .0) (c .before .before .if1 .left), le-leb _ _ (c .if2 .left))
+
+pub field-allowed-spec : {M : Type 1} → statement M
+field-allowed-spec =
+    tie.close
+    (tie.spec
+    cast-entries-allowed
+    entries-allowed-requires
+    returns
+    number-of-requires
+    mul-if2
+    array-read-if2
+    returns-2
+    mul-result
+    array-read-result
+    returns-3)

@@ -1,0 +1,84 @@
+use mathlib.Core.Path.{_≡_, refl, sym, ap, _∙_}
+use mathlib.Core.Bool.{true, false}
+use Prim.Native.Nat.{ℕ, zero, suc, _-_, _<_, _≤_}
+use native.Mathlib.Omega.{arith}
+use native.Mathlib.Numerals.{add-one}
+use borrow.Author.Needs.{needs}
+use borrow.Author.Tests.{not-true, not-false}
+use Rattle.cycle.specs.Notation.{every}
+use Rattle.cycle.proofs.Every.{every-at, every-not}
+use Rattle.tsc.specs.declared.Card.{Card}
+use Rattle.card.specs.Fields.{field, allowed}
+use Rattle.card.specs.Writing.{numbersOf, inRange}
+use Rattle.card.proofs.Writer.{words-allowed}
+use Rattle.card.proofs.write.in_range.Statement.{statement}
+use Rattle.card.proofs.write.in_range.Tie as tie
+use Rattle.card.proofs.write.in_range.Reads as reads
+use Rattle.card.proofs.write.in_range.Lts as lts
+use Rattle.card.proofs.table.unused_clear.Reads as unused-clear-reads
+use Rattle.card.proofs.write.field_allowed.Reads as field-allowed-reads
+
+abbrev Inv-loop : tie.InvT-loop
+Inv-loop card k₀ k = (k ≤ 8) × (every k (λ j. allowed (field (card .words) j) (numbersOf card j)) ≡ true)
+
+abbrev μ-loop : tie.MeasureT-loop
+μ-loop card k₀ k = 8 - k
+
+-- src/write.rt:70:5
+loop-holds : tie.Need-loop-holds Inv-loop μ-loop
+unfolding every
+loop-holds c = (omega arith, refl)
+
+-- src/write.rt:71:13
+field-allowed-requires : tie.Need-field-allowed-requires Inv-loop μ-loop
+field-allowed-requires c κs = (omega arith, λ p. words-allowed (c .before .before .args .card) (every-at (c .before .loop .k) _ (c .before .loop .inv .1) 0 p))
+
+-- src/write.rt:72:13
+returns : tie.Need-returns Inv-loop μ-loop
+unfolding inRange
+returns c = rw (every-not 8 _ (c .before .before .before .loop .k) (omega arith) (sym (c .before .field-allowed .ensures) ∙ not-true _ (c .if1 .taken))) refl
+
+-- src/write.rt:70:9
+add-k : tie.Need-add-k Inv-loop μ-loop
+add-k c = omega arith
+
+-- src/write.rt:70:5
+loop-less : tie.Need-loop-less Inv-loop μ-loop
+loop-less c = omega arith
+
+-- src/write.rt:70:5
+loop-again : tie.Need-loop-again Inv-loop μ-loop
+unfolding every
+loop-again c = (omega arith, rw add-one (simp (c .before .before .before .loop .inv .1, sym (c .before .field-allowed .ensures) ∙ not-false _ (c .if1 .left))))
+
+-- src/write.rt:76:25
+cast-unused-clear : tie.Need-cast-unused-clear Inv-loop μ-loop
+cast-unused-clear c = search needs
+
+-- src/write.rt:76:5
+unused-clear-requires : tie.Need-unused-clear-requires Inv-loop μ-loop
+unused-clear-requires c κs = words-allowed (c .before .before .before .before .args .card) (every-at (c .before .before .before .loop .k) _ (c .before .before .before .loop .inv .1) 0 (omega arith))
+
+-- src/write.rt:67:1
+returns-2 : tie.Need-returns-2 Inv-loop μ-loop
+unfolding inRange
+returns-2 c =
+    let card = c .before .before .before .before .before .args .card in
+    let e : c .before .before .before .before .loop .k ≡ 8 = omega arith in
+    rw (sym (ap (λ (n : ℕ). every n (λ j. allowed (field (card .words) j) (numbersOf card j))) e) ∙ c .before .before .before .before .loop .inv .1) (c .unused-clear .ensures)
+
+pub in-range-spec : {M : Type 1} → statement M
+in-range-spec =
+    tie.close
+    (tie.spec
+    Inv-loop
+    μ-loop
+    loop-holds
+    field-allowed-requires
+    returns
+    add-k
+    loop-less
+    loop-again
+    cast-unused-clear
+    unused-clear-requires
+    returns-2)

@@ -1,0 +1,56 @@
+use mathlib.Core.Path.{_≡_, refl, sym, ap, _∙_}
+use mathlib.Core.Bool.{Bool, not}
+use Prim.Native.Nat.{ℕ}
+use Rattle.card.specs.Fields.{fields, field}
+use Rattle.card.specs.Writing.{numbersOf, isWritten}
+use Rattle.card.proofs.Writer.{absent-one}
+use borrow.Author.Needs.{needs}
+use Rattle.card.proofs.write.is_written.Statement.{statement}
+use Rattle.card.proofs.write.is_written.Tie as tie
+use Rattle.card.proofs.write.is_written.Reads as reads
+use Rattle.card.proofs.write.is_written.Lts as lts
+use Rattle.card.proofs.table.is_tsc1.Reads as is-tsc1-reads
+use Rattle.card.proofs.write.number_of.Reads as number-of-reads
+
+-- src/write.rt:99:32
+cast-is-tsc1 : tie.Need-cast-is-tsc1
+cast-is-tsc1 c = search needs
+
+-- src/write.rt:99:17
+is-tsc1-requires : tie.Need-is-tsc1-requires
+is-tsc1-requires c κs = search needs
+
+-- src/write.rt:99:9
+returns : tie.Need-returns
+unfolding numbersOf field fields
+returns c = ap not (c .is-tsc1 .ensures) ∙ ap (isWritten (c .before .before .before .before .args .card)) (sym (c .before .before .before .if1 .taken))
+
+-- src/write.rt:101:5
+number-of-requires : tie.Need-number-of-requires
+number-of-requires c κs = search needs
+
+-- src/write.rt:101:27
+mul-result : tie.Need-mul-result
+mul-result c = search needs
+
+-- src/write.rt:101:27
+array-read-result : tie.Need-array-read-result
+array-read-result c = search needs
+
+-- src/write.rt:93:1
+returns-2 : tie.Need-returns-2
+returns-2 c =
+    let a = c .before .before .args in
+    rw (c .number-of .ensures, absent-one (a .card .words) (a .k) (c .number-of .result) (c .before .before .pre .0) (c .before .if1 .left)) refl
+
+pub is-written-spec : {M : Type 1} → statement M
+is-written-spec =
+    tie.close
+    (tie.spec
+    cast-is-tsc1
+    is-tsc1-requires
+    returns
+    number-of-requires
+    mul-result
+    array-read-result
+    returns-2)

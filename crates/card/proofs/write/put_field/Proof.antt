@@ -1,0 +1,119 @@
+use mathlib.Core.Path.{_≡_, refl, sym, ap, ap₂, _∙_}
+use mathlib.Core.Bool.{Bool, true, false}
+use mathlib.Core.List.{List, [], _++_}
+use Prim.Native.Nat.{ℕ, _^_, _≤_, _<_}
+use native.Mathlib.Nat.{mul-one, one-mul}
+use native.Mathlib.Omega.{arith}
+use borrow.Author.Tests.{not-true, not-false}
+use lib.ListN.{length, getD, take, drop}
+use Rattle.tsc.specs.declared.Card.{Card}
+use Rattle.card.specs.Fields.{field, fields, tableBit, extent}
+use Rattle.card.specs.Writing.{isWritten, fieldBytes, inRange}
+use Rattle.card.specs.Steps.{lowFirst}
+use Rattle.card.proofs.Fields.{sizes, numeric}
+use Rattle.card.proofs.Writer.{range-words, length-fieldBytes, extent-few, fieldBytes-none, fieldBytes-one, fieldBytes-table}
+use borrow.Author.Needs.{needs}
+use Rattle.card.proofs.write.put_field.Statement.{statement}
+use Rattle.card.proofs.write.put_field.Tie as tie
+use Rattle.card.proofs.write.put_field.Reads as reads
+use Rattle.card.proofs.write.put_field.Lts as lts
+use Rattle.card.proofs.field.extent_of.Reads as extent-of-reads
+use Rattle.card.proofs.write.is_written.Reads as is-written-reads
+use Rattle.card.proofs.write.number_of.Reads as number-of-reads
+use Rattle.card.proofs.write.put_number.Reads as put-number-reads
+use Rattle.card.proofs.write.put_table.Reads as put-table-reads
+
+-- a field that is written has its whole extent
+whole : (card : Card) (k n : ℕ) → n ≡ extent (field (card .words) k) → isWritten card k ≡ true → n ≡ length (fieldBytes card k)
+whole card k n e w = e ∙ sym (length-fieldBytes card k ∙ rw w refl)
+
+-- the table's bytes are its entries
+table-bytes : (card : Card) (k size : ℕ) → k ≡ tableBit → length (card .table) ≡ 16 → inRange card ≡ true → isWritten card k ≡ true
+    → size ≡ extent (field (card .words) k) → take size (card .table) ≡ fieldBytes card k
+unfolding field fields
+table-bytes card k size t z r w e =
+    ap (λ (n : ℕ). take n (card .table)) (e ∙ ap (λ (k : ℕ). extent (field (card .words) k)) t ∙ mul-one (2 ^ card .words))
+    ∙ sym (ap (fieldBytes card) t ∙ fieldBytes-table card z r (ap (isWritten card) (sym t) ∙ w))
+
+-- src/write.rt:168:9
+is-written-requires : tie.Need-is-written-requires
+is-written-requires c κs = (c .before .pre .0 .0, range-words (c .before .args .card) (c .before .pre .0 .1))
+
+-- src/write.rt:169:9
+returns : tie.Need-returns
+returns c =
+    let a = c .before .before .before .args in
+    rw (fieldBytes-none (a .card) (a .k) (sym (c .before .is-written .ensures) ∙ not-true _ (c .if1 .taken))) (refl, refl)
+
+-- src/write.rt:171:29
+cast-extent-of : tie.Need-cast-extent-of
+cast-extent-of c = search needs
+
+-- src/write.rt:171:9
+extent-of-requires : tie.Need-extent-of-requires
+extent-of-requires c κs = (c .before .before .before .before .pre .0 .0, range-words (c .before .before .before .before .args .card) (c .before .before .before .before .pre .0 .1))
+
+-- src/write.rt:174:9
+put-table-requires : tie.Need-put-table-requires
+put-table-requires c κs =
+    let a = c .before .before .before .before .before .before .before .before .args in
+    let e = whole (a .card) (a .k) (c .before .before .before .extent-of .result) (c .before .before .before .extent-of .ensures) (sym (c .before .before .before .before .before .before .is-written .ensures) ∙ not-false _ (c .before .before .before .before .before .if1 .left)) in
+    (omega (arith, c .before .before .before .extent-of .ensures, extent-few (a .card .words) (range-words (a .card) (c .before .before .before .before .before .before .before .before .pre .0 .1)) (a .k) (c .before .before .before .before .before .before .before .before .pre .0 .0)), omega (arith, e, c .before .before .before .before .before .before .before .before .pre .1))
+
+-- src/write.rt:175:9
+same-length : tie.Need-same-length
+same-length c = search needs
+
+-- src/write.rt:175:9
+returns-2 : tie.Need-returns-2
+returns-2 c =
+    let a = c .before .before .before .before .before .before .before .before .before .before .before .args in
+    let w = sym (c .before .before .before .before .before .before .before .before .before .is-written .ensures) ∙ not-false _ (c .before .before .before .before .before .before .before .before .if1 .left) in
+    let e = whole (a .card) (a .k) (c .before .before .before .before .before .before .extent-of .result) (c .before .before .before .before .before .before .extent-of .ensures) w in
+    let z : length (a .card .table) ≡ 16 = search needs in (
+      e,
+      c .before .before .put-table .ensures ∙ ap₂ (λ (xs : List ℕ) (n : ℕ). xs ++ drop n (a .part .now))
+          (table-bytes (a .card) (a .k) (c .before .before .before .before .before .before .extent-of .result) (c .before .before .before .before .before .if2 .taken) z (c .before .before .before .before .before .before .before .before .before .before .before .pre .0 .1) w (c .before .before .before .before .before .before .extent-of .ensures)) e,
+    )
+
+-- src/write.rt:177:16
+number-of-requires : tie.Need-number-of-requires
+number-of-requires c κs = search needs
+
+-- src/write.rt:177:5
+put-number-requires : tie.Need-put-number-requires
+put-number-requires c κs =
+    let a = c .before .before .before .before .before .before .before .before .args in
+    omega (arith, whole (a .card) (a .k) (c .before .before .before .extent-of .result) (c .before .before .before .extent-of .ensures) (sym (c .before .before .before .before .before .before .is-written .ensures) ∙ not-false _ (c .before .before .before .before .before .if1 .left)), c .before .before .before .before .before .before .before .before .pre .1)
+
+-- src/write.rt:162:1
+same-length-2 : tie.Need-same-length-2
+same-length-2 c = search needs
+
+-- src/write.rt:162:1
+returns-3 : tie.Need-returns-3
+returns-3 c =
+    let a = c .before .before .before .before .before .before .before .before .before .before .before .args in
+    let w = sym (c .before .before .before .before .before .before .before .before .before .is-written .ensures) ∙ not-false _ (c .before .before .before .before .before .before .before .before .if1 .left) in
+    let e = whole (a .card) (a .k) (c .before .before .before .before .before .before .extent-of .result) (c .before .before .before .before .before .before .extent-of .ensures) w in (
+      e,
+      c .before .before .put-number .ensures ∙ ap₂ (λ (xs : List ℕ) (n : ℕ). xs ++ drop n (a .part .now))
+          (ap (lowFirst (c .before .before .before .before .number-of .result)) (c .before .before .before .before .before .before .extent-of .ensures ∙ ap extent (numeric (a .card .words) (a .k) (c .before .before .before .before .before .before .before .before .before .before .before .pre .0 .0) (c .before .before .before .before .before .if2 .left)) ∙ one-mul _)
+          ∙ sym (fieldBytes-one (a .card) (a .k) (c .before .before .before .before .number-of .result) (c .before .before .before .before .before .before .before .before .before .before .before .pre .0 .0) (c .before .before .before .before .before .if2 .left) (c .before .before .before .before .number-of .ensures) w)) e,
+    )
+
+pub put-field-spec : {M : Type 1} → statement M
+put-field-spec =
+    tie.close
+    (tie.spec
+    is-written-requires
+    returns
+    cast-extent-of
+    extent-of-requires
+    put-table-requires
+    same-length
+    returns-2
+    number-of-requires
+    put-number-requires
+    same-length-2
+    returns-3)

@@ -1,0 +1,79 @@
+use mathlib.Core.Path.{_≡_, refl, sym, ap, _∙_}
+use mathlib.Core.List.{List}
+use Prim.Native.Nat.{ℕ, _-_, _≤_}
+use native.Mathlib.Omega.{arith}
+use borrow.Author.Needs.{needs}
+use lib.ListN.{length, getD, set}
+use Rattle.card.proofs.Lists.{over, over-suc, length-over}
+use Rattle.card.proofs.write.put_table.Statement.{statement}
+use Rattle.card.proofs.write.put_table.Tie as tie
+use Rattle.card.proofs.write.put_table.Reads as reads
+use Rattle.card.proofs.write.put_table.Lts as lts
+
+abbrev Inv-loop : tie.InvT-loop
+Inv-loop size part₀ table i₀ part i = (i ≤ size) × (size ≤ 16) × (size ≤ length part₀) × (length table ≡ 16) × (part ≡ over table part₀ i)
+
+abbrev μ-loop : tie.MeasureT-loop
+μ-loop size part₀ table i₀ part i = size - i
+
+-- src/write.rt:155:5
+loop-holds : tie.Need-loop-holds Inv-loop μ-loop
+loop-holds c = (omega arith, omega arith, omega arith, omega arith, refl)
+
+-- src/write.rt:156:19
+array-read-part : tie.Need-array-read-part Inv-loop μ-loop
+array-read-part c = omega arith
+
+-- src/write.rt:156:9
+slice-write-part : tie.Need-slice-write-part Inv-loop μ-loop
+slice-write-part c =
+    let l = c .before .loop in
+    omega (arith, ap (λ (p : List ℕ). length p) (l .inv .4), length-over (c .before .before .args .t1) (c .before .before .args .part .now) (l .i) (omega arith) (omega arith))
+
+-- src/write.rt:157:9
+add-i : tie.Need-add-i Inv-loop μ-loop
+add-i c = omega arith
+
+-- src/write.rt:155:5
+loop-less : tie.Need-loop-less Inv-loop μ-loop
+loop-less c = omega arith
+
+-- src/write.rt:155:5
+loop-again : tie.Need-loop-again Inv-loop μ-loop
+loop-again c =
+    let l = c .before .loop in
+    let t = c .before .before .args .t1 in (
+      omega arith,
+      omega arith,
+      omega arith,
+      l .inv .3,
+      ap (λ (p : List ℕ). set p (l .i) (getD t (l .i) 0)) (l .inv .4) ∙ over-suc t (c .before .before .args .part .now) (l .i) (omega arith) (omega arith),
+    )
+
+-- src/write.rt:150:1
+same-length : tie.Need-same-length Inv-loop μ-loop
+same-length c =
+    let l = c .before .loop in
+    ap (λ (p : List ℕ). length p) (l .inv .4) ∙ length-over (c .before .before .args .t1) (c .before .before .args .part .now) (l .i) (omega arith) (omega arith)
+
+-- src/write.rt:150:1
+returns : tie.Need-returns Inv-loop μ-loop
+returns c =
+    let l = c .before .loop in
+    let e : l .i ≡ c .before .before .args .size = omega arith in
+    l .inv .4 ∙ ap (over (c .before .before .args .t1) (c .before .before .args .part .now)) e
+
+pub put-table-spec : {M : Type 1} → statement M
+put-table-spec =
+    tie.close
+    (tie.spec
+    Inv-loop
+    μ-loop
+    loop-holds
+    array-read-part
+    slice-write-part
+    add-i
+    loop-less
+    loop-again
+    same-length
+    returns)

@@ -1,0 +1,71 @@
+use mathlib.Core.Path.{_≡_, sym, ap, _∙_}
+use mathlib.Core.List.{List}
+use Prim.Native.Nat.{ℕ, _≤_, _<_}
+use native.Mathlib.Omega.{arith}
+use borrow.Author.Tests.{lt-ltb, le-ltb}
+use lib.ListN.{length}
+use Rattle.card.specs.declared.write.Written.the-variants.{Length}
+use Rattle.card.specs.Writing.{written}
+use Rattle.card.proofs.Writer.{range-words, value-told, room-told, value-range, writing-refused, writing-done}
+use borrow.Author.Needs.{needs}
+use Rattle.card.proofs.write.write.Statement.{statement}
+use Rattle.card.proofs.write.write.Tie as tie
+use Rattle.card.proofs.write.write.Reads as reads
+use Rattle.card.proofs.write.write.Lts as lts
+use Rattle.card.proofs.write.outline_of.Reads as outline-of-reads
+use Rattle.card.proofs.write.put_card.Reads as put-card-reads
+use Rattle.card.proofs.write.value_refusal.Reads as value-refusal-reads
+
+-- src/write.rt:199:9
+value-refusal-requires : tie.Need-value-refusal-requires
+value-refusal-requires c κs = search needs
+
+-- src/write.rt:201:9
+returns : tie.Need-returns
+returns c =
+    let a = c .before .before .before .args in
+    let e = c .before .value-refusal .ensures in
+    writing-refused (a .card) (a .page .now) _ (c .if1 .taken) (value-told (a .card) _ (λ z. c .if1 .taken (e ∙ z)) ∙ sym e)
+
+-- src/write.rt:203:9
+outline-of-requires : tie.Need-outline-of-requires
+outline-of-requires c κs = let card = c .before .before .before .args .card in range-words card (value-range card (sym (c .before .value-refusal .ensures) ∙ c .if1 .left))
+
+-- src/write.rt:205:9
+returns-2 : tie.Need-returns-2
+returns-2 c =
+    let a = c .before .before .before .before .before .before .args in
+    let small : length (a .page .now) < length (written (a .card)) = omega (arith, c .if2 .taken, c .before .before .outline-of .ensures .1) in
+    writing-refused (a .card) (a .page .now) 16 (λ e. absurd (omega arith))
+    (room-told (a .card) _ (sym (c .before .before .before .before .value-refusal .ensures) ∙ c .before .before .before .if1 .left) ∙ simp (lt-ltb _ _ small))
+
+-- src/write.rt:207:5
+put-card-requires : tie.Need-put-card-requires
+put-card-requires c κs =
+    let card = c .before .before .before .before .before .before .before .args .card in
+    ((value-range card (sym (c .before .before .before .before .before .value-refusal .ensures) ∙ c .before .before .before .before .if1 .left), c .before .before .before .outline-of .ensures .0), omega (arith, c .before .if2 .left, c .before .before .before .outline-of .ensures .1))
+
+-- src/write.rt:195:1
+same-length : tie.Need-same-length
+same-length c = search needs
+
+-- src/write.rt:195:1
+returns-3 : tie.Need-returns-3
+returns-3 c =
+    let a = c .before .before .before .before .before .before .before .before .before .before .args in
+    let room : length (written (a .card)) ≤ length (a .page .now) = omega (arith, c .before .before .before .before .if2 .left, c .before .before .before .before .before .before .outline-of .ensures .1) in
+    let d = writing-done (a .card) (a .page .now)
+    (room-told (a .card) _ (sym (c .before .before .before .before .before .before .before .before .value-refusal .ensures) ∙ c .before .before .before .before .before .before .before .if1 .left) ∙ simp (le-ltb _ _ room)) in
+    (ap Length (c .before .before .before .before .before .before .outline-of .ensures .1) ∙ d .0, c .before .before .put-card .ensures ∙ d .1)
+
+pub write-spec : {M : Type 1} → statement M
+write-spec =
+    tie.close
+    (tie.spec
+    value-refusal-requires
+    returns
+    outline-of-requires
+    returns-2
+    put-card-requires
+    same-length
+    returns-3)

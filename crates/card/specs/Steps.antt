@@ -1,0 +1,46 @@
+-- What inner functions of the reader and the writer answer. Only their contracts cite these; the public contracts do without.
+use mathlib.Core.Bool.{Bool, cond, not, _&&_}
+use mathlib.Core.List.{List}
+use Prim.Native.Nat.{ℕ, _/_, _%_, _^_}
+use lib.Dec.{eqb, leb, ltb}
+use lib.ListN.{getD, set}
+use Rattle.card.specs.declared.read.Number.{Number}
+use Rattle.card.specs.declared.read.Number.the-variants.{Value, Refused}
+use Rattle.card.specs.declared.read.Values.{Values}
+use Rattle.card.specs.declared.read.Reading.{Reading}
+use Rattle.cycle.specs.Notation.{tabulate}
+use Rattle.card.specs.Refusals.{firstOf}
+use Rattle.card.specs.Fields.{Field, field, tableBit, extent, numbers}
+use Rattle.card.specs.Reading.{partChecks, padded, noCard}
+
+-- a field of one number at the start of the part
+unfoldable pub numberRead : Field → List ℕ → Number
+numberRead f part = let r = firstOf (partChecks f part) in cond (eqb r 0) (Value (getD (numbers f part) 0 0)) (Refused r)
+
+-- a field's refusal: nothing is used and the values are as they were
+abbrev pub refusedAt : Values → ℕ → Values
+refusedAt v r = record { refusal = r; used = 0; numbers = v .numbers; table = v .table }
+
+-- the values after field k, which stands at the start of the part
+unfoldable pub fieldRead : ℕ → List ℕ → Values → Values
+fieldRead k part v =
+    let f = field (getD (v .numbers) 0 0) k in
+    let r = firstOf (partChecks f part) in
+    let isTable = eqb k tableBit in
+    record {
+      refusal = r;
+      used = cond (eqb r 0) (extent f) 0;
+      numbers = cond (eqb r 0 && not isTable) (set (v .numbers) k (getD (numbers f part) 0 0)) (v .numbers);
+      table = cond (eqb r 0 && isTable) (padded (numbers f part)) (v .table);
+    }
+
+-- whether no table stands between the fields `next` and k, though m is not 4
+abbrev pub missing : ℕ → ℕ → ℕ → Bool
+missing next k m = leb next tableBit && ltb tableBit k && not (eqb m 4)
+
+abbrev pub refusedWith : ℕ → Reading
+refusedWith r = record { refusal = r; card = noCard }
+
+-- the bytes of a number
+unfoldable pub lowFirst : ℕ → ℕ → List ℕ
+lowFirst x size = tabulate size (λ i. x / 256 ^ i % 256)

@@ -1,0 +1,46 @@
+// The fields of a card (document 01, The card), by their bits. SIZE, LEAST, MOST and ABSENT speak of the numeric fields; the table's place in them is not used.
+ghost use mathlib.Core.Path.{_≡_};
+ghost use mathlib.Core.Logic.{_≢_};
+ghost use Prim.Native.Nat.{ℕ, _*_, _^_, _<_, _≤_};
+ghost use lib.Dec.{leb};
+ghost use Rattle.card.specs.Fields.{field, tableBit, extent};
+use super::table::entries;
+
+pub const FIELDS: usize = 8;
+
+pub const WORDS: usize = 0;
+
+pub const WIDTH: usize = 1;
+
+pub const TABLE: usize = 2;
+
+pub const CONSTANT: usize = 5;
+
+pub const SIZE: [usize; FIELDS] = [1, 1, 0, 1, 1, 4, 1, 1];
+
+pub const LEAST: [u32; FIELDS] = [2, 2, 0, 0, 0, 0, 1, 0];
+
+pub const MOST: [u32; FIELDS] = [4, 32, 0, 255, 255, 0xffff_ffff, 2, 1];
+
+pub const ABSENT: [u32; FIELDS] = [4, 32, 0, 1, 2, 0x1248_8421, 1, 1];
+
+// The bytes of field k on a card of m words.
+pub fn extent_of(k: usize, m: u32) -> usize
+    requires { ⌜ (k < 8) × (m ≤ 4) ⌝ }
+    ensures { λ r. ⌜ r ≡ extent (field m k) ⌝ }
+{
+    if k == TABLE {
+        return entries(m);
+    }
+    SIZE[k]
+}
+
+// Whether a constant needs more bits than the width has: condition 6.
+pub fn exceeds(constant: u32, width: u32) -> bool
+    ensures { λ r. ⌜ r ≡ leb (2 ^ width) constant ⌝ }
+{
+    if width < 32 {
+        return 1 << width <= constant;
+    }
+    false
+}

@@ -1,0 +1,242 @@
+// Reading a card: refusals 1 to 6, and the eight values.
+ghost use mathlib.Core.Path.{_≡_};
+ghost use mathlib.Core.Logic.{_≢_};
+ghost use mathlib.Core.List.{List};
+ghost use Prim.Native.Nat.{ℕ, _+_, _*_, _<_, _≤_};
+ghost use lib.ListN.{length, getD};
+ghost use Rattle.card.specs.Fields.{field, tableBit, numbers};
+ghost use Rattle.card.specs.Reading.{cardFrom, noCard, reading};
+ghost use Rattle.card.specs.Steps.{numberRead, refusedAt, fieldRead, missing, refusedWith};
+use super::field::ABSENT;
+use super::field::CONSTANT;
+use super::field::FIELDS;
+use super::field::LEAST;
+use super::field::MOST;
+use super::field::SIZE;
+use super::field::TABLE;
+use super::field::WIDTH;
+use super::field::WORDS;
+use super::field::exceeds;
+use super::refusal::CONSTANT_TOO_WIDE;
+use super::refusal::OUT_OF_RANGE;
+use super::refusal::REDUNDANT;
+use super::refusal::TABLE_MISSING;
+use super::refusal::TRAILING_BYTES;
+use super::refusal::TRUNCATED;
+use super::table::TSC1_TABLE;
+use super::table::entries;
+use super::table::entries_allowed;
+use super::table::is_tsc1;
+use super::table::table_from;
+use tsc::Card;
+use tsc::TABLE_SIZE;
+
+// What the reader answers: 0 and the card's values, or the refusal.
+pub struct Reading {
+    pub refusal: u8,
+    pub card: Card,
+}
+
+// What the reader of a numeric field answers.
+enum Number {
+    Value(u32),
+    Refused(u8),
+}
+
+// What a field's reader hands on: the refusal or 0, the bytes that it used, and the values so far, the numbers by their bits.
+struct Values {
+    refusal: u8,
+    used: usize,
+    numbers: [u32; FIELDS],
+    table: [u8; TABLE_SIZE],
+}
+
+// Four bytes as a number, low byte first.
+fn low_first(a: u8, b: u8, c: u8, d: u8) -> u32
+    ensures { λ r. ⌜ r ≡ a + b * 256 + c * 65536 + d * 16777216 ⌝ }
+{
+    a as u32 + b as u32 * 256 + c as u32 * 65536 + d as u32 * 16777216
+}
+
+// The number of field k at the start of the part.
+fn number_at(k: usize, part: &[u8]) -> u32
+    requires { ⌜ (k < 8) × (k ≢ tableBit) ⌝ }
+    requires { ⌜ field 4 k .size ≤ length (now part) ⌝ }
+    ensures { λ r. ⌜ r ≡ getD (numbers (field 4 k) (now (part .entry))) 0 0 ⌝ }
+{
+    if k == CONSTANT {
+        return low_first(part[0], part[1], part[2], part[3]);
+    }
+    part[0] as u32
+}
+
+// Field k, which is not the table, at the start of the part.
+fn read_number(k: usize, part: &[u8]) -> Number
+    requires { ⌜ (k < 8) × (k ≢ tableBit) ⌝ }
+    ensures { λ r. ⌜ r ≡ numberRead (field 4 k) (now (part .entry)) ⌝ }
+{
+    if part.len() < SIZE[k] {
+        return Number::Refused(TRUNCATED);
+    }
+    let v = number_at(k, part);
+    if v < LEAST[k] {
+        return Number::Refused(OUT_OF_RANGE);
+    }
+    if MOST[k] < v {
+        return Number::Refused(OUT_OF_RANGE);
+    }
+    if v == ABSENT[k] {
+        return Number::Refused(REDUNDANT);
+    }
+    Number::Value(v)
+}
+
+// A field's refusal, with the values as they were.
+fn refused_at(v: Values, refusal: u8) -> Values
+    ensures { λ r. ⌜ r ≡ refusedAt v refusal ⌝ }
+{
+    let mut out = v;
+    out.refusal = refusal;
+    out.used = 0;
+    out
+}
+
+// The table at the start of the part.
+fn read_table(part: &[u8], v: Values) -> Values
+    requires { ⌜ getD (v .numbers) 0 0 ≤ 4 ⌝ }
+    ensures { λ r. ⌜ r ≡ fieldRead tableBit (now (part .entry)) v ⌝ }
+{
+    let m = v.numbers[WORDS];
+    let size = entries(m);
+    if part.len() < size {
+        return refused_at(v, TRUNCATED);
+    }
+    let table = table_from(part, size);
+    if !entries_allowed(table, m) {
+        return refused_at(v, OUT_OF_RANGE);
+    }
+    if is_tsc1(table, m) {
+        return refused_at(v, REDUNDANT);
+    }
+    let numbers = v.numbers;
+    Values {
+        refusal: 0,
+        used: size,
+        numbers: numbers,
+        table: table,
+    }
+}
+
+// Field k at the start of the part.
+fn read_field(k: usize, part: &[u8], v: Values) -> Values
+    requires { ⌜ (k < 8) × (getD (v .numbers) 0 0 ≤ 4) ⌝ }
+    ensures { λ r. ⌜ r ≡ fieldRead k (now (part .entry)) v ⌝ }
+    ensures { λ r. ⌜ r .used ≤ length (now (part .entry)) ⌝ }
+{
+    if k == TABLE {
+        return read_table(part, v);
+    }
+    match read_number(k, part) {
+        Number::Value(x) => {
+            let mut out = v;
+            out.refusal = 0;
+            out.used = SIZE[k];
+            out.numbers[k] = x;
+            out
+        }
+        Number::Refused(r) => refused_at(v, r),
+    }
+}
+
+// Whether no table stands between the fields `next` and k, though m is not 4.
+fn table_missing(next: usize, k: usize, m: u32) -> bool
+    ensures { λ r. ⌜ r ≡ missing next k m ⌝ }
+{
+    if next <= TABLE {
+        if TABLE < k {
+            return m != 4;
+        }
+    }
+    false
+}
+
+// A refusal, with the card that goes with it.
+fn refused(refusal: u8) -> Reading
+    ensures { λ r. ⌜ r ≡ refusedWith refusal ⌝ }
+{
+    Reading {
+        refusal: refusal,
+        card: Card {
+            words: 0,
+            width: 0,
+            table: [0; TABLE_SIZE],
+            odd_power: 0,
+            even_power: 0,
+            constant: 0,
+            filter: 0,
+            sum_term: 0,
+        },
+    }
+}
+
+// The card of these values.
+fn card_of(v: Values) -> Card
+    requires { ⌜ ((k : ℕ) → k < 8 → k ≢ tableBit → k ≢ 5 → getD (v .numbers) k 0 < 256) ⌝ }
+    ensures { λ r. ⌜ r ≡ cardFrom (λ k. getD (v .numbers) k 0) (v .table) ⌝ }
+{
+    let table = v.table;
+    Card {
+        words: v.numbers[WORDS] as u8,
+        width: v.numbers[WIDTH] as u8,
+        table: table,
+        odd_power: v.numbers[3] as u8,
+        even_power: v.numbers[4] as u8,
+        constant: v.numbers[CONSTANT],
+        filter: v.numbers[6] as u8,
+        sum_term: v.numbers[7] as u8,
+    }
+}
+
+// Any bytes as a card: 0 and the eight values, or the first of refusals 1 to 6 that applies.
+pub fn read(card: &[u8]) -> Reading
+    ensures { λ r. ⌜ r ≡ reading (now (card .entry)) ⌝ }
+{
+    if card.len() == 0 {
+        return refused(TRUNCATED);
+    }
+    let mut v = Values {
+        refusal: 0,
+        used: 0,
+        numbers: ABSENT,
+        table: TSC1_TABLE,
+    };
+    let mut left = card[0];
+    let mut next: usize = 0;
+    let mut at: usize = 1;
+    for _ in 0..u8::count_ones(left) {
+        let k = u8::trailing_zeros(left) as usize;
+        if table_missing(next, k, v.numbers[WORDS]) {
+            return refused(TABLE_MISSING);
+        }
+        v = read_field(k, &card[at..], v);
+        if v.refusal != 0 {
+            return refused(v.refusal);
+        }
+        at += v.used;
+        next = k + 1;
+        left = left & (left - 1);
+    }
+    if table_missing(next, FIELDS, v.numbers[WORDS]) {
+        return refused(TABLE_MISSING);
+    }
+    if at < card.len() {
+        return refused(TRAILING_BYTES);
+    }
+    if exceeds(v.numbers[CONSTANT], v.numbers[WIDTH]) {
+        return refused(CONSTANT_TOO_WIDE);
+    }
+    Reading {
+        refusal: 0,
+        card: card_of(v),
+    }
+}

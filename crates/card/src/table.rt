@@ -1,0 +1,110 @@
+// The table of a card: 2^m entries and, past them, zeros.
+ghost use mathlib.Core.Path.{_≡_};
+ghost use Prim.Native.Nat.{ℕ, _^_, _<_, _≤_};
+ghost use lib.ListN.{length, getD, take};
+ghost use Rattle.cycle.specs.Cycle.{firstReturn};
+ghost use Rattle.tsc.specs.Constants.{tsc1Table};
+ghost use Rattle.card.specs.Fields.{field, tableBit, allowed, same};
+ghost use Rattle.card.specs.Reading.{padded};
+ghost use Rattle.card.specs.Writing.{unusedClear};
+use tsc::TABLE_SIZE;
+
+// TSC-1's table, document 002 (14).
+pub const TSC1_TABLE: [u8; TABLE_SIZE] = [3, 5, 9, 13, 1, 6, 11, 15, 4, 0, 8, 14, 10, 7, 2, 12];
+
+// 2^m, the entries of a table.
+pub fn entries(m: u32) -> usize
+    requires { ⌜ m ≤ 4 ⌝ }
+    ensures { λ r. ⌜ r ≡ 2 ^ m ⌝ }
+{
+    1 << m
+}
+
+fn wide(x: u8) -> usize
+    ensures { λ r. ⌜ r ≡ x ⌝ }
+{
+    x as usize
+}
+
+// The table of the first `size` bytes of the part, filled in one by one.
+pub fn table_from(part: &[u8], size: usize) -> [u8; TABLE_SIZE]
+    requires { ⌜ (size ≤ 16) × (size ≤ length (now part)) ⌝ }
+    ensures { λ r. ⌜ r ≡ padded (take size (now (part .entry))) ⌝ }
+{
+    let mut table = [0; TABLE_SIZE];
+    let mut i = 0;
+    while i < size {
+        table[i] = part[i];
+        i += 1;
+    }
+    table
+}
+
+// Whether each used entry is below 2^m.
+pub fn entries_allowed(table: [u8; TABLE_SIZE], m: u32) -> bool
+    requires { ⌜ m ≤ 4 ⌝ }
+    ensures { λ r. ⌜ r ≡ allowed (field m tableBit) (take (2 ^ m) table) ⌝ }
+{
+    let size = entries(m);
+    let mut i = 0;
+    while i < size {
+        if size <= wide(table[i]) {
+            return false;
+        }
+        i += 1;
+    }
+    true
+}
+
+// Whether it is TSC-1's table.
+pub fn is_tsc1(table: [u8; TABLE_SIZE], m: u32) -> bool
+    requires { ⌜ m ≤ 4 ⌝ }
+    ensures { λ r. ⌜ r ≡ same (take (2 ^ m) table) tsc1Table ⌝ }
+{
+    if m != 4 {
+        return false;
+    }
+    let mut i = 0;
+    while i < TABLE_SIZE {
+        if table[i] != TSC1_TABLE[i] {
+            return false;
+        }
+        i += 1;
+    }
+    true
+}
+
+// Whether the entries past 2^m are 0.
+pub fn unused_clear(table: [u8; TABLE_SIZE], m: u32) -> bool
+    requires { ⌜ m ≤ 4 ⌝ }
+    ensures { λ r. ⌜ r ≡ unusedClear m table ⌝ }
+{
+    let mut i = entries(m);
+    while i < TABLE_SIZE {
+        if table[i] != 0 {
+            return false;
+        }
+        i += 1;
+    }
+    true
+}
+
+// The table followed from 0: the number of steps until 0 returns, or 0 if it does not within `size`.
+pub fn first_return(table: [u8; TABLE_SIZE], size: usize) -> usize
+    requires { ⌜ (0 < size) × (size ≤ 16) ⌝ }
+    requires { ⌜ ((y : ℕ) → y < size → getD table y 0 < size) ⌝ }
+    ensures { λ r. ⌜ r ≡ firstReturn (λ y. getD table y 0) size ⌝ }
+{
+    let mut x = table[0];
+    let mut steps: usize = 1;
+    loop {
+        if size < steps {
+            break 0;
+        }
+        if x == 0 {
+            break steps;
+        }
+        x = table[x as usize];
+        steps += 1;
+    }
+}
