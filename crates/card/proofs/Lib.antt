@@ -1,13 +1,5 @@
--- What is proved of cards.
-pub mod Refusals
-pub mod Lists
-pub mod Fields
+-- Laws for the reader and the writer.
 pub mod Map
 pub mod Steps
-pub mod Sound
 pub mod Reader
-pub mod Verdict
-pub mod Bytes
 pub mod Writer
-pub mod RoundTrip
-pub mod Examples

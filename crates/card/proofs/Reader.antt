@@ -2,9 +2,9 @@
 use mathlib.Core.Path.{_≡_, refl, sym, ap, ap₂, _∙_, subst}
 use mathlib.Core.Logic.{_≢_}
 use mathlib.Core.Bool.{Bool, true, false, cond, not, _&&_, and-eq-true-iff, and-false}
-use mathlib.Core.List.{List, [], _∷_, _++_}
+use mathlib.Core.List.{List, _++_}
 use Prim.Native.Nat.{ℕ, zero, suc, _+_, _-_, _^_, _≤_, _<_}
-use native.Mathlib.Nat.{add-assoc, add-zero, le-refl}
+use native.Mathlib.Nat.{add-zero, le-refl}
 use native.Mathlib.Decide.{ℕ-discrete, le-ind}
 use native.Mathlib.Numerals.{add-one}
 use native.Mathlib.Omega.{arith}
@@ -13,19 +13,19 @@ use lib.Bits.{bitAnd}
 use lib.Count.{trailingZeros, trailing-le}
 use lib.Dec.{eqb, leb, ltb}
 use lib.ListN.{length, getD, set, drop, length-drop}
-use lib.Seq.{getD-set-same, getD-set-other}
+use lib.Seq.{getD-set-other}
 use Rattle.cycle.specs.Notation.{sum, bit}
 use Rattle.tsc.specs.Constants.{tsc1Table}
 use Rattle.card.specs.declared.read.Values.{Values}
-use Rattle.card.specs.Refusals.{Check, check, firstOf, NoneApplies, tableMissing}
-use Rattle.card.specs.Fields.{Field, field, fields, tableBit, extent, numbers}
-use Rattle.card.specs.Reading.{reading, present, offset, valuesAt, wordsOf, values, value, padded, cardFrom, cardOf, partChecks, fieldChecks, checksTo, formChecks, SoundForm}
+use Rattle.card_format.specs.Refusals.{Check, firstOf, NoneApplies}
+use Rattle.card_format.specs.Fields.{Field, field, fields, tableBit, numbers}
+use Rattle.card_format.specs.Reading.{reading, present, offset, valuesAt, wordsOf, values, value, padded, cardFrom, cardOf, partChecks, fieldChecks, checksTo, formChecks, SoundForm}
 use Rattle.card.specs.Steps.{fieldRead, missing, refusedWith}
-use Rattle.card.proofs.Lists.{set-own}
-use Rattle.card.proofs.Refusals.{first-none, none-first, first-append, first-left, none-append}
-use Rattle.card.proofs.Fields.{allowed-at, field-fixed, each, absents, numeric}
+use Rattle.card_format.proofs.Lists.{set-own}
+use Rattle.card_format.proofs.Refusals.{none-first, first-append, first-left, none-append}
+use Rattle.card_format.proofs.Fields.{allowed-at, field-fixed, each, absents, numeric}
 use Rattle.card.proofs.Map.{Left, lowest-one, left-none, next-field}
-use Rattle.card.proofs.Sound.{fields-none, none-fitting, value-words, sound-value}
+use Rattle.card_format.proofs.Sound.{offset-suc, fields-none, none-fitting, value-words, sound-value}
 use Rattle.card.proofs.Steps.{used-fits}
 
 -- the numbers and the table, once the fields before field k are read
@@ -99,10 +99,6 @@ table-absent bytes k a = go (ℕ-discrete k tableBit)
     go (no ne) = simp (ne-eqb k tableBit ne)
 
 -- ---- from field to field
-
-offset-suc : (m : ℕ) (bytes : List ℕ) (k : ℕ) → offset m bytes (suc k) ≡ offset m bytes k + cond (present bytes k) (extent (field m k)) 0
-unfolding offset sum
-offset-suc m bytes k = sym (add-assoc 1 _ _)
 
 -- before field 0 stands the map
 pub reached-map : (bytes : List ℕ) (v : Values) → 0 < length bytes → v .numbers ≡ absents → v .table ≡ tsc1Table → Reached bytes 0 1 v

@@ -1,20 +1,20 @@
 -- What the field readers' answers say.
 use mathlib.Core.Path.{_≡_, refl, sym, ap, _∙_}
 use mathlib.Core.Bool.{Bool, true, false, cond}
-use mathlib.Core.List.{List, [], _∷_}
+use mathlib.Core.List.{List}
 use Prim.Native.Nat.{ℕ, _≤_}
 use native.Mathlib.Decide.{ℕ-discrete}
 use native.Mathlib.Omega.{arith}
-use borrow.Author.Tests.{eq-eqb, ne-eqb, eqb-true, ltb-false}
+use borrow.Author.Tests.{eq-eqb, ne-eqb, ltb-false}
 use lib.Dec.{eqb}
 use lib.ListN.{length, getD}
 use Rattle.card.specs.declared.read.Number.{Number}
 use Rattle.card.specs.declared.read.Number.the-variants.{Value, Refused}
 use Rattle.card.specs.declared.read.Values.{Values}
-use Rattle.card.specs.Refusals.{firstOf, NoneApplies}
-use Rattle.card.specs.Fields.{Field, field, tableBit, extent, numbers}
-use Rattle.card.specs.Reading.{partChecks}
-use Rattle.card.proofs.Refusals.{none-first}
+use Rattle.card_format.specs.Refusals.{firstOf, NoneApplies}
+use Rattle.card_format.specs.Fields.{Field, field, extent, numbers}
+use Rattle.card_format.specs.Reading.{partChecks}
+use Rattle.card_format.proofs.Refusals.{none-first}
 use Rattle.card.specs.Steps.{numberRead, fieldRead}
 
 isValue : Number → Bool

@@ -1,183 +1,29 @@
--- For the writer: the numbers of a card by the arrays of the fields, its range, and the fields' bytes.
-use mathlib.Core.Path.{_≡_, refl, sym, ap, ap₂, _∙_}
+-- For the writer: the bytes of a field of one number.
+use mathlib.Core.Path.{_≡_, ap, ap₂, _∙_}
 use mathlib.Core.Logic.{_≢_}
-use mathlib.Core.Bool.{Bool, true, false, cond, not, _&&_, and-eq-true-iff, and-true}
-use mathlib.Core.List.{List, [], _∷_, _++_}
-use Prim.Native.Nat.{ℕ, zero, suc, _+_, _*_, _/_, _%_, _^_, _≤_, _<_}
-use native.Mathlib.Decide.{le-ind}
-use native.Mathlib.Nat.{le-refl, one-mul, mul-one, div-one, mod-one, div-eq-of-lt, mod-eq-of-lt}
-use native.Mathlib.Numerals.{add-one}
-use native.Mathlib.Omega.{arith}
-use borrow.Author.Tests.{ne-eqb, not-false}
-use lib.Dec.{eqb, leb, ltb}
-use lib.ListN.{length, getD, take, drop, length-append}
-use lib.Pow.{pow-pos}
-use lib.Seq.{length-take-le, getD-take, take-all}
-use Rattle.cycle.specs.Notation.{every, tabulate}
-use Rattle.cycle.proofs.Digits.{tabulate-ext, tabulate-getD}
-use Rattle.cycle.proofs.Every.{every-at}
+use mathlib.Core.Bool.{true}
+use mathlib.Core.List.{[], _∷_}
+use Prim.Native.Nat.{ℕ, _/_, _%_, _^_, _<_}
+use native.Mathlib.Nat.{one-mul, div-eq-of-lt, mod-eq-of-lt}
+use lib.ListN.{getD}
+use Rattle.cycle.specs.Notation.{tabulate}
+use Rattle.cycle.proofs.Digits.{tabulate-ext}
 use Rattle.tsc.specs.declared.Card.{Card}
-use Rattle.tsc.specs.Constants.{mostWords}
-use Rattle.tsc.specs.Coverage.{WellFormed}
-use Rattle.card.specs.declared.write.Written.the-variants.{Length, Refused}
-use Rattle.card.specs.Refusals.{firstOf, NoneApplies}
-use Rattle.card.specs.Fields.{Field, fields, field, tableBit, extent, bytesOf, allowed, same}
-use Rattle.card.specs.Writing.{numbersOf, isWritten, fieldBytes, writtenTo, written, inRange, valueChecks, writeChecks, writing, pageAfter}
-use Rattle.card.specs.Steps.{lowFirst}
-use Rattle.card.proofs.Refusals.{none-first, first-append, first-left}
-use Rattle.card.proofs.Fields.{allowed-at, each, leasts, mosts, absents, sizes, numeric, few-entries}
-use Rattle.card.proofs.Bytes.{cond-le, length-cond, length-bytesOf}
-
--- ---- one number in each field but the table
-
--- the numbers of a card by their bits, as the code has them
-abbrev pub numbersArray : Card → List ℕ
-numbersArray card =
-    card .words ∷ card .width ∷ 0 ∷ card .«odd_power» ∷ card .«even_power» ∷ card .constant ∷ card .filter ∷ card .«sum_term» ∷ []
-
-pub numbersOf-one : (card : Card) (k : ℕ) → k < 8 → k ≢ tableBit → numbersOf card k ≡ getD (numbersArray card) k 0 ∷ []
-unfolding numbersOf
-numbersOf-one card =
-    each (λ (k : ℕ). k ≢ tableBit → numbersOf card k ≡ getD (numbersArray card) k 0 ∷ []) (λ n. refl) (λ n. refl) (λ n. absurd (n refl)) (λ n. refl)
-    (λ n. refl) (λ n. refl) (λ n. refl) (λ n. refl)
-
-pub allowed-one : (m k x : ℕ) → k < 8 → k ≢ tableBit → allowed (field m k) (x ∷ []) ≡ (leb (getD leasts k 0) x && leb x (getD mosts k 0))
-unfolding allowed
-allowed-one m k x l ne = rw (numeric m k l ne) (and-true _)
-
-pub absent-one : (m k x : ℕ) → k < 8 → k ≢ tableBit → same (x ∷ []) (field m k .absent) ≡ eqb x (getD absents k 0)
-unfolding same
-absent-one m k x l ne = rw (numeric m k l ne) (and-true _)
-
--- ---- a card in range
-
-pub words-allowed : (card : Card) → allowed (field (card .words) 0) (numbersOf card 0) ≡ true → card .words ≤ mostWords
-unfolding numbersOf field fields
-words-allowed card h = allowed-at (field (card .words) 0) (numbersOf card 0) h 0 (omega arith) .1
-
--- each number of a card in range is within its field's bounds
-range-at : (card : Card) → inRange card ≡ true → (k : ℕ) → k < 8 → (i : ℕ) → i < length (numbersOf card k)
-    → (field (card .words) k .least ≤ getD (numbersOf card k) i 0) × (getD (numbersOf card k) i 0 ≤ field (card .words) k .most)
-unfolding inRange
-range-at card r k l = allowed-at (field (card .words) k) (numbersOf card k) (every-at 8 _ (and-eq-true-iff _ _ .0 r .0) k l)
-
-pub range-words : (card : Card) → inRange card ≡ true → card .words ≤ mostWords
-unfolding inRange
-range-words card r = words-allowed card (every-at 8 _ (and-eq-true-iff _ _ .0 r .0) 0 (omega arith))
-
-pub range-formed : (card : Card) → length (card .table) ≡ 2 ^ mostWords → inRange card ≡ true → WellFormed card × (card .words ≤ mostWords)
-unfolding numbersOf field fields
-range-formed card z r =
-    let w = range-at card r 0 (omega arith) 0 (omega arith) in
-    let room : 2 ^ card .words ≤ length (card .table) = omega (arith, few-entries (card .words) (w .1)) in (
-      record {
-        words = w .0;
-        width = range-at card r 1 (omega arith) 0 (omega arith) .0;
-        entries = λ y l. let t = range-at card r tableBit (omega arith) y (omega (arith, length-take-le (2 ^ card .words) (card .table) room)) in
-            omega (arith, t .1, getD-take (2 ^ card .words) (card .table) y 0 l, pow-pos (card .words));
-      },
-      w .1,
-    )
-
--- ---- the bytes of a field
-
--- byte p of numbers of `size` bytes
-abbrev byteAt : ℕ → List ℕ → ℕ → ℕ
-byteAt size xs p = getD xs (p / size) 0 / 256 ^ (p % size) % 256
+use Rattle.card_format.specs.Fields.{Field, field, tableBit, bytesOf}
+use Rattle.card_format.specs.Writing.{numbersOf, isWritten, fieldBytes}
+use Rattle.card_format.proofs.Fields.{sizes, numeric}
+use Rattle.card_format.proofs.Writing.{byteAt}
+use Rattle.card.specs.Steps.{lowBytes}
 
 -- a number's bytes are its digits
-pub bytesOf-one : (m k x : ℕ) → k < 8 → k ≢ tableBit → bytesOf (field m k) (x ∷ []) ≡ lowFirst x (getD sizes k 0)
-unfolding bytesOf lowFirst
+pub bytesOf-one : (m k x : ℕ) → k < 8 → k ≢ tableBit → bytesOf (field m k) (x ∷ []) ≡ lowBytes x (getD sizes k 0)
+unfolding bytesOf lowBytes
 bytesOf-one m k x l ne =
     let s = getD sizes k 0 in
     ap (λ (f : Field). bytesOf f (x ∷ [])) (numeric m k l ne) ∙ ap (λ (n : ℕ). tabulate n (byteAt s (x ∷ []))) (one-mul s)
     ∙ tabulate-ext s (byteAt s (x ∷ [])) (λ i. x / 256 ^ i % 256) (λ p lp. ap₂ (λ (q r : ℕ). getD (x ∷ []) q 0 / 256 ^ r % 256) (div-eq-of-lt lp) (mod-eq-of-lt lp))
 
--- a table's are its entries
-pub bytesOf-table : (m : ℕ) (xs : List ℕ) → length xs ≡ 2 ^ m → ((i : ℕ) → i < 2 ^ m → getD xs i 0 < 256) → bytesOf (field m tableBit) xs ≡ xs
-unfolding bytesOf field fields
-bytesOf-table m xs z h =
-    ap (λ (n : ℕ). tabulate n (byteAt 1 xs)) (mul-one (2 ^ m))
-    ∙ tabulate-ext (2 ^ m) (byteAt 1 xs) (λ i. getD xs i 0) (λ i l. rw (div-one i, mod-one i, div-one) (mod-eq-of-lt (h i l)))
-    ∙ tabulate-getD (2 ^ m) xs (omega arith) ∙ take-all (2 ^ m) xs (omega arith)
-
-pub fieldBytes-table : (card : Card) → length (card .table) ≡ 2 ^ mostWords → inRange card ≡ true → isWritten card tableBit ≡ true
-    → fieldBytes card tableBit ≡ take (2 ^ card .words) (card .table)
-unfolding fieldBytes numbersOf
-fieldBytes-table card z r w =
-    let f = range-formed card z r in
-    let few = few-entries (card .words) (f .1) in
-    let n = 2 ^ card .words in
-    rw w
-    (bytesOf-table (card .words) (take n (card .table)) (length-take-le n (card .table) (omega arith))
-    (λ i l. omega (arith, getD-take n (card .table) i 0 l, f .0 .entries i l)))
-
-pub fieldBytes-none : (card : Card) (k : ℕ) → isWritten card k ≡ false → fieldBytes card k ≡ []
-unfolding fieldBytes
-fieldBytes-none card k w = rw w refl
-
 pub fieldBytes-one : (card : Card) (k x : ℕ) → k < 8 → k ≢ tableBit → numbersOf card k ≡ x ∷ [] → isWritten card k ≡ true
-    → fieldBytes card k ≡ lowFirst x (getD sizes k 0)
+    → fieldBytes card k ≡ lowBytes x (getD sizes k 0)
 unfolding fieldBytes
 fieldBytes-one card k x l ne e w = rw (w, e) (bytesOf-one (card .words) k x l ne)
-
--- ---- how many they are
-
-pub extent-few : (m : ℕ) → m ≤ mostWords → (k : ℕ) → k < 8 → extent (field m k) ≤ 16
-unfolding field fields
-extent-few m h =
-    each (λ (k : ℕ). extent (field m k) ≤ 16) (omega arith) (omega arith) (omega (arith, few-entries m h)) (omega arith) (omega arith) (omega arith)
-    (omega arith) (omega arith)
-
-pub length-fieldBytes : (card : Card) (k : ℕ) → length (fieldBytes card k) ≡ cond (isWritten card k) (extent (field (card .words) k)) 0
-unfolding fieldBytes
-length-fieldBytes card k = length-cond (isWritten card k) _ ∙ ap (λ (n : ℕ). cond (isWritten card k) n 0) (length-bytesOf (field (card .words) k) _)
-
-pub fieldBytes-few : (card : Card) (k : ℕ) → k < 8 → card .words ≤ mostWords → length (fieldBytes card k) ≤ 16
-fieldBytes-few card k l h =
-    omega (arith, length-fieldBytes card k, cond-le (isWritten card k) (extent (field (card .words) k)), extent-few (card .words) h k l)
-
-abbrev pub lengthTo : Card → ℕ → ℕ
-lengthTo card k = length (writtenTo card k)
-
-pub length-suc : (card : Card) (k : ℕ) → lengthTo card (k + 1) ≡ lengthTo card k + length (fieldBytes card k)
-unfolding writtenTo
-length-suc card k = ap (lengthTo card) (add-one k) ∙ length-append (writtenTo card k) (fieldBytes card k)
-
-pub writtenTo-suc : (card : Card) (k : ℕ) → writtenTo card (k + 1) ≡ writtenTo card k ++ fieldBytes card k
-unfolding writtenTo
-writtenTo-suc card k = ap (writtenTo card) (add-one k)
-
-pub length-before : (card : Card) (k n : ℕ) → k ≤ n → lengthTo card k ≤ lengthTo card n
-length-before card k n h =
-    le-ind (λ (j : ℕ). lengthTo card k ≤ lengthTo card j) (le-refl _) (λ j g ih. omega (arith, ih, length-suc card j, ap (lengthTo card) (add-one j))) n h
-
-pub length-some : (card : Card) (k : ℕ) → 0 < lengthTo card k
-unfolding writtenTo
-length-some card k = omega (arith, length-before card 0 k (omega arith))
-
--- ---- what the writer answers
-
--- a refusal of the values is told whatever the room is
-pub value-told : (card : Card) (room : ℕ) → firstOf (valueChecks card) ≢ 0 → firstOf (writeChecks card room) ≡ firstOf (valueChecks card)
-unfolding writeChecks
-value-told card room ne = first-left (valueChecks card) _ ne
-
--- where there is none, the room decides
-pub room-told : (card : Card) (room : ℕ) → firstOf (valueChecks card) ≡ 0 → firstOf (writeChecks card room) ≡ cond (ltb room (length (written card))) 16 0
-unfolding writeChecks firstOf
-room-told card room z = first-append (valueChecks card) _ (none-first (valueChecks card) z)
-
-pub value-range : (card : Card) → firstOf (valueChecks card) ≡ 0 → inRange card ≡ true
-unfolding valueChecks NoneApplies
-value-range card z = not-false (inRange card) (none-first (valueChecks card) z .0)
-
-pub writing-refused : (card : Card) (page : List ℕ) (r : ℕ) → r ≢ 0 → firstOf (writeChecks card (length page)) ≡ r
-    → (Refused r ≡ writing card (length page)) × (page ≡ pageAfter card page)
-unfolding writing pageAfter
-writing-refused card page r ne e = rw (e, ne-eqb r 0 ne) (refl, refl)
-
-pub writing-done : (card : Card) (page : List ℕ) → firstOf (writeChecks card (length page)) ≡ 0
-    → (Length (length (written card)) ≡ writing card (length page)) × (written card ++ drop (length (written card)) page ≡ pageAfter card page)
-unfolding writing pageAfter
-writing-done card page e = rw e (refl, refl)

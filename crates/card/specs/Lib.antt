@@ -1,8 +1,2 @@
--- Cards as document 01 has them: refusals, fields, what bytes mean, which are accepted, what the writer writes, the P rows.
-pub mod Refusals
-pub mod Fields
-pub mod Reading
-pub mod Verdict
-pub mod Writing
+-- What inner functions answer; the public contracts cite the definitions of crate card_format alone.
 pub mod Steps
-pub mod Examples

@@ -7,11 +7,11 @@ use lib.ListN.{getD, set}
 use Rattle.card.specs.declared.read.Number.{Number}
 use Rattle.card.specs.declared.read.Number.the-variants.{Value, Refused}
 use Rattle.card.specs.declared.read.Values.{Values}
-use Rattle.card.specs.declared.read.Reading.{Reading}
+use Rattle.card_format.specs.declared.Reading.{Reading}
 use Rattle.cycle.specs.Notation.{tabulate}
-use Rattle.card.specs.Refusals.{firstOf}
-use Rattle.card.specs.Fields.{Field, field, tableBit, extent, numbers}
-use Rattle.card.specs.Reading.{partChecks, padded, noCard}
+use Rattle.card_format.specs.Refusals.{firstOf}
+use Rattle.card_format.specs.Fields.{Field, field, tableBit, extent, numbers}
+use Rattle.card_format.specs.Reading.{partChecks, padded, noCard}
 
 -- a field of one number at the start of the part
 unfoldable pub numberRead : Field → List ℕ → Number
@@ -42,5 +42,5 @@ abbrev pub refusedWith : ℕ → Reading
 refusedWith r = record { refusal = r; card = noCard }
 
 -- the bytes of a number
-unfoldable pub lowFirst : ℕ → ℕ → List ℕ
-lowFirst x size = tabulate size (λ i. x / 256 ^ i % 256)
+unfoldable pub lowBytes : ℕ → ℕ → List ℕ
+lowBytes x size = tabulate size (λ i. x / 256 ^ i % 256)

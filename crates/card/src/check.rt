@@ -4,15 +4,12 @@ ghost use mathlib.Core.Logic.{_↔_};
 ghost use mathlib.Core.List.{List};
 ghost use Prim.Native.Nat.{ℕ, _≤_};
 ghost use Rattle.tsc.specs.Coverage.{IsState, Covers, WellFormed};
-ghost use Rattle.card.specs.Refusals.{firstOf};
-ghost use Rattle.card.specs.Reading.{cardOf, SoundForm};
-ghost use Rattle.card.specs.Verdict.{periodChecks, verdict};
-use super::read::read;
-use super::refusal::EVEN_CONSTANT;
-use super::refusal::NOT_SINGLE_CYCLE;
-use super::refusal::POWER_PARITY;
-use super::table::entries;
-use super::table::first_return;
+ghost use Rattle.card_format.specs.Refusals.{firstOf};
+ghost use Rattle.card_format.specs.Reading.{cardOf, SoundForm};
+ghost use Rattle.card_format.specs.Verdict.{periodChecks, verdict};
+use super::read;
+use super::table;
+use card_format::refusal;
 use tsc::Card;
 
 // The first of refusals 7 to 9 that applies to a card's values, or 0. The check and the writer call it once refusals 1 to 6 are ruled out.
@@ -20,19 +17,19 @@ pub fn period_refusal(card: Card) -> u8
     requires { ⌜ WellFormed card × (card .words ≤ 4) ⌝ }
     ensures { λ r. ⌜ r ≡ firstOf (periodChecks card) ⌝ }
 {
-    let size = entries(card.words as u32);
+    let size = table::entries(card.words as u32);
     let table = card.table;
-    if first_return(table, size) != size {
-        return NOT_SINGLE_CYCLE;
+    if table::first_return(table, size) != size {
+        return refusal::NOT_SINGLE_CYCLE;
     }
     if card.constant % 2 == 0 {
-        return EVEN_CONSTANT;
+        return refusal::EVEN_CONSTANT;
     }
     if card.odd_power % 2 == 0 {
-        return POWER_PARITY;
+        return refusal::POWER_PARITY;
     }
     if card.even_power % 2 == 1 {
-        return POWER_PARITY;
+        return refusal::POWER_PARITY;
     }
     0
 }
@@ -43,7 +40,7 @@ pub fn check(card: &[u8]) -> u8
     ensures told { λ r. ⌜ r ≡ verdict (now (card .entry)) ⌝ }
     ensures covers { λ r. ⌜ (SoundForm (now (card .entry)) → (start : List ℕ) → IsState (cardOf (now (card .entry))) start → (r ≡ 0) ↔ Covers (cardOf (now (card .entry))) start) ⌝ }
 {
-    let found = read(card);
+    let found = read::read(card);
     if found.refusal != 0 {
         return found.refusal;
     }

@@ -3,7 +3,7 @@ ghost use mathlib.Core.Path.{_≡_};
 ghost use mathlib.Core.Logic.{_≢_};
 ghost use Prim.Native.Nat.{ℕ, _*_, _^_, _<_, _≤_};
 ghost use lib.Dec.{leb};
-ghost use Rattle.card.specs.Fields.{field, tableBit, extent};
+ghost use Rattle.card_format.specs.Fields.{field, tableBit, extent};
 use super::table::entries;
 
 pub const FIELDS: usize = 8;
@@ -14,7 +14,15 @@ pub const WIDTH: usize = 1;
 
 pub const TABLE: usize = 2;
 
+pub const ODD_POWER: usize = 3;
+
+pub const EVEN_POWER: usize = 4;
+
 pub const CONSTANT: usize = 5;
+
+pub const FILTER: usize = 6;
+
+pub const SUM_TERM: usize = 7;
 
 pub const SIZE: [usize; FIELDS] = [1, 1, 0, 1, 1, 4, 1, 1];
 

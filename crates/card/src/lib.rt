@@ -1,7 +1,6 @@
-// Cards (document 01, The card): bytes that set up a generator. What they mean and which are accepted is in specs/.
+// Reading, checking and writing cards. What that means is defined in crate card_format.
 pub mod check;
 mod field;
 pub mod read;
-pub mod refusal;
 mod table;
 pub mod write;

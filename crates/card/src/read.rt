@@ -4,38 +4,15 @@ ghost use mathlib.Core.Logic.{_≢_};
 ghost use mathlib.Core.List.{List};
 ghost use Prim.Native.Nat.{ℕ, _+_, _*_, _<_, _≤_};
 ghost use lib.ListN.{length, getD};
-ghost use Rattle.card.specs.Fields.{field, tableBit, numbers};
-ghost use Rattle.card.specs.Reading.{cardFrom, noCard, reading};
+ghost use Rattle.card_format.specs.Fields.{field, tableBit, numbers};
+ghost use Rattle.card_format.specs.Reading.{cardFrom, noCard, reading};
 ghost use Rattle.card.specs.Steps.{numberRead, refusedAt, fieldRead, missing, refusedWith};
-use super::field::ABSENT;
-use super::field::CONSTANT;
-use super::field::FIELDS;
-use super::field::LEAST;
-use super::field::MOST;
-use super::field::SIZE;
-use super::field::TABLE;
-use super::field::WIDTH;
-use super::field::WORDS;
-use super::field::exceeds;
-use super::refusal::CONSTANT_TOO_WIDE;
-use super::refusal::OUT_OF_RANGE;
-use super::refusal::REDUNDANT;
-use super::refusal::TABLE_MISSING;
-use super::refusal::TRAILING_BYTES;
-use super::refusal::TRUNCATED;
-use super::table::TSC1_TABLE;
-use super::table::entries;
-use super::table::entries_allowed;
-use super::table::is_tsc1;
-use super::table::table_from;
+use super::field;
+use super::table;
+use card_format::Reading;
+use card_format::refusal;
 use tsc::Card;
 use tsc::TABLE_SIZE;
-
-// What the reader answers: 0 and the card's values, or the refusal.
-pub struct Reading {
-    pub refusal: u8,
-    pub card: Card,
-}
 
 // What the reader of a numeric field answers.
 enum Number {
@@ -47,7 +24,7 @@ enum Number {
 struct Values {
     refusal: u8,
     used: usize,
-    numbers: [u32; FIELDS],
+    numbers: [u32; field::FIELDS],
     table: [u8; TABLE_SIZE],
 }
 
@@ -64,7 +41,7 @@ fn number_at(k: usize, part: &[u8]) -> u32
     requires { ⌜ field 4 k .size ≤ length (now part) ⌝ }
     ensures { λ r. ⌜ r ≡ getD (numbers (field 4 k) (now (part .entry))) 0 0 ⌝ }
 {
-    if k == CONSTANT {
+    if k == field::CONSTANT {
         return low_first(part[0], part[1], part[2], part[3]);
     }
     part[0] as u32
@@ -75,18 +52,18 @@ fn read_number(k: usize, part: &[u8]) -> Number
     requires { ⌜ (k < 8) × (k ≢ tableBit) ⌝ }
     ensures { λ r. ⌜ r ≡ numberRead (field 4 k) (now (part .entry)) ⌝ }
 {
-    if part.len() < SIZE[k] {
-        return Number::Refused(TRUNCATED);
+    if part.len() < field::SIZE[k] {
+        return Number::Refused(refusal::TRUNCATED);
     }
     let v = number_at(k, part);
-    if v < LEAST[k] {
-        return Number::Refused(OUT_OF_RANGE);
+    if v < field::LEAST[k] {
+        return Number::Refused(refusal::OUT_OF_RANGE);
     }
-    if MOST[k] < v {
-        return Number::Refused(OUT_OF_RANGE);
+    if field::MOST[k] < v {
+        return Number::Refused(refusal::OUT_OF_RANGE);
     }
-    if v == ABSENT[k] {
-        return Number::Refused(REDUNDANT);
+    if v == field::ABSENT[k] {
+        return Number::Refused(refusal::REDUNDANT);
     }
     Number::Value(v)
 }
@@ -106,17 +83,17 @@ fn read_table(part: &[u8], v: Values) -> Values
     requires { ⌜ getD (v .numbers) 0 0 ≤ 4 ⌝ }
     ensures { λ r. ⌜ r ≡ fieldRead tableBit (now (part .entry)) v ⌝ }
 {
-    let m = v.numbers[WORDS];
-    let size = entries(m);
+    let m = v.numbers[field::WORDS];
+    let size = table::entries(m);
     if part.len() < size {
-        return refused_at(v, TRUNCATED);
+        return refused_at(v, refusal::TRUNCATED);
     }
-    let table = table_from(part, size);
-    if !entries_allowed(table, m) {
-        return refused_at(v, OUT_OF_RANGE);
+    let table = table::table_from(part, size);
+    if !table::entries_allowed(table, m) {
+        return refused_at(v, refusal::OUT_OF_RANGE);
     }
-    if is_tsc1(table, m) {
-        return refused_at(v, REDUNDANT);
+    if table::is_tsc1(table, m) {
+        return refused_at(v, refusal::REDUNDANT);
     }
     let numbers = v.numbers;
     Values {
@@ -133,14 +110,14 @@ fn read_field(k: usize, part: &[u8], v: Values) -> Values
     ensures { λ r. ⌜ r ≡ fieldRead k (now (part .entry)) v ⌝ }
     ensures { λ r. ⌜ r .used ≤ length (now (part .entry)) ⌝ }
 {
-    if k == TABLE {
+    if k == field::TABLE {
         return read_table(part, v);
     }
     match read_number(k, part) {
         Number::Value(x) => {
             let mut out = v;
             out.refusal = 0;
-            out.used = SIZE[k];
+            out.used = field::SIZE[k];
             out.numbers[k] = x;
             out
         }
@@ -152,8 +129,8 @@ fn read_field(k: usize, part: &[u8], v: Values) -> Values
 fn table_missing(next: usize, k: usize, m: u32) -> bool
     ensures { λ r. ⌜ r ≡ missing next k m ⌝ }
 {
-    if next <= TABLE {
-        if TABLE < k {
+    if next <= field::TABLE {
+        if field::TABLE < k {
             return m != 4;
         }
     }
@@ -186,14 +163,14 @@ fn card_of(v: Values) -> Card
 {
     let table = v.table;
     Card {
-        words: v.numbers[WORDS] as u8,
-        width: v.numbers[WIDTH] as u8,
+        words: v.numbers[field::WORDS] as u8,
+        width: v.numbers[field::WIDTH] as u8,
         table: table,
-        odd_power: v.numbers[3] as u8,
-        even_power: v.numbers[4] as u8,
-        constant: v.numbers[CONSTANT],
-        filter: v.numbers[6] as u8,
-        sum_term: v.numbers[7] as u8,
+        odd_power: v.numbers[field::ODD_POWER] as u8,
+        even_power: v.numbers[field::EVEN_POWER] as u8,
+        constant: v.numbers[field::CONSTANT],
+        filter: v.numbers[field::FILTER] as u8,
+        sum_term: v.numbers[field::SUM_TERM] as u8,
     }
 }
 
@@ -202,21 +179,21 @@ pub fn read(card: &[u8]) -> Reading
     ensures { λ r. ⌜ r ≡ reading (now (card .entry)) ⌝ }
 {
     if card.len() == 0 {
-        return refused(TRUNCATED);
+        return refused(refusal::TRUNCATED);
     }
     let mut v = Values {
         refusal: 0,
         used: 0,
-        numbers: ABSENT,
-        table: TSC1_TABLE,
+        numbers: field::ABSENT,
+        table: table::TSC1_TABLE,
     };
     let mut left = card[0];
     let mut next: usize = 0;
     let mut at: usize = 1;
     for _ in 0..u8::count_ones(left) {
         let k = u8::trailing_zeros(left) as usize;
-        if table_missing(next, k, v.numbers[WORDS]) {
-            return refused(TABLE_MISSING);
+        if table_missing(next, k, v.numbers[field::WORDS]) {
+            return refused(refusal::TABLE_MISSING);
         }
         v = read_field(k, &card[at..], v);
         if v.refusal != 0 {
@@ -226,14 +203,14 @@ pub fn read(card: &[u8]) -> Reading
         next = k + 1;
         left = left & (left - 1);
     }
-    if table_missing(next, FIELDS, v.numbers[WORDS]) {
-        return refused(TABLE_MISSING);
+    if table_missing(next, field::FIELDS, v.numbers[field::WORDS]) {
+        return refused(refusal::TABLE_MISSING);
     }
     if at < card.len() {
-        return refused(TRAILING_BYTES);
+        return refused(refusal::TRAILING_BYTES);
     }
-    if exceeds(v.numbers[CONSTANT], v.numbers[WIDTH]) {
-        return refused(CONSTANT_TOO_WIDE);
+    if field::exceeds(v.numbers[field::CONSTANT], v.numbers[field::WIDTH]) {
+        return refused(refusal::CONSTANT_TOO_WIDE);
     }
     Reading {
         refusal: 0,

@@ -4,9 +4,9 @@ ghost use Prim.Native.Nat.{ℕ, _^_, _<_, _≤_};
 ghost use lib.ListN.{length, getD, take};
 ghost use Rattle.cycle.specs.Cycle.{firstReturn};
 ghost use Rattle.tsc.specs.Constants.{tsc1Table};
-ghost use Rattle.card.specs.Fields.{field, tableBit, allowed, same};
-ghost use Rattle.card.specs.Reading.{padded};
-ghost use Rattle.card.specs.Writing.{unusedClear};
+ghost use Rattle.card_format.specs.Fields.{field, tableBit, allowed, same};
+ghost use Rattle.card_format.specs.Reading.{padded};
+ghost use Rattle.card_format.specs.Writing.{unusedClear};
 use tsc::TABLE_SIZE;
 
 // TSC-1's table, document 002 (14).

@@ -5,34 +5,17 @@ ghost use mathlib.Core.Bool.{true, cond, not};
 ghost use mathlib.Core.List.{List, [], _∷_, _++_};
 ghost use Prim.Native.Nat.{ℕ, _+_, _^_, _<_, _≤_};
 ghost use lib.ListN.{length, take, drop};
-ghost use Rattle.card.specs.Refusals.{firstOf};
-ghost use Rattle.card.specs.Fields.{Field, field, tableBit, bytesOf, allowed, same};
-ghost use Rattle.card.specs.Steps.{lowFirst};
-ghost use Rattle.card.specs.Writing.{numbersOf, isWritten, fieldBytes, mapTo, written, inRange, unusedClear, valueChecks, writing, pageAfter};
-use super::check::period_refusal;
-use super::field::ABSENT;
-use super::field::FIELDS;
-use super::field::LEAST;
-use super::field::MOST;
-use super::field::SIZE;
-use super::field::TABLE;
-use super::field::exceeds;
-use super::field::extent_of;
-use super::refusal::BUFFER_TOO_SMALL;
-use super::refusal::CONSTANT_TOO_WIDE;
-use super::refusal::OUT_OF_RANGE;
-use super::table::entries;
-use super::table::entries_allowed;
-use super::table::is_tsc1;
-use super::table::unused_clear;
+ghost use Rattle.card_format.specs.Refusals.{firstOf};
+ghost use Rattle.card_format.specs.Fields.{Field, field, tableBit, bytesOf, allowed, same};
+ghost use Rattle.card.specs.Steps.{lowBytes};
+ghost use Rattle.card_format.specs.Writing.{numbersOf, isWritten, fieldBytes, mapTo, written, inRange, unusedClear, valueChecks, writing, pageAfter};
+use super::check;
+use super::field;
+use super::table;
+use card_format::Written;
+use card_format::refusal;
 use tsc::Card;
 use tsc::TABLE_SIZE;
-
-// What the writer answers.
-pub enum Written {
-    Length(usize),
-    Refused(u8),
-}
 
 // The map of a card's bytes, and how many they are.
 struct Outline {
@@ -63,28 +46,28 @@ fn field_allowed(card: Card, k: usize) -> bool
     requires { ⌜ (k < 8) × (0 < k → card .words ≤ 4) ⌝ }
     ensures { λ r. ⌜ r ≡ allowed (field (card .words) k) (numbersOf card k) ⌝ }
 {
-    if k == TABLE {
+    if k == field::TABLE {
         let table = card.table;
-        return entries_allowed(table, card.words as u32);
+        return table::entries_allowed(table, card.words as u32);
     }
     let x = number_of(card, k);
-    if x < LEAST[k] {
+    if x < field::LEAST[k] {
         return false;
     }
-    x <= MOST[k]
+    x <= field::MOST[k]
 }
 
 // Whether every value is allowed, and unused table entries are 0.
 fn in_range(card: Card) -> bool
     ensures { λ r. ⌜ r ≡ inRange card ⌝ }
 {
-    for k in 0..FIELDS {
+    for k in 0..field::FIELDS {
         if !field_allowed(card, k) {
             return false;
         }
     }
     let table = card.table;
-    unused_clear(table, card.words as u32)
+    table::unused_clear(table, card.words as u32)
 }
 
 // The first of refusals 2 and 6 to 9 that applies, or 0.
@@ -92,12 +75,12 @@ fn value_refusal(card: Card) -> u8
     ensures { λ r. ⌜ r ≡ firstOf (valueChecks card) ⌝ }
 {
     if !in_range(card) {
-        return OUT_OF_RANGE;
+        return refusal::OUT_OF_RANGE;
     }
-    if exceeds(card.constant, card.width as u32) {
-        return CONSTANT_TOO_WIDE;
+    if field::exceeds(card.constant, card.width as u32) {
+        return refusal::CONSTANT_TOO_WIDE;
     }
-    period_refusal(card)
+    check::period_refusal(card)
 }
 
 // Whether field k is written: it is not its absent value.
@@ -105,11 +88,11 @@ fn is_written(card: Card, k: usize) -> bool
     requires { ⌜ (k < 8) × (card .words ≤ 4) ⌝ }
     ensures { λ r. ⌜ r ≡ isWritten card k ⌝ }
 {
-    if k == TABLE {
+    if k == field::TABLE {
         let table = card.table;
-        return !is_tsc1(table, card.words as u32);
+        return !table::is_tsc1(table, card.words as u32);
     }
-    number_of(card, k) != ABSENT[k]
+    number_of(card, k) != field::ABSENT[k]
 }
 
 // The outline with field k.
@@ -124,7 +107,7 @@ fn with_field(card: Card, k: usize, o: Outline) -> Outline
     }
     Outline {
         map: o.map + (1 << k),
-        length: o.length + extent_of(k, card.words as u32),
+        length: o.length + field::extent_of(k, card.words as u32),
     }
 }
 
@@ -135,7 +118,7 @@ fn outline_of(card: Card) -> Outline
     ensures { λ r. ⌜ r .length ≡ length (written card) ⌝ }
 {
     let mut o = Outline { map: 0, length: 1 };
-    for k in 0..FIELDS {
+    for k in 0..field::FIELDS {
         o = with_field(card, k, o);
     }
     o
@@ -144,7 +127,7 @@ fn outline_of(card: Card) -> Outline
 // A number of `size` bytes, low byte first, at the start of the part.
 fn put_number(x: u32, size: usize, part: &mut [u8])
     requires { ⌜ size ≤ length (now part) ⌝ }
-    ensures { λ _. ⌜ now (part .exit) ≡ lowFirst x size ++ drop size (now (part .entry)) ⌝ }
+    ensures { λ _. ⌜ now (part .exit) ≡ lowBytes x size ++ drop size (now (part .entry)) ⌝ }
 {
     let mut rest = x;
     let mut i = 0;
@@ -177,8 +160,8 @@ fn put_field(card: Card, k: usize, part: &mut [u8]) -> usize
     if !is_written(card, k) {
         return 0;
     }
-    let size = extent_of(k, card.words as u32);
-    if k == TABLE {
+    let size = field::extent_of(k, card.words as u32);
+    if k == field::TABLE {
         let table = card.table;
         put_table(table, size, part);
         return size;
@@ -195,7 +178,7 @@ fn put_card(card: Card, map: u8, page: &mut [u8])
 {
     page[0] = map;
     let mut at = 1;
-    for k in 0..FIELDS {
+    for k in 0..field::FIELDS {
         at += put_field(card, k, &mut page[at..]);
     }
 }
@@ -211,7 +194,7 @@ pub fn write(card: Card, page: &mut [u8]) -> Written
     }
     let o = outline_of(card);
     if page.len() < o.length {
-        return Written::Refused(BUFFER_TOO_SMALL);
+        return Written::Refused(refusal::BUFFER_TOO_SMALL);
     }
     put_card(card, o.map, page);
     Written::Length(o.length)

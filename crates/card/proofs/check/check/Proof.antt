@@ -1,25 +1,20 @@
-use mathlib.Core.Path.{_≡_, sym, ap, _∙_, subst}
-use mathlib.Core.List.{List}
-use Prim.Native.Nat.{ℕ, _≤_}
+use native.Mathlib.Omega.{arith}
+use mathlib.Core.Path.{sym, ap, _∙_, subst}
+use Prim.Native.Nat.{_≤_}
 use Rattle.tsc.specs.declared.Card.{Card}
 use Rattle.tsc.specs.Coverage.{WellFormed}
-use Rattle.card.specs.declared.read.Reading.{Reading}
-use Rattle.card.specs.Refusals.{firstOf}
-use Rattle.card.specs.Reading.{reading, formChecks}
-use Rattle.card.specs.Verdict.{periodChecks}
-use Rattle.card.proofs.Sound.{sound-card}
-use Rattle.card.proofs.Verdict.{verdict-told, verdict-form, verdict-period, reading-sound, words-sound}
-use borrow.Author.Needs.{needs}
+use Rattle.card_format.specs.declared.Reading.{Reading}
+use Rattle.card_format.specs.Refusals.{firstOf}
+use Rattle.card_format.specs.Reading.{reading}
+use Rattle.card_format.specs.Verdict.{periodChecks}
+use Rattle.card_format.proofs.Sound.{sound-card}
+use Rattle.card_format.proofs.Verdict.{verdict-told, verdict-form, verdict-period, reading-sound, words-sound}
 use Rattle.card.proofs.check.check.Statement.{statement}
 use Rattle.card.proofs.check.check.Tie as tie
-use Rattle.card.proofs.check.check.Reads as reads
-use Rattle.card.proofs.check.check.Lts as lts
-use Rattle.card.proofs.check.period_refusal.Reads as period-refusal-reads
-use Rattle.card.proofs.read.read.Reads as read-reads
 
 -- src/check.rt:43:9
 read-requires : tie.Need-read-requires
-read-requires c κs = search needs
+read-requires c κs = omega arith
 
 -- src/check.rt:45:9
 returns : tie.Need-returns

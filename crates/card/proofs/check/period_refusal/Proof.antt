@@ -1,7 +1,5 @@
-use mathlib.Core.Path.{_≡_, sym, ap, ap₂, subst, _∙_}
-use mathlib.Core.Logic.{_≢_}
-use mathlib.Core.Bool.{true, false}
-use Prim.Native.Nat.{ℕ, _%_, _^_, _≤_, _<_}
+use mathlib.Core.Path.{_≡_, sym, ap, ap₂, _∙_}
+use Prim.Native.Nat.{ℕ, _^_}
 use native.Mathlib.Omega.{arith}
 use borrow.Author.Tests.{eq-eqb, ne-eqb}
 use lib.Dec.{eqb}
@@ -10,16 +8,11 @@ use lib.Pow.{pow-pos}
 use Rattle.cycle.specs.Cycle.{firstReturn}
 use Rattle.tsc.specs.declared.Card.{Card}
 use Rattle.tsc.specs.Step.{entry}
-use Rattle.card.specs.Refusals.{firstOf}
-use Rattle.card.specs.Verdict.{periodChecks}
-use Rattle.card.proofs.Fields.{few-entries}
-use borrow.Author.Needs.{needs}
+use Rattle.card_format.specs.Refusals.{firstOf}
+use Rattle.card_format.specs.Verdict.{periodChecks}
+use Rattle.card_format.proofs.Fields.{few-entries}
 use Rattle.card.proofs.check.period_refusal.Statement.{statement}
 use Rattle.card.proofs.check.period_refusal.Tie as tie
-use Rattle.card.proofs.check.period_refusal.Reads as reads
-use Rattle.card.proofs.check.period_refusal.Lts as lts
-use Rattle.card.proofs.table.entries.Reads as entries-reads
-use Rattle.card.proofs.table.first_return.Reads as first-return-reads
 
 -- what the loop counted is the first return
 returned : (card : Card) (size steps : ℕ) → size ≡ 2 ^ card .words → steps ≡ firstReturn (λ y. getD (card .table) y 0) size
@@ -28,11 +21,11 @@ returned card size steps e r = sym (ap₂ eqb (r ∙ ap (firstReturn (entry card
 
 -- src/check.rt:20:24
 cast-entries : tie.Need-cast-entries
-cast-entries c = search needs
+cast-entries c = omega arith
 
 -- src/check.rt:20:9
 entries-requires : tie.Need-entries-requires
-entries-requires c κs = search needs
+entries-requires c κs = omega arith
 
 -- src/check.rt:22:8
 first-return-requires : tie.Need-first-return-requires

@@ -1,19 +1,16 @@
-use mathlib.Core.Path.{_≡_, sym, ap, _∙_}
+use mathlib.Core.Path.{sym, ap}
 use Prim.Native.Nat.{ℕ, _^_, _≤_}
 use native.Mathlib.Omega.{arith}
 use borrow.Author.Tests.{lt-leb}
 use lib.Dec.{leb}
 use lib.Pow.{pow-mono}
-use Rattle.card.proofs.Fields.{one-shifted}
-use borrow.Author.Needs.{needs}
+use Rattle.card_format.proofs.Fields.{one-shifted}
 use Rattle.card.proofs.field.exceeds.Statement.{statement}
 use Rattle.card.proofs.field.exceeds.Tie as tie
-use Rattle.card.proofs.field.exceeds.Reads as reads
-use Rattle.card.proofs.field.exceeds.Lts as lts
 
 -- src/field.rt:36:16
 shl-result : tie.Need-shl-result
-shl-result c = search needs
+shl-result c = omega arith
 
 -- src/field.rt:36:9
 returns : tie.Need-returns

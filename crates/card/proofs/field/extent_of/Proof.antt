@@ -1,19 +1,16 @@
-use mathlib.Core.Path.{_≡_, sym, ap, _∙_}
+use native.Mathlib.Omega.{arith}
+use mathlib.Core.Path.{sym, ap, _∙_}
 use Prim.Native.Nat.{ℕ, _^_}
 use native.Mathlib.Nat.{mul-one, one-mul}
 use lib.ListN.{getD}
-use Rattle.card.specs.Fields.{Field, field, fields, tableBit, extent}
-use Rattle.card.proofs.Fields.{sizes, numeric}
-use borrow.Author.Needs.{needs}
+use Rattle.card_format.specs.Fields.{field, fields, extent}
+use Rattle.card_format.proofs.Fields.{sizes, numeric}
 use Rattle.card.proofs.field.extent_of.Statement.{statement}
 use Rattle.card.proofs.field.extent_of.Tie as tie
-use Rattle.card.proofs.field.extent_of.Reads as reads
-use Rattle.card.proofs.field.extent_of.Lts as lts
-use Rattle.card.proofs.table.entries.Reads as entries-reads
 
 -- src/field.rt:26:9
 entries-requires : tie.Need-entries-requires
-entries-requires c κs = search needs
+entries-requires c κs = omega arith
 
 -- src/field.rt:26:9
 returns : tie.Need-returns
@@ -22,11 +19,11 @@ returns c = c .entries .ensures ∙ sym (mul-one (2 ^ c .before .before .args .m
 
 -- src/field.rt:28:5
 mul-result : tie.Need-mul-result
-mul-result c = search needs
+mul-result c = omega arith
 
 -- src/field.rt:28:5
 array-read-result : tie.Need-array-read-result
-array-read-result c = search needs
+array-read-result c = omega arith
 
 -- src/field.rt:21:1
 returns-2 : tie.Need-returns-2

@@ -2,12 +2,10 @@ use native.Mathlib.Omega.{arith}
 use borrow.Author.Needs.{needs}
 use Rattle.card.proofs.read.card_of.Statement.{statement}
 use Rattle.card.proofs.read.card_of.Tie as tie
-use Rattle.card.proofs.read.card_of.Reads as reads
-use Rattle.card.proofs.read.card_of.Lts as lts
 
 -- src/read.rt:172:16
 element-copy-out-t6 : tie.Need-element-copy-out-t6
-element-copy-out-t6 c = search needs
+element-copy-out-t6 c = omega arith
 
 -- src/read.rt:172:16
 cast-t7 : tie.Need-cast-t7
@@ -15,7 +13,7 @@ cast-t7 c = omega (arith, c .before .before .pre 0 (omega arith) (λ e. absurd (
 
 -- src/read.rt:173:16
 element-copy-out-t10 : tie.Need-element-copy-out-t10
-element-copy-out-t10 c = search needs
+element-copy-out-t10 c = omega arith
 
 -- src/read.rt:173:16
 cast-t11 : tie.Need-cast-t11
@@ -23,7 +21,7 @@ cast-t11 c = omega (arith, c .before .before .before .pre 1 (omega arith) (λ e.
 
 -- src/read.rt:175:20
 element-copy-out-t14 : tie.Need-element-copy-out-t14
-element-copy-out-t14 c = search needs
+element-copy-out-t14 c = omega arith
 
 -- src/read.rt:175:20
 cast-t15 : tie.Need-cast-t15
@@ -31,7 +29,7 @@ cast-t15 c = omega (arith, c .before .before .before .before .pre 3 (omega arith
 
 -- src/read.rt:176:21
 element-copy-out-t18 : tie.Need-element-copy-out-t18
-element-copy-out-t18 c = search needs
+element-copy-out-t18 c = omega arith
 
 -- src/read.rt:176:21
 cast-t19 : tie.Need-cast-t19
@@ -39,11 +37,11 @@ cast-t19 c = omega (arith, c .before .before .before .before .before .pre 4 (ome
 
 -- src/read.rt:177:19
 element-copy-out-t22 : tie.Need-element-copy-out-t22
-element-copy-out-t22 c = search needs
+element-copy-out-t22 c = omega arith
 
 -- src/read.rt:178:17
 element-copy-out-t25 : tie.Need-element-copy-out-t25
-element-copy-out-t25 c = search needs
+element-copy-out-t25 c = omega arith
 
 -- src/read.rt:178:17
 cast-t26 : tie.Need-cast-t26
@@ -51,7 +49,7 @@ cast-t26 c = omega (arith, c .before .before .before .before .before .before .be
 
 -- src/read.rt:179:19
 element-copy-out-t29 : tie.Need-element-copy-out-t29
-element-copy-out-t29 c = search needs
+element-copy-out-t29 c = omega arith
 
 -- src/read.rt:179:19
 cast-t30 : tie.Need-cast-t30

@@ -1,11 +1,10 @@
-use mathlib.Core.Path.{_≡_, sym, ap, _∙_, subst}
+use mathlib.Core.Path.{_≡_, sym, ap, _∙_}
 use mathlib.Core.List.{List}
-use Prim.Native.Nat.{ℕ, _+_, _*_, _≤_, _<_}
+use Prim.Native.Nat.{ℕ, _+_, _*_, _≤_}
 use native.Mathlib.Omega.{arith}
 use lib.ListN.{length, getD}
 use Rattle.cycle.specs.Notation.{sum}
-use Rattle.card.proofs.Fields.{sizes, lowFirst, number-low, size-of, size-one}
-use borrow.Author.Needs.{needs}
+use Rattle.card_format.proofs.Fields.{sizes, lowFirst, number-low, size-of, size-one}
 use Rattle.card.proofs.read.number_at.Statement.{statement}
 use Rattle.card.proofs.read.number_at.Tie as tie
 use Rattle.card.proofs.read.number_at.Reads as reads
@@ -42,7 +41,7 @@ shared-slice-read-low-first-4 c = omega (arith, room (c .before .before .before 
 
 -- src/read.rt:50:9
 low-first-requires : tie.Need-low-first-requires
-low-first-requires c κs = search needs
+low-first-requires c κs = omega arith
 
 -- src/read.rt:50:9
 returns : tie.Need-returns

@@ -1,31 +1,22 @@
 use mathlib.Core.Path.{_≡_, refl, sym, ap, _∙_, subst}
 use mathlib.Core.List.{List}
 use Prim.Native.Nat.{ℕ, _+_, _-_, _<_, _≤_}
-use native.Mathlib.Nat.{eq-zero-or-pos}
 use native.Mathlib.Omega.{arith}
-use borrow.Author.Needs.{needs}
 use borrow.Author.Tests.{lt-ltb, le-ltb}
 use lib.Count.{ones, ones-le, trailingZeros, trailing-le}
 use lib.ListN.{length, getD, take, drop}
 use Rattle.card.specs.declared.read.Values.{Values}
-use Rattle.card.specs.declared.read.Reading.{Reading}
+use Rattle.card_format.specs.declared.Reading.{Reading}
 use Rattle.tsc.specs.declared.Card.{Card}
-use Rattle.card.specs.Refusals.{firstOf}
-use Rattle.card.specs.Reading.{formChecks, SoundForm}
+use Rattle.card_format.specs.Refusals.{firstOf}
+use Rattle.card_format.specs.Reading.{formChecks}
 use Rattle.card.specs.Steps.{fieldRead}
-use Rattle.card.proofs.Lists.{part-rest}
-use Rattle.card.proofs.Refusals.{none-first}
+use Rattle.card_format.proofs.Lists.{part-rest}
+use Rattle.card_format.proofs.Refusals.{none-first}
 use Rattle.card.proofs.Map.{lowest-one, left-all, ones-none, ones-some}
 use Rattle.card.proofs.Reader.{Reached, Rest, reached-map, rest-gap, rest-here, rest-next, rest-refused, end-gap, end-here, words-few, told-end, told-empty, card-read, reading-refused, reading-accepted, byte-values}
 use Rattle.card.proofs.read.read.Statement.{statement}
 use Rattle.card.proofs.read.read.Tie as tie
-use Rattle.card.proofs.read.read.Reads as reads
-use Rattle.card.proofs.read.read.Lts as lts
-use Rattle.card.proofs.field.exceeds.Reads as exceeds-reads
-use Rattle.card.proofs.read.card_of.Reads as card-of-reads
-use Rattle.card.proofs.read.read_field.Reads as read-field-reads
-use Rattle.card.proofs.read.refused.Reads as refused-reads
-use Rattle.card.proofs.read.table_missing.Reads as table-missing-reads
 
 abbrev Inv-loop : tie.InvT-loop
 Inv-loop card v₀ left₀ next₀ at₀ counter₀ end v left next at counter = Rest card left next at v × (counter + ones left ≡ end) × (next ≤ 8) × (end ≤ 8)
@@ -62,7 +53,7 @@ some c = ones-some (c .before .loop .left) (omega arith)
 
 -- src/read.rt:188:9
 refused-requires : tie.Need-refused-requires Inv-loop μ-loop
-refused-requires c κs = search needs
+refused-requires c κs = omega arith
 
 -- src/read.rt:188:9
 returns : tie.Need-returns Inv-loop μ-loop
@@ -89,15 +80,15 @@ cast-k c = omega (arith, trailing-le 8 (c .before .loop .left))
 
 -- src/read.rt:201:35
 element-copy-out-table-missing : tie.Need-element-copy-out-table-missing Inv-loop μ-loop
-element-copy-out-table-missing c = search needs
+element-copy-out-table-missing c = omega arith
 
 -- src/read.rt:201:12
 table-missing-requires : tie.Need-table-missing-requires Inv-loop μ-loop
-table-missing-requires c κs = search needs
+table-missing-requires c κs = omega arith
 
 -- src/read.rt:202:13
 refused-requires-2 : tie.Need-refused-requires-2 Inv-loop μ-loop
-refused-requires-2 c κs = search needs
+refused-requires-2 c κs = omega arith
 
 -- src/read.rt:202:13
 returns-2 : tie.Need-returns-2 Inv-loop μ-loop
@@ -108,15 +99,15 @@ returns-2 c =
 
 -- src/read.rt:204:27
 sub-read-field : tie.Need-sub-read-field Inv-loop μ-loop
-sub-read-field c = search needs
+sub-read-field c = omega arith
 
 -- src/read.rt:204:27
 part-read-field-start : tie.Need-part-read-field-start Inv-loop μ-loop
-part-read-field-start c = search needs
+part-read-field-start c = omega arith
 
 -- src/read.rt:204:27
 part-read-field-end : tie.Need-part-read-field-end Inv-loop μ-loop
-part-read-field-end c = search needs
+part-read-field-end c = omega arith
 
 -- src/read.rt:204:13
 read-field-requires : tie.Need-read-field-requires Inv-loop μ-loop
@@ -127,7 +118,7 @@ read-field-requires c κs =
 
 -- src/read.rt:206:13
 refused-requires-3 : tie.Need-refused-requires-3 Inv-loop μ-loop
-refused-requires-3 c κs = search needs
+refused-requires-3 c κs = omega arith
 
 -- src/read.rt:206:13
 returns-3 : tie.Need-returns-3 Inv-loop μ-loop
@@ -140,7 +131,7 @@ returns-3 c =
 
 -- src/read.rt:208:9
 add-at : tie.Need-add-at Inv-loop μ-loop
-add-at c = search needs
+add-at c = omega arith
 
 -- src/read.rt:209:16
 add-next : tie.Need-add-next Inv-loop μ-loop
@@ -173,15 +164,15 @@ loop-again c =
 
 -- src/read.rt:212:36
 element-copy-out-table-missing-2 : tie.Need-element-copy-out-table-missing-2 Inv-loop μ-loop
-element-copy-out-table-missing-2 c = search needs
+element-copy-out-table-missing-2 c = omega arith
 
 -- src/read.rt:212:8
 table-missing-requires-2 : tie.Need-table-missing-requires-2 Inv-loop μ-loop
-table-missing-requires-2 c κs = search needs
+table-missing-requires-2 c κs = omega arith
 
 -- src/read.rt:213:9
 refused-requires-4 : tie.Need-refused-requires-4 Inv-loop μ-loop
-refused-requires-4 c κs = search needs
+refused-requires-4 c κs = omega arith
 
 -- src/read.rt:213:9
 returns-4 : tie.Need-returns-4 Inv-loop μ-loop
@@ -192,7 +183,7 @@ returns-4 c =
 
 -- src/read.rt:216:9
 refused-requires-5 : tie.Need-refused-requires-5 Inv-loop μ-loop
-refused-requires-5 c κs = search needs
+refused-requires-5 c κs = omega arith
 
 -- src/read.rt:216:9
 returns-5 : tie.Need-returns-5 Inv-loop μ-loop
@@ -203,19 +194,19 @@ returns-5 c =
 
 -- src/read.rt:218:16
 element-copy-out-exceeds : tie.Need-element-copy-out-exceeds Inv-loop μ-loop
-element-copy-out-exceeds c = search needs
+element-copy-out-exceeds c = omega arith
 
 -- src/read.rt:218:37
 element-copy-out-exceeds-2 : tie.Need-element-copy-out-exceeds-2 Inv-loop μ-loop
-element-copy-out-exceeds-2 c = search needs
+element-copy-out-exceeds-2 c = omega arith
 
 -- src/read.rt:218:8
 exceeds-requires : tie.Need-exceeds-requires Inv-loop μ-loop
-exceeds-requires c κs = search needs
+exceeds-requires c κs = omega arith
 
 -- src/read.rt:219:9
 refused-requires-6 : tie.Need-refused-requires-6 Inv-loop μ-loop
-refused-requires-6 c κs = search needs
+refused-requires-6 c κs = omega arith
 
 -- src/read.rt:219:9
 returns-6 : tie.Need-returns-6 Inv-loop μ-loop

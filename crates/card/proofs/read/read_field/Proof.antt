@@ -1,28 +1,21 @@
+use native.Mathlib.Omega.{arith}
 use mathlib.Core.Path.{_≡_, refl, sym, ap, ap₂, _∙_, subst}
 use mathlib.Core.Logic.{_≢_}
-use mathlib.Core.Bool.{Bool, true, false, cond}
 use mathlib.Core.List.{List}
 use Prim.Native.Nat.{ℕ, _≤_, _<_}
 use native.Mathlib.Nat.{one-mul}
 use borrow.Author.Tests.{ne-eqb, eqb-true}
-use lib.Dec.{eqb}
 use lib.ListN.{length, getD, set}
 use Rattle.card.specs.declared.read.Number.the-variants.{Value, Refused}
 use Rattle.card.specs.declared.read.Values.{Values}
-use Rattle.card.specs.Refusals.{firstOf}
-use Rattle.card.specs.Fields.{Field, field, tableBit, extent}
-use Rattle.card.specs.Reading.{partChecks}
+use Rattle.card_format.specs.Refusals.{firstOf}
+use Rattle.card_format.specs.Fields.{field, tableBit, extent}
+use Rattle.card_format.specs.Reading.{partChecks}
 use Rattle.card.specs.Steps.{numberRead, refusedAt, fieldRead}
-use Rattle.card.proofs.Fields.{sizes, numeric, field-fixed}
+use Rattle.card_format.proofs.Fields.{sizes, numeric, field-fixed}
 use Rattle.card.proofs.Steps.{value-read, refused-read, used-fits}
-use borrow.Author.Needs.{needs}
 use Rattle.card.proofs.read.read_field.Statement.{statement}
 use Rattle.card.proofs.read.read_field.Tie as tie
-use Rattle.card.proofs.read.read_field.Reads as reads
-use Rattle.card.proofs.read.read_field.Lts as lts
-use Rattle.card.proofs.read.read_number.Reads as read-number-reads
-use Rattle.card.proofs.read.read_table.Reads as read-table-reads
-use Rattle.card.proofs.read.refused_at.Reads as refused-at-reads
 
 -- an answer that is the definition's uses bytes of the part alone
 full : (k : ℕ) (part : List ℕ) (v r : Values) → r ≡ fieldRead k part v → (r ≡ fieldRead k part v) × (r .used ≤ length part)
@@ -46,7 +39,7 @@ stored-as k part v x l ne e =
 
 -- src/read.rt:120:9
 read-table-requires : tie.Need-read-table-requires
-read-table-requires c κs = search needs
+read-table-requires c κs = omega arith
 
 -- src/read.rt:120:9
 returns : tie.Need-returns
@@ -56,35 +49,35 @@ returns c =
 
 -- src/read.rt:122:11
 read-number-requires : tie.Need-read-number-requires
-read-number-requires c κs = search needs
+read-number-requires c κs = omega arith
 
 -- src/read.rt:123:23
 enum-known-x : tie.Need-enum-known-x
-enum-known-x c = search needs
+enum-known-x c = omega arith
 
 -- src/read.rt:126:24
 mul-out : tie.Need-mul-out
-mul-out c = search needs
+mul-out c = omega arith
 
 -- src/read.rt:126:24
 array-read-out : tie.Need-array-read-out
-array-read-out c = search needs
+array-read-out c = omega arith
 
 -- src/read.rt:127:13
 mul-out-2 : tie.Need-mul-out-2
-mul-out-2 c = search needs
+mul-out-2 c = omega arith
 
 -- src/read.rt:127:13
 element-write-out : tie.Need-element-write-out
-element-write-out c = search needs
+element-write-out c = omega arith
 
 -- src/read.rt:130:25
 enum-known-r : tie.Need-enum-known-r
-enum-known-r c = search needs
+enum-known-r c = omega arith
 
 -- src/read.rt:130:31
 refused-at-requires : tie.Need-refused-at-requires
-refused-at-requires c κs = search needs
+refused-at-requires c κs = omega arith
 
 -- src/read.rt:113:1
 returns-2 : tie.Need-returns-2

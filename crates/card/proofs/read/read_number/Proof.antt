@@ -1,23 +1,16 @@
 use mathlib.Core.Path.{_≡_, refl, sym, ap, _∙_}
 use mathlib.Core.Logic.{_≢_}
-use mathlib.Core.Bool.{cond}
 use mathlib.Core.List.{List}
-use Prim.Native.Nat.{ℕ, _≤_, _<_}
+use Prim.Native.Nat.{ℕ, _<_}
 use native.Mathlib.Omega.{arith}
 use borrow.Author.Tests.{lt-ltb, le-ltb, le-leb, lt-leb, eq-eqb, ne-eqb}
-use lib.Dec.{eqb}
-use lib.ListN.{length, getD}
-use Rattle.card.specs.declared.read.Number.{Number}
+use lib.ListN.{getD}
 use Rattle.card.specs.declared.read.Number.the-variants.{Value, Refused}
-use Rattle.card.specs.Fields.{field, tableBit, numbers}
+use Rattle.card_format.specs.Fields.{field, tableBit, numbers}
 use Rattle.card.specs.Steps.{numberRead}
-use Rattle.card.proofs.Fields.{sizes, leasts, mosts, absents, numberRefusal, part-refusal, size-of}
-use borrow.Author.Needs.{needs}
+use Rattle.card_format.proofs.Fields.{numberRefusal, part-refusal, size-of}
 use Rattle.card.proofs.read.read_number.Statement.{statement}
 use Rattle.card.proofs.read.read_number.Tie as tie
-use Rattle.card.proofs.read.read_number.Reads as reads
-use Rattle.card.proofs.read.read_number.Lts as lts
-use Rattle.card.proofs.read.number_at.Reads as number-at-reads
 
 -- the refusal that goes with a number v, which is the field's
 refused-as : (k : ℕ) (part : List ℕ) (v r : ℕ) → (k < 8) × (k ≢ tableBit) → v ≡ getD (numbers (field 4 k) part) 0 0 → r ≢ 0
@@ -32,11 +25,11 @@ value-as k part v p ev e = rw (part-refusal k (p .0) (p .1) part ∙ sym (ap (nu
 
 -- src/read.rt:60:21
 mul-if1 : tie.Need-mul-if1
-mul-if1 c = search needs
+mul-if1 c = omega arith
 
 -- src/read.rt:60:21
 array-read-if1 : tie.Need-array-read-if1
-array-read-if1 c = search needs
+array-read-if1 c = omega arith
 
 -- src/read.rt:61:9
 returns : tie.Need-returns
@@ -48,11 +41,11 @@ number-at-requires c κs = (c .before .before .pre, omega (arith, c .if1 .left, 
 
 -- src/read.rt:64:12
 mul-if2 : tie.Need-mul-if2
-mul-if2 c = search needs
+mul-if2 c = omega arith
 
 -- src/read.rt:64:12
 array-read-if2 : tie.Need-array-read-if2
-array-read-if2 c = search needs
+array-read-if2 c = omega arith
 
 -- src/read.rt:65:9
 returns-2 : tie.Need-returns-2
@@ -61,11 +54,11 @@ returns-2 c = refused-as (c .before .before .before .before .args .k) (c .before
 
 -- src/read.rt:67:8
 mul-if3 : tie.Need-mul-if3
-mul-if3 c = search needs
+mul-if3 c = omega arith
 
 -- src/read.rt:67:8
 array-read-if3 : tie.Need-array-read-if3
-array-read-if3 c = search needs
+array-read-if3 c = omega arith
 
 -- src/read.rt:68:9
 returns-3 : tie.Need-returns-3
@@ -74,11 +67,11 @@ returns-3 c = refused-as (c .before .before .before .before .before .args .k) (c
 
 -- src/read.rt:70:13
 mul-if4 : tie.Need-mul-if4
-mul-if4 c = search needs
+mul-if4 c = omega arith
 
 -- src/read.rt:70:13
 array-read-if4 : tie.Need-array-read-if4
-array-read-if4 c = search needs
+array-read-if4 c = omega arith
 
 -- src/read.rt:71:9
 returns-4 : tie.Need-returns-4

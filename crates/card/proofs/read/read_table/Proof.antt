@@ -1,29 +1,20 @@
-use mathlib.Core.Path.{_≡_, refl, sym, ap, ap₂, _∙_}
+use mathlib.Core.Path.{_≡_, sym, ap, ap₂, _∙_}
 use mathlib.Core.Logic.{_≢_}
-use mathlib.Core.Bool.{Bool, true, false, cond, not}
 use mathlib.Core.List.{List}
-use Prim.Native.Nat.{ℕ, _^_, _≤_, _<_}
+use Prim.Native.Nat.{ℕ, _^_, _≤_}
 use native.Mathlib.Nat.{mul-one}
 use native.Mathlib.Omega.{arith}
 use borrow.Author.Tests.{ne-eqb, not-true, not-false}
 use lib.ListN.{length, getD, take}
-use Rattle.tsc.specs.Constants.{tsc1Table}
 use Rattle.card.specs.declared.read.Values.{Values}
-use Rattle.card.specs.Refusals.{firstOf}
-use Rattle.card.specs.Fields.{field, fields, tableBit, extent, numbers, allowed, same}
-use Rattle.card.specs.Reading.{partChecks, padded}
+use Rattle.card_format.specs.Refusals.{firstOf}
+use Rattle.card_format.specs.Fields.{field, fields, tableBit, numbers}
+use Rattle.card_format.specs.Reading.{partChecks, padded}
 use Rattle.card.specs.Steps.{refusedAt, fieldRead}
-use Rattle.card.proofs.Fields.{few-entries, take-padded, numbers-table, table-short, table-refusal}
+use Rattle.card_format.proofs.Fields.{few-entries, take-padded, numbers-table, table-short, table-refusal}
 use borrow.Author.Needs.{needs}
 use Rattle.card.proofs.read.read_table.Statement.{statement}
 use Rattle.card.proofs.read.read_table.Tie as tie
-use Rattle.card.proofs.read.read_table.Reads as reads
-use Rattle.card.proofs.read.read_table.Lts as lts
-use Rattle.card.proofs.read.refused_at.Reads as refused-at-reads
-use Rattle.card.proofs.table.entries.Reads as entries-reads
-use Rattle.card.proofs.table.entries_allowed.Reads as entries-allowed-reads
-use Rattle.card.proofs.table.is_tsc1.Reads as is-tsc1-reads
-use Rattle.card.proofs.table.table_from.Reads as table-from-reads
 
 refused-as : (part : List ℕ) (v : Values) (r : ℕ) → r ≢ 0 → firstOf (partChecks (field (getD (v .numbers) 0 0) tableBit) part) ≡ r
     → refusedAt v r ≡ fieldRead tableBit part v
@@ -48,15 +39,15 @@ shown part m size t es h et =
 
 -- src/read.rt:91:13
 element-copy-out-m : tie.Need-element-copy-out-m
-element-copy-out-m c = search needs
+element-copy-out-m c = omega arith
 
 -- src/read.rt:92:9
 entries-requires : tie.Need-entries-requires
-entries-requires c κs = search needs
+entries-requires c κs = omega arith
 
 -- src/read.rt:94:9
 refused-at-requires : tie.Need-refused-at-requires
-refused-at-requires c κs = search needs
+refused-at-requires c κs = omega arith
 
 -- src/read.rt:94:9
 returns : tie.Need-returns
@@ -71,11 +62,11 @@ table-from-requires c κs = (omega (arith, c .before .entries .ensures, few-entr
 
 -- src/read.rt:97:9
 entries-allowed-requires : tie.Need-entries-allowed-requires
-entries-allowed-requires c κs = search needs
+entries-allowed-requires c κs = omega arith
 
 -- src/read.rt:98:9
 refused-at-requires-2 : tie.Need-refused-at-requires-2
-refused-at-requires-2 c κs = search needs
+refused-at-requires-2 c κs = omega arith
 
 -- src/read.rt:98:9
 returns-2 : tie.Need-returns-2
@@ -88,11 +79,11 @@ returns-2 c =
 
 -- src/read.rt:100:8
 is-tsc1-requires : tie.Need-is-tsc1-requires
-is-tsc1-requires c κs = search needs
+is-tsc1-requires c κs = omega arith
 
 -- src/read.rt:101:9
 refused-at-requires-3 : tie.Need-refused-at-requires-3
-refused-at-requires-3 c κs = search needs
+refused-at-requires-3 c κs = omega arith
 
 -- src/read.rt:101:9
 returns-3 : tie.Need-returns-3

@@ -1,8 +1,6 @@
 use borrow.Author.Tests.{le-leb, lt-leb, lt-ltb, le-ltb}
 use Rattle.card.proofs.read.table_missing.Statement.{statement}
 use Rattle.card.proofs.read.table_missing.Tie as tie
-use Rattle.card.proofs.read.table_missing.Reads as reads
-use Rattle.card.proofs.read.table_missing.Lts as lts
 
 -- src/read.rt:140:13
 returns : tie.Need-returns

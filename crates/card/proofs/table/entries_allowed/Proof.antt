@@ -1,17 +1,11 @@
-use mathlib.Core.Path.{_≡_, sym, subst}
-use mathlib.Core.Bool.{false, true}
+use mathlib.Core.Path.{_≡_, sym}
 use Prim.Native.Nat.{ℕ, _-_, _^_, _≤_, _<_}
 use native.Mathlib.Omega.{arith}
-use borrow.Author.Needs.{needs}
-use lib.ListN.{length, getD, take}
-use Rattle.card.proofs.Lists.{extend}
-use Rattle.card.proofs.Fields.{few-entries, entries-allowed, entry-not-allowed}
+use lib.ListN.{getD}
+use Rattle.card_format.proofs.Lists.{extend}
+use Rattle.card_format.proofs.Fields.{few-entries, entries-allowed, entry-not-allowed}
 use Rattle.card.proofs.table.entries_allowed.Statement.{statement}
 use Rattle.card.proofs.table.entries_allowed.Tie as tie
-use Rattle.card.proofs.table.entries_allowed.Reads as reads
-use Rattle.card.proofs.table.entries_allowed.Lts as lts
-use Rattle.card.proofs.table.entries.Reads as entries-reads
-use Rattle.card.proofs.table.wide.Reads as wide-reads
 
 abbrev Inv-loop : tie.InvT-loop
 Inv-loop m table size i₀ i = (i ≤ size) × (size ≡ 2 ^ m) × (size ≤ 16) × ((j : ℕ) → j < i → getD table j 0 < size)
@@ -21,7 +15,7 @@ abbrev μ-loop : tie.MeasureT-loop
 
 -- src/table.rt:48:9
 entries-requires : tie.Need-entries-requires Inv-loop μ-loop
-entries-requires c κs = search needs
+entries-requires c κs = omega arith
 
 -- src/table.rt:50:5
 loop-holds : tie.Need-loop-holds Inv-loop μ-loop
@@ -33,7 +27,7 @@ array-read-wide c = omega arith
 
 -- src/table.rt:51:20
 wide-requires : tie.Need-wide-requires Inv-loop μ-loop
-wide-requires c κs = search needs
+wide-requires c κs = omega arith
 
 -- src/table.rt:52:13
 returns : tie.Need-returns Inv-loop μ-loop
@@ -43,7 +37,7 @@ returns c =
 
 -- src/table.rt:54:9
 add-i : tie.Need-add-i Inv-loop μ-loop
-add-i c = search needs
+add-i c = omega arith
 
 -- src/table.rt:50:5
 loop-less : tie.Need-loop-less Inv-loop μ-loop

@@ -1,16 +1,13 @@
 use native.Mathlib.Nat.{add-sub-cancel}
 use native.Mathlib.Numerals.{add-one}
-use mathlib.Core.Path.{_≡_, refl, sym, ap, _∙_}
+use mathlib.Core.Path.{_≡_, sym, ap, _∙_}
 use Prim.Native.Nat.{ℕ, suc, _+_, _-_, _<_, _≤_}
 use native.Mathlib.Omega.{arith}
-use borrow.Author.Needs.{needs}
-use lib.ListN.{length, getD}
+use lib.ListN.{getD}
 use Rattle.cycle.specs.Cycle.{returnFrom, firstReturn}
 use Rattle.cycle.proofs.FirstReturn.{return-none, return-here, return-later}
 use Rattle.card.proofs.table.first_return.Statement.{statement}
 use Rattle.card.proofs.table.first_return.Tie as tie
-use Rattle.card.proofs.table.first_return.Reads as reads
-use Rattle.card.proofs.table.first_return.Lts as lts
 
 abbrev Inv-loop : tie.InvT-loop
 Inv-loop size table x₀ steps₀ x steps = (x < size) × (1 ≤ steps) × (steps ≤ size + 1) × (size ≤ 16) × (returnFrom (λ y. getD table y 0) (size + 1 - steps) steps x ≡ firstReturn (λ y. getD table y 0) size)
@@ -20,7 +17,7 @@ abbrev μ-loop : tie.MeasureT-loop
 
 -- src/table.rt:98:17
 array-read-x : tie.Need-array-read-x Inv-loop μ-loop
-array-read-x c = search needs
+array-read-x c = omega arith
 
 -- src/table.rt:100:5
 loop-holds : tie.Need-loop-holds Inv-loop μ-loop

@@ -5,14 +5,12 @@ use native.Mathlib.Omega.{arith}
 use Prim.Native.Nat.{ℕ, _-_, _^_, _≤_, _<_}
 use borrow.Author.Needs.{needs}
 use lib.ListN.{length, getD, take}
-use lib.Seq.{length-take-le, take-all, getD-take}
+use lib.Seq.{length-take-le, take-all}
 use Rattle.tsc.specs.Constants.{tsc1Table}
-use Rattle.card.proofs.Fields.{same-all, same-not}
-use Rattle.card.proofs.Lists.{extend}
+use Rattle.card_format.proofs.Fields.{same-all, same-not}
+use Rattle.card_format.proofs.Lists.{extend}
 use Rattle.card.proofs.table.is_tsc1.Statement.{statement}
 use Rattle.card.proofs.table.is_tsc1.Tie as tie
-use Rattle.card.proofs.table.is_tsc1.Reads as reads
-use Rattle.card.proofs.table.is_tsc1.Lts as lts
 
 -- a table of 4 words is used whole
 whole : (t : List ℕ) (m : ℕ) → length t ≡ 16 → m ≡ 4 → take (2 ^ m) t ≡ t
@@ -37,11 +35,11 @@ loop-holds c = (omega arith, omega arith, λ j l. absurd (omega arith))
 
 -- src/table.rt:69:12
 array-read-if2 : tie.Need-array-read-if2 Inv-loop μ-loop
-array-read-if2 c = search needs
+array-read-if2 c = omega arith
 
 -- src/table.rt:69:24
 array-read-if2-2 : tie.Need-array-read-if2-2 Inv-loop μ-loop
-array-read-if2-2 c = search needs
+array-read-if2-2 c = omega arith
 
 -- src/table.rt:70:13
 returns-2 : tie.Need-returns-2 Inv-loop μ-loop
@@ -52,11 +50,11 @@ returns-2 c =
 
 -- src/table.rt:72:9
 add-i : tie.Need-add-i Inv-loop μ-loop
-add-i c = search needs
+add-i c = omega arith
 
 -- src/table.rt:68:5
 loop-less : tie.Need-loop-less Inv-loop μ-loop
-loop-less c = search needs
+loop-less c = omega arith
 
 -- src/table.rt:68:5
 loop-again : tie.Need-loop-again Inv-loop μ-loop

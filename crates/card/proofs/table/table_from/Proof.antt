@@ -1,15 +1,12 @@
-use mathlib.Core.Path.{_≡_, refl, sym, ap, _∙_}
+use mathlib.Core.Path.{_≡_, refl, ap, _∙_}
 use mathlib.Core.List.{List}
 use Prim.Native.Nat.{ℕ, _-_, _≤_}
 use native.Mathlib.Omega.{arith}
-use borrow.Author.Needs.{needs}
 use lib.ListN.{length, getD, set, replicate}
-use Rattle.card.proofs.Lists.{over, over-suc}
-use Rattle.card.proofs.Fields.{over-padded}
+use Rattle.card_format.proofs.Lists.{over, over-suc}
+use Rattle.card_format.proofs.Fields.{over-padded}
 use Rattle.card.proofs.table.table_from.Statement.{statement}
 use Rattle.card.proofs.table.table_from.Tie as tie
-use Rattle.card.proofs.table.table_from.Reads as reads
-use Rattle.card.proofs.table.table_from.Lts as lts
 
 abbrev Inv-loop : tie.InvT-loop
 Inv-loop part size table₀ i₀ table i = (i ≤ size) × (size ≤ 16) × (size ≤ length part) × (table ≡ over part (replicate 16 0) i)
@@ -31,7 +28,7 @@ array-write-table c = omega arith
 
 -- src/table.rt:38:9
 add-i : tie.Need-add-i Inv-loop μ-loop
-add-i c = search needs
+add-i c = omega arith
 
 -- src/table.rt:36:5
 loop-less : tie.Need-loop-less Inv-loop μ-loop

@@ -1,15 +1,11 @@
 use mathlib.Core.Path.{_≡_, sym}
 use Prim.Native.Nat.{ℕ, _-_, _^_, _≤_, _<_}
 use native.Mathlib.Omega.{arith}
-use borrow.Author.Needs.{needs}
-use lib.ListN.{length, getD, take}
-use Rattle.card.proofs.Lists.{extend}
-use Rattle.card.proofs.Fields.{few-entries, unused-clear, unused-not-clear}
+use lib.ListN.{getD}
+use Rattle.card_format.proofs.Lists.{extend}
+use Rattle.card_format.proofs.Fields.{few-entries, unused-clear, unused-not-clear}
 use Rattle.card.proofs.table.unused_clear.Statement.{statement}
 use Rattle.card.proofs.table.unused_clear.Tie as tie
-use Rattle.card.proofs.table.unused_clear.Reads as reads
-use Rattle.card.proofs.table.unused_clear.Lts as lts
-use Rattle.card.proofs.table.entries.Reads as entries-reads
 
 abbrev Inv-loop : tie.InvT-loop
 Inv-loop m table i₀ i = (2 ^ m ≤ i) × (i ≤ 16) × ((j : ℕ) → j < i → 2 ^ m ≤ j → getD table j 0 ≡ 0)
@@ -19,7 +15,7 @@ abbrev μ-loop : tie.MeasureT-loop
 
 -- src/table.rt:82:9
 entries-requires : tie.Need-entries-requires Inv-loop μ-loop
-entries-requires c κs = search needs
+entries-requires c κs = omega arith
 
 -- src/table.rt:83:5
 loop-holds : tie.Need-loop-holds Inv-loop μ-loop
@@ -35,7 +31,7 @@ returns c = sym (unused-not-clear (c .before .before .before .before .args .m) (
 
 -- src/table.rt:87:9
 add-i : tie.Need-add-i Inv-loop μ-loop
-add-i c = search needs
+add-i c = omega arith
 
 -- src/table.rt:83:5
 loop-less : tie.Need-loop-less Inv-loop μ-loop

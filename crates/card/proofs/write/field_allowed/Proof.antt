@@ -1,23 +1,16 @@
-use mathlib.Core.Path.{_≡_, sym, ap, _∙_}
-use mathlib.Core.Bool.{false}
-use mathlib.Core.List.{List}
+use mathlib.Core.Path.{sym, ap, _∙_}
 use Prim.Native.Nat.{ℕ}
 use native.Mathlib.Omega.{arith}
 use borrow.Author.Tests.{lt-leb, le-leb}
-use Rattle.card.specs.Fields.{field, allowed}
-use Rattle.card.specs.Writing.{numbersOf}
-use Rattle.card.proofs.Writer.{allowed-one}
-use borrow.Author.Needs.{needs}
+use Rattle.card_format.specs.Fields.{field, allowed}
+use Rattle.card_format.specs.Writing.{numbersOf}
+use Rattle.card_format.proofs.Writing.{allowed-one}
 use Rattle.card.proofs.write.field_allowed.Statement.{statement}
 use Rattle.card.proofs.write.field_allowed.Tie as tie
-use Rattle.card.proofs.write.field_allowed.Reads as reads
-use Rattle.card.proofs.write.field_allowed.Lts as lts
-use Rattle.card.proofs.table.entries_allowed.Reads as entries-allowed-reads
-use Rattle.card.proofs.write.number_of.Reads as number-of-reads
 
 -- src/write.rt:57:39
 cast-entries-allowed : tie.Need-cast-entries-allowed
-cast-entries-allowed c = search needs
+cast-entries-allowed c = omega arith
 
 -- src/write.rt:57:9
 entries-allowed-requires : tie.Need-entries-allowed-requires
@@ -32,15 +25,15 @@ returns c =
 
 -- src/write.rt:59:9
 number-of-requires : tie.Need-number-of-requires
-number-of-requires c κs = search needs
+number-of-requires c κs = omega arith
 
 -- src/write.rt:60:12
 mul-if2 : tie.Need-mul-if2
-mul-if2 c = search needs
+mul-if2 c = omega arith
 
 -- src/write.rt:60:12
 array-read-if2 : tie.Need-array-read-if2
-array-read-if2 c = search needs
+array-read-if2 c = omega arith
 
 -- src/write.rt:61:9
 returns-2 : tie.Need-returns-2
@@ -50,11 +43,11 @@ returns-2 c =
 
 -- src/write.rt:63:10
 mul-result : tie.Need-mul-result
-mul-result c = search needs
+mul-result c = omega arith
 
 -- src/write.rt:63:10
 array-read-result : tie.Need-array-read-result
-array-read-result c = search needs
+array-read-result c = omega arith
 
 -- src/write.rt:51:1
 returns-3 : tie.Need-returns-3

@@ -1,22 +1,16 @@
 use mathlib.Core.Path.{_≡_, refl, sym, ap, _∙_}
-use mathlib.Core.Bool.{true, false}
-use Prim.Native.Nat.{ℕ, zero, suc, _-_, _<_, _≤_}
+use mathlib.Core.Bool.{true}
+use Prim.Native.Nat.{ℕ, _-_, _≤_}
 use native.Mathlib.Omega.{arith}
 use native.Mathlib.Numerals.{add-one}
-use borrow.Author.Needs.{needs}
 use borrow.Author.Tests.{not-true, not-false}
 use Rattle.cycle.specs.Notation.{every}
 use Rattle.cycle.proofs.Every.{every-at, every-not}
-use Rattle.tsc.specs.declared.Card.{Card}
-use Rattle.card.specs.Fields.{field, allowed}
-use Rattle.card.specs.Writing.{numbersOf, inRange}
-use Rattle.card.proofs.Writer.{words-allowed}
+use Rattle.card_format.specs.Fields.{field, allowed}
+use Rattle.card_format.specs.Writing.{numbersOf, inRange}
+use Rattle.card_format.proofs.Writing.{words-allowed}
 use Rattle.card.proofs.write.in_range.Statement.{statement}
 use Rattle.card.proofs.write.in_range.Tie as tie
-use Rattle.card.proofs.write.in_range.Reads as reads
-use Rattle.card.proofs.write.in_range.Lts as lts
-use Rattle.card.proofs.table.unused_clear.Reads as unused-clear-reads
-use Rattle.card.proofs.write.field_allowed.Reads as field-allowed-reads
 
 abbrev Inv-loop : tie.InvT-loop
 Inv-loop card k₀ k = (k ≤ 8) × (every k (λ j. allowed (field (card .words) j) (numbersOf card j)) ≡ true)
@@ -53,7 +47,7 @@ loop-again c = (omega arith, rw add-one (simp (c .before .before .before .loop .
 
 -- src/write.rt:76:25
 cast-unused-clear : tie.Need-cast-unused-clear Inv-loop μ-loop
-cast-unused-clear c = search needs
+cast-unused-clear c = omega arith
 
 -- src/write.rt:76:5
 unused-clear-requires : tie.Need-unused-clear-requires Inv-loop μ-loop

@@ -1,24 +1,19 @@
-use mathlib.Core.Path.{_≡_, refl, sym, ap, _∙_}
-use mathlib.Core.Bool.{Bool, not}
-use Prim.Native.Nat.{ℕ}
-use Rattle.card.specs.Fields.{fields, field}
-use Rattle.card.specs.Writing.{numbersOf, isWritten}
-use Rattle.card.proofs.Writer.{absent-one}
-use borrow.Author.Needs.{needs}
+use native.Mathlib.Omega.{arith}
+use mathlib.Core.Path.{refl, sym, ap, _∙_}
+use mathlib.Core.Bool.{not}
+use Rattle.card_format.specs.Fields.{fields, field}
+use Rattle.card_format.specs.Writing.{numbersOf, isWritten}
+use Rattle.card_format.proofs.Writing.{absent-one}
 use Rattle.card.proofs.write.is_written.Statement.{statement}
 use Rattle.card.proofs.write.is_written.Tie as tie
-use Rattle.card.proofs.write.is_written.Reads as reads
-use Rattle.card.proofs.write.is_written.Lts as lts
-use Rattle.card.proofs.table.is_tsc1.Reads as is-tsc1-reads
-use Rattle.card.proofs.write.number_of.Reads as number-of-reads
 
 -- src/write.rt:99:32
 cast-is-tsc1 : tie.Need-cast-is-tsc1
-cast-is-tsc1 c = search needs
+cast-is-tsc1 c = omega arith
 
 -- src/write.rt:99:17
 is-tsc1-requires : tie.Need-is-tsc1-requires
-is-tsc1-requires c κs = search needs
+is-tsc1-requires c κs = omega arith
 
 -- src/write.rt:99:9
 returns : tie.Need-returns
@@ -27,15 +22,15 @@ returns c = ap not (c .is-tsc1 .ensures) ∙ ap (isWritten (c .before .before .b
 
 -- src/write.rt:101:5
 number-of-requires : tie.Need-number-of-requires
-number-of-requires c κs = search needs
+number-of-requires c κs = omega arith
 
 -- src/write.rt:101:27
 mul-result : tie.Need-mul-result
-mul-result c = search needs
+mul-result c = omega arith
 
 -- src/write.rt:101:27
 array-read-result : tie.Need-array-read-result
-array-read-result c = search needs
+array-read-result c = omega arith
 
 -- src/write.rt:93:1
 returns-2 : tie.Need-returns-2

@@ -1,45 +1,54 @@
-use Rattle.card.proofs.Writer.{numbersOf-one}
-use borrow.Author.Needs.{needs}
+use native.Mathlib.Omega.{arith}
+use mathlib.Core.List.{List, [], _∷_}
+use Prim.Native.Nat.{ℕ}
+use Rattle.tsc.specs.declared.Card.{Card}
+use lib.ListN.{getD}
+use Rattle.card_format.proofs.Writing.{numbersOf-single}
 use Rattle.card.proofs.write.number_of.Statement.{statement}
 use Rattle.card.proofs.write.number_of.Tie as tie
-use Rattle.card.proofs.write.number_of.Reads as reads
-use Rattle.card.proofs.write.number_of.Lts as lts
+
+-- the array of a card's numbers
+abbrev numbersArray : Card → List ℕ
+numbersArray card =
+    card .words ∷ card .width ∷ 0 ∷ card .«odd_power» ∷ card .«even_power» ∷ card .constant ∷ card .filter ∷ card .«sum_term» ∷ []
 
 -- src/write.rt:38:9
 cast-result : tie.Need-cast-result
-cast-result c = search needs
+cast-result c = omega arith
 
 -- src/write.rt:39:9
 cast-t5 : tie.Need-cast-t5
-cast-t5 c = search needs
+cast-t5 c = omega arith
 
 -- src/write.rt:41:9
 cast-t6 : tie.Need-cast-t6
-cast-t6 c = search needs
+cast-t6 c = omega arith
 
 -- src/write.rt:42:9
 cast-t7 : tie.Need-cast-t7
-cast-t7 c = search needs
+cast-t7 c = omega arith
 
 -- src/write.rt:44:9
 cast-t8 : tie.Need-cast-t8
-cast-t8 c = search needs
+cast-t8 c = omega arith
 
 -- src/write.rt:45:9
 cast-t9 : tie.Need-cast-t9
-cast-t9 c = search needs
+cast-t9 c = omega arith
 
 -- src/write.rt:47:5
 mul-result : tie.Need-mul-result
-mul-result c = search needs
+mul-result c = omega arith
 
 -- src/write.rt:47:5
 array-read-result : tie.Need-array-read-result
-array-read-result c = search needs
+array-read-result c = omega arith
 
 -- src/write.rt:33:1
 returns : tie.Need-returns
-returns c = let p = c .before .before .before .before .before .before .pre in numbersOf-one (c .before .before .before .before .before .before .args .card) (c .before .before .before .before .before .before .args .k) (p .0) (p .1)
+returns c =
+    let p = c .before .before .before .before .before .before .pre in
+    numbersOf-single (λ k. getD (numbersArray (c .before .before .before .before .before .before .args .card)) k 0) (c .before .before .before .before .before .before .args .card .table) (c .before .before .before .before .before .before .args .k) (p .0) (p .1)
 
 pub number-of-spec : {M : Type 1} → statement M
 number-of-spec =

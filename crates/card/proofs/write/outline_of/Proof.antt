@@ -1,21 +1,16 @@
-use mathlib.Core.Path.{_≡_, refl, sym, ap, ap₂, _∙_}
+use mathlib.Core.Path.{_≡_, refl, sym, ap, _∙_}
 use mathlib.Core.Bool.{cond}
-use mathlib.Core.List.{List, _++_}
-use Prim.Native.Nat.{ℕ, suc, _+_, _-_, _*_, _^_, _≤_, _<_}
+use Prim.Native.Nat.{ℕ, _+_, _-_, _*_, _^_, _≤_}
 use native.Mathlib.Numerals.{add-one}
 use native.Mathlib.Omega.{arith}
-use borrow.Author.Needs.{needs}
-use lib.ListN.{length, length-append}
+use lib.ListN.{length}
 use Rattle.cycle.specs.Notation.{sum}
 use Rattle.tsc.specs.declared.Card.{Card}
-use Rattle.card.specs.Writing.{isWritten, fieldBytes, mapTo, writtenTo}
-use Rattle.card.proofs.Bytes.{map-lt}
-use Rattle.card.proofs.Writer.{lengthTo, length-suc, fieldBytes-few}
+use Rattle.card_format.specs.Writing.{isWritten, fieldBytes, mapTo, writtenTo}
+use Rattle.card_format.proofs.Bytes.{map-lt}
+use Rattle.card_format.proofs.Writing.{lengthTo, length-suc, fieldBytes-few}
 use Rattle.card.proofs.write.outline_of.Statement.{statement}
 use Rattle.card.proofs.write.outline_of.Tie as tie
-use Rattle.card.proofs.write.outline_of.Reads as reads
-use Rattle.card.proofs.write.outline_of.Lts as lts
-use Rattle.card.proofs.write.with_field.Reads as with-field-reads
 
 map-suc : (card : Card) (k : ℕ) → mapTo card (k + 1) ≡ mapTo card k + cond (isWritten card k) (2 ^ k) 0
 unfolding sum

@@ -1,21 +1,14 @@
-use Rattle.card.proofs.Lists.{length-front}
-use lib.Seq.{length-take-le}
+use Rattle.card_format.proofs.Lists.{length-front, part-rest, put-next, set-first, drop-set-first}
 use mathlib.Core.Path.{_≡_, refl, sym, ap, ap₂, _∙_}
-use mathlib.Core.Bool.{true}
-use mathlib.Core.List.{List, [], _∷_, _++_}
+use mathlib.Core.List.{List, _∷_, _++_}
 use Prim.Native.Nat.{ℕ, _+_, _-_, _<_, _≤_}
 use native.Mathlib.Omega.{arith}
-use borrow.Author.Needs.{needs}
-use lib.ListN.{length, set, take, drop, length-set, length-append, length-drop}
+use lib.ListN.{length, set, take, drop, length-set, length-drop}
 use Rattle.tsc.specs.declared.Card.{Card}
-use Rattle.card.specs.Writing.{fieldBytes, mapTo, writtenTo, written, inRange}
-use Rattle.card.proofs.Lists.{part-rest, put-next, set-first, drop-set-first}
-use Rattle.card.proofs.Writer.{lengthTo, length-suc, writtenTo-suc, length-before, length-some}
+use Rattle.card_format.specs.Writing.{fieldBytes, writtenTo, written}
+use Rattle.card_format.proofs.Writing.{lengthTo, length-suc, writtenTo-suc, length-before, length-some}
 use Rattle.card.proofs.write.put_card.Statement.{statement}
 use Rattle.card.proofs.write.put_card.Tie as tie
-use Rattle.card.proofs.write.put_card.Reads as reads
-use Rattle.card.proofs.write.put_card.Lts as lts
-use Rattle.card.proofs.write.put_field.Reads as put-field-reads
 
 -- the fields before field k are written to the front of d
 abbrev Front : Card → List ℕ → List ℕ → ℕ → ℕ → Type 0

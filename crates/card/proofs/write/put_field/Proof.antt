@@ -1,27 +1,21 @@
 use mathlib.Core.Path.{_≡_, refl, sym, ap, ap₂, _∙_}
-use mathlib.Core.Bool.{Bool, true, false}
-use mathlib.Core.List.{List, [], _++_}
-use Prim.Native.Nat.{ℕ, _^_, _≤_, _<_}
+use mathlib.Core.Bool.{true}
+use mathlib.Core.List.{List, _++_}
+use Prim.Native.Nat.{ℕ, _^_}
 use native.Mathlib.Nat.{mul-one, one-mul}
 use native.Mathlib.Omega.{arith}
 use borrow.Author.Tests.{not-true, not-false}
-use lib.ListN.{length, getD, take, drop}
+use lib.ListN.{length, take, drop}
 use Rattle.tsc.specs.declared.Card.{Card}
-use Rattle.card.specs.Fields.{field, fields, tableBit, extent}
-use Rattle.card.specs.Writing.{isWritten, fieldBytes, inRange}
-use Rattle.card.specs.Steps.{lowFirst}
-use Rattle.card.proofs.Fields.{sizes, numeric}
-use Rattle.card.proofs.Writer.{range-words, length-fieldBytes, extent-few, fieldBytes-none, fieldBytes-one, fieldBytes-table}
+use Rattle.card_format.specs.Fields.{field, fields, tableBit, extent}
+use Rattle.card_format.specs.Writing.{isWritten, fieldBytes, inRange}
+use Rattle.card.specs.Steps.{lowBytes}
+use Rattle.card_format.proofs.Fields.{numeric}
+use Rattle.card_format.proofs.Writing.{range-words, length-fieldBytes, extent-few, fieldBytes-none, fieldBytes-table}
+use Rattle.card.proofs.Writer.{fieldBytes-one}
 use borrow.Author.Needs.{needs}
 use Rattle.card.proofs.write.put_field.Statement.{statement}
 use Rattle.card.proofs.write.put_field.Tie as tie
-use Rattle.card.proofs.write.put_field.Reads as reads
-use Rattle.card.proofs.write.put_field.Lts as lts
-use Rattle.card.proofs.field.extent_of.Reads as extent-of-reads
-use Rattle.card.proofs.write.is_written.Reads as is-written-reads
-use Rattle.card.proofs.write.number_of.Reads as number-of-reads
-use Rattle.card.proofs.write.put_number.Reads as put-number-reads
-use Rattle.card.proofs.write.put_table.Reads as put-table-reads
 
 -- a field that is written has its whole extent
 whole : (card : Card) (k n : ℕ) → n ≡ extent (field (card .words) k) → isWritten card k ≡ true → n ≡ length (fieldBytes card k)
@@ -47,7 +41,7 @@ returns c =
 
 -- src/write.rt:171:29
 cast-extent-of : tie.Need-cast-extent-of
-cast-extent-of c = search needs
+cast-extent-of c = omega arith
 
 -- src/write.rt:171:9
 extent-of-requires : tie.Need-extent-of-requires
@@ -62,7 +56,7 @@ put-table-requires c κs =
 
 -- src/write.rt:175:9
 same-length : tie.Need-same-length
-same-length c = search needs
+same-length c = omega arith
 
 -- src/write.rt:175:9
 returns-2 : tie.Need-returns-2
@@ -78,7 +72,7 @@ returns-2 c =
 
 -- src/write.rt:177:16
 number-of-requires : tie.Need-number-of-requires
-number-of-requires c κs = search needs
+number-of-requires c κs = omega arith
 
 -- src/write.rt:177:5
 put-number-requires : tie.Need-put-number-requires
@@ -88,7 +82,7 @@ put-number-requires c κs =
 
 -- src/write.rt:162:1
 same-length-2 : tie.Need-same-length-2
-same-length-2 c = search needs
+same-length-2 c = omega arith
 
 -- src/write.rt:162:1
 returns-3 : tie.Need-returns-3
@@ -98,7 +92,7 @@ returns-3 c =
     let e = whole (a .card) (a .k) (c .before .before .before .before .before .before .extent-of .result) (c .before .before .before .before .before .before .extent-of .ensures) w in (
       e,
       c .before .before .put-number .ensures ∙ ap₂ (λ (xs : List ℕ) (n : ℕ). xs ++ drop n (a .part .now))
-          (ap (lowFirst (c .before .before .before .before .number-of .result)) (c .before .before .before .before .before .before .extent-of .ensures ∙ ap extent (numeric (a .card .words) (a .k) (c .before .before .before .before .before .before .before .before .before .before .before .pre .0 .0) (c .before .before .before .before .before .if2 .left)) ∙ one-mul _)
+          (ap (lowBytes (c .before .before .before .before .number-of .result)) (c .before .before .before .before .before .before .extent-of .ensures ∙ ap extent (numeric (a .card .words) (a .k) (c .before .before .before .before .before .before .before .before .before .before .before .pre .0 .0) (c .before .before .before .before .before .if2 .left)) ∙ one-mul _)
           ∙ sym (fieldBytes-one (a .card) (a .k) (c .before .before .before .before .number-of .result) (c .before .before .before .before .before .before .before .before .before .before .before .pre .0 .0) (c .before .before .before .before .before .if2 .left) (c .before .before .before .before .number-of .ensures) w)) e,
     )
 

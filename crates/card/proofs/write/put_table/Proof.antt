@@ -1,14 +1,11 @@
-use mathlib.Core.Path.{_≡_, refl, sym, ap, _∙_}
+use mathlib.Core.Path.{_≡_, refl, ap, _∙_}
 use mathlib.Core.List.{List}
 use Prim.Native.Nat.{ℕ, _-_, _≤_}
 use native.Mathlib.Omega.{arith}
-use borrow.Author.Needs.{needs}
 use lib.ListN.{length, getD, set}
-use Rattle.card.proofs.Lists.{over, over-suc, length-over}
+use Rattle.card_format.proofs.Lists.{over, over-suc, length-over}
 use Rattle.card.proofs.write.put_table.Statement.{statement}
 use Rattle.card.proofs.write.put_table.Tie as tie
-use Rattle.card.proofs.write.put_table.Reads as reads
-use Rattle.card.proofs.write.put_table.Lts as lts
 
 abbrev Inv-loop : tie.InvT-loop
 Inv-loop size part₀ table i₀ part i = (i ≤ size) × (size ≤ 16) × (size ≤ length part₀) × (length table ≡ 16) × (part ≡ over table part₀ i)

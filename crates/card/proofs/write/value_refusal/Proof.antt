@@ -1,23 +1,17 @@
-use mathlib.Core.Path.{_≡_, refl, sym, ap, _∙_}
-use mathlib.Core.Bool.{true, false}
 use native.Mathlib.Omega.{arith}
+use mathlib.Core.Path.{_≡_, sym, _∙_}
 use borrow.Author.Tests.{not-true, not-false}
 use lib.ListN.{length}
-use Rattle.card.specs.Refusals.{firstOf}
-use Rattle.card.specs.Writing.{valueChecks}
-use Rattle.card.proofs.Writer.{range-formed}
+use Rattle.card_format.specs.Refusals.{firstOf}
+use Rattle.card_format.specs.Writing.{valueChecks}
+use Rattle.card_format.proofs.Writing.{range-formed}
 use borrow.Author.Needs.{needs}
 use Rattle.card.proofs.write.value_refusal.Statement.{statement}
 use Rattle.card.proofs.write.value_refusal.Tie as tie
-use Rattle.card.proofs.write.value_refusal.Reads as reads
-use Rattle.card.proofs.write.value_refusal.Lts as lts
-use Rattle.card.proofs.check.period_refusal.Reads as period-refusal-reads
-use Rattle.card.proofs.field.exceeds.Reads as exceeds-reads
-use Rattle.card.proofs.write.in_range.Reads as in-range-reads
 
 -- src/write.rt:83:9
 in-range-requires : tie.Need-in-range-requires
-in-range-requires c κs = search needs
+in-range-requires c κs = omega arith
 
 -- src/write.rt:84:9
 returns : tie.Need-returns
@@ -26,11 +20,11 @@ returns c = simp (sym (c .before .in-range .ensures) ∙ not-true _ (c .if1 .tak
 
 -- src/write.rt:86:31
 cast-exceeds : tie.Need-cast-exceeds
-cast-exceeds c = search needs
+cast-exceeds c = omega arith
 
 -- src/write.rt:86:8
 exceeds-requires : tie.Need-exceeds-requires
-exceeds-requires c κs = search needs
+exceeds-requires c κs = omega arith
 
 -- src/write.rt:87:9
 returns-2 : tie.Need-returns-2

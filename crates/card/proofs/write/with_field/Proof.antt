@@ -1,24 +1,17 @@
-use mathlib.Core.Path.{_≡_, refl, sym, ap, ap₂, _∙_}
-use mathlib.Core.Bool.{true, false, cond}
-use Prim.Native.Nat.{ℕ, _+_, _^_, _≤_, _<_}
+use mathlib.Core.Path.{sym, ap, _∙_}
+use Prim.Native.Nat.{ℕ, _+_, _^_, _≤_}
 use native.Mathlib.Nat.{add-zero}
 use native.Mathlib.Omega.{arith}
 use borrow.Author.Tests.{not-true, not-false}
 use lib.Pow.{pow-mono}
-use Rattle.card.specs.Fields.{field, extent}
-use Rattle.card.proofs.Fields.{one-shifted}
-use Rattle.card.proofs.Writer.{length-fieldBytes, extent-few}
-use borrow.Author.Needs.{needs}
+use Rattle.card_format.proofs.Fields.{one-shifted}
+use Rattle.card_format.proofs.Writing.{length-fieldBytes, extent-few}
 use Rattle.card.proofs.write.with_field.Statement.{statement}
 use Rattle.card.proofs.write.with_field.Tie as tie
-use Rattle.card.proofs.write.with_field.Reads as reads
-use Rattle.card.proofs.write.with_field.Lts as lts
-use Rattle.card.proofs.field.extent_of.Reads as extent-of-reads
-use Rattle.card.proofs.write.is_written.Reads as is-written-reads
 
 -- src/write.rt:110:9
 is-written-requires : tie.Need-is-written-requires
-is-written-requires c κs = search needs
+is-written-requires c κs = omega arith
 
 -- src/write.rt:111:9
 returns : tie.Need-returns
@@ -29,11 +22,11 @@ returns c =
 
 -- src/write.rt:114:28
 cast-t6 : tie.Need-cast-t6
-cast-t6 c = search needs
+cast-t6 c = omega arith
 
 -- src/write.rt:114:23
 shl-t7 : tie.Need-shl-t7
-shl-t7 c = search needs
+shl-t7 c = omega arith
 
 -- src/write.rt:114:14
 add-t8 : tie.Need-add-t8
@@ -44,11 +37,11 @@ add-t8 c =
 
 -- src/write.rt:115:41
 cast-extent-of : tie.Need-cast-extent-of
-cast-extent-of c = search needs
+cast-extent-of c = omega arith
 
 -- src/write.rt:115:28
 extent-of-requires : tie.Need-extent-of-requires
-extent-of-requires c κs = search needs
+extent-of-requires c κs = omega arith
 
 -- src/write.rt:115:17
 add-t11 : tie.Need-add-t11

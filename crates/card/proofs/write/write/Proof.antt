@@ -1,24 +1,17 @@
-use mathlib.Core.Path.{_≡_, sym, ap, _∙_}
-use mathlib.Core.List.{List}
-use Prim.Native.Nat.{ℕ, _≤_, _<_}
+use mathlib.Core.Path.{sym, ap, _∙_}
+use Prim.Native.Nat.{_≤_, _<_}
 use native.Mathlib.Omega.{arith}
 use borrow.Author.Tests.{lt-ltb, le-ltb}
 use lib.ListN.{length}
-use Rattle.card.specs.declared.write.Written.the-variants.{Length}
-use Rattle.card.specs.Writing.{written}
-use Rattle.card.proofs.Writer.{range-words, value-told, room-told, value-range, writing-refused, writing-done}
-use borrow.Author.Needs.{needs}
+use Rattle.card_format.specs.declared.Written.the-variants.{Length}
+use Rattle.card_format.specs.Writing.{written}
+use Rattle.card_format.proofs.Writing.{range-words, value-told, room-told, value-range, writing-refused, writing-done}
 use Rattle.card.proofs.write.write.Statement.{statement}
 use Rattle.card.proofs.write.write.Tie as tie
-use Rattle.card.proofs.write.write.Reads as reads
-use Rattle.card.proofs.write.write.Lts as lts
-use Rattle.card.proofs.write.outline_of.Reads as outline-of-reads
-use Rattle.card.proofs.write.put_card.Reads as put-card-reads
-use Rattle.card.proofs.write.value_refusal.Reads as value-refusal-reads
 
 -- src/write.rt:199:9
 value-refusal-requires : tie.Need-value-refusal-requires
-value-refusal-requires c κs = search needs
+value-refusal-requires c κs = omega arith
 
 -- src/write.rt:201:9
 returns : tie.Need-returns
@@ -47,7 +40,7 @@ put-card-requires c κs =
 
 -- src/write.rt:195:1
 same-length : tie.Need-same-length
-same-length c = search needs
+same-length c = omega arith
 
 -- src/write.rt:195:1
 returns-3 : tie.Need-returns-3

@@ -7,7 +7,7 @@ use native.Mathlib.Decide.{ℕ-discrete}
 use native.Mathlib.Numerals.{add-one}
 use native.Mathlib.Omega.{arith}
 use lib.ListN.{length, getD, set, take, drop, replicate, length-append, length-drop, drop-of-length-le}
-use lib.Seq.{paste, paste-suc, take-all, length-take-le, drop-nil, drop-drop, take-at, drop-at}
+use lib.Seq.{paste-suc, take-all, length-take-le, drop-nil, drop-drop, take-at, drop-at}
 
 -- what holds below i and at i, holds below i + 1
 pub extend : (P : ℕ → Type 0) (i : ℕ) → ((j : ℕ) → j < i → P j) → P i → (j : ℕ) → j < i + 1 → P j

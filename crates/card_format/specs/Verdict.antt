@@ -6,8 +6,8 @@ use lib.Dec.{eqb}
 use Rattle.cycle.specs.Cycle.{firstReturn}
 use Rattle.tsc.specs.declared.Card.{Card}
 use Rattle.tsc.specs.Step.{entry}
-use Rattle.card.specs.Refusals.{Check, check, firstOf, notSingleCycle, evenConstant, powerParity}
-use Rattle.card.specs.Reading.{cardOf, formChecks}
+use Rattle.card_format.specs.Refusals.{Check, check, firstOf, notSingleCycle, evenConstant, powerParity}
+use Rattle.card_format.specs.Reading.{cardOf, formChecks}
 
 -- conditions 7 to 9, on a card's values: from 0 the table does not first return to 0 after all 2^m entries; C is even; a is even or b is odd
 unfoldable pub periodChecks : Card → List Check

@@ -1,25 +1,25 @@
 -- One field: its numbers from its bytes and back, and the map byte from its bits and back. First the lists and tests that they need.
 use mathlib.Core.Path.{_≡_, refl, sym, ap, ap₂, _∙_}
-use mathlib.Core.Bool.{Bool, true, false, cond, not, and-eq-true-iff, false≢true}
+use mathlib.Core.Bool.{Bool, true, false, cond, not}
 use mathlib.Core.List.{List, [], _∷_, _++_}
 use Prim.Native.Nat.{ℕ, zero, suc, _+_, _*_, _/_, _%_, _^_, _≤_, _<_, zero-le}
 use native.Mathlib.Nat.{one-mul, zero-mul, mul-zero, mod-lt, mod-eq-of-lt, div-add-mod', div-lt-iff-lt-mul, le-refl, le-add-right, lt-of-le-of-lt, lt-of-mul-lt-mul-left}
 use native.Mathlib.Omega.{arith}
-use borrow.Author.Tests.{eqb-true, eq-eqb, ltb-false, le-ltb}
+use borrow.Author.Tests.{eqb-true, ltb-false, le-ltb}
 use lib.Arith.{digits-lt, digits-div, digits-mod}
 use lib.Dec.{eqb, lit<}
 use lib.ListN.{length, getD, take, length-append, List·getD-append}
 use lib.Seq.{take-all}
-use Rattle.cycle.specs.Notation.{sum, every, tabulate, bit}
+use Rattle.cycle.specs.Notation.{sum, every, bit}
 use Rattle.cycle.proofs.Sum.{sum-ext}
 use Rattle.cycle.proofs.Every.{every-at}
 use Rattle.cycle.proofs.Parity.{two-pos}
 use Rattle.cycle.proofs.Digits.{fromDigits, fromDigits-ext, fromDigits-lt, fromDigits-of, digit-fromDigits, length-tabulate, getD-tabulate, tabulate-ext, tabulate-getD}
-use Rattle.card.specs.Refusals.{Check, NoneApplies}
-use Rattle.card.specs.Fields.{Field, extent, numbers, bytesOf, same}
-use Rattle.card.specs.Reading.{partChecks}
-use Rattle.card.proofs.Fields.{allowed-at, same-refl, same-true}
-use Rattle.card.proofs.Sound.{Fitting}
+use Rattle.card_format.specs.Refusals.{Check, NoneApplies}
+use Rattle.card_format.specs.Fields.{Field, extent, numbers, bytesOf, same}
+use Rattle.card_format.specs.Reading.{partChecks}
+use Rattle.card_format.proofs.Fields.{allowed-at, same-refl, same-true}
+use Rattle.card_format.proofs.Sound.{Fitting}
 
 -- ---- lists and tests
 

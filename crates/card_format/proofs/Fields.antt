@@ -15,11 +15,11 @@ use Rattle.cycle.specs.Notation.{sum, tabulate}
 use Rattle.cycle.proofs.Digits.{tabulate-ext, tabulate-getD}
 use Rattle.cycle.proofs.Sum.{sum-ext}
 use Rattle.tsc.specs.Constants.{tsc1Constant, tsc1Table, mostWords}
-use Rattle.card.specs.Fields.{Field, row, fields, field, tableBit, numbers, allowed, same}
-use Rattle.card.specs.Refusals.{firstOf}
-use Rattle.card.specs.Reading.{partChecks, padded}
-use Rattle.card.specs.Writing.{unusedClear}
-use Rattle.card.proofs.Lists.{over, drop-replicate}
+use Rattle.card_format.specs.Fields.{Field, row, fields, field, tableBit, numbers, allowed, same}
+use Rattle.card_format.specs.Refusals.{firstOf}
+use Rattle.card_format.specs.Reading.{partChecks, padded}
+use Rattle.card_format.specs.Writing.{unusedClear}
+use Rattle.card_format.proofs.Lists.{over, drop-replicate}
 
 -- ---- the numeric fields
 

@@ -2,54 +2,38 @@
 use mathlib.Core.Path.{_≡_, refl, sym, ap, ap₂, _∙_}
 use mathlib.Core.Logic.{_≢_}
 use mathlib.Core.Bool.{Bool, true, false, cond, not, _&&_, and-eq-true-iff}
-use mathlib.Core.List.{List, [], _∷_, _++_, map, append-assoc, append-nil}
+use mathlib.Core.List.{List, [], _∷_, _++_, append-assoc, append-nil}
 use Prim.Native.Nat.{ℕ, zero, suc, _+_, _-_, _^_, _≤_, _<_}
-use native.Mathlib.Nat.{add-assoc, le-of-eq}
+use native.Mathlib.Nat.{le-of-eq}
 use native.Mathlib.Decide.{ℕ-discrete}
 use native.Mathlib.Omega.{arith}
 use borrow.Author.Tests.{ltb-true, ltb-false, lt-ltb, le-ltb, leb-true, eqb-false, eq-eqb, ne-eqb, not-true, not-false}
 use lib.Dec.{eqb, leb, ltb, lit<}
-use lib.ListN.{length, getD, take, drop, replicate, length-append, length-drop, length-replicate, getD-replicate, take-append-drop, List·getD-map}
+use lib.ListN.{length, getD, take, drop, length-append, length-drop, length-replicate, take-append-drop}
 use lib.Pow.{pow-mono}
-use lib.Seq.{length-take-le, getD-set-other, getD-drop, take-at, take-all, take-suc, take-add, drop-at}
+use lib.Seq.{length-take-le, getD-drop, take-at, take-all, take-suc, take-add, drop-at}
 use Rattle.cycle.specs.Notation.{sum, every, tabulate}
 use Rattle.cycle.proofs.Sum.{sum-ext, sum-mono, sum-split}
 use Rattle.cycle.proofs.Every.{every-at, every-of}
 use Rattle.cycle.proofs.Digits.{tabulate-ext}
 use Rattle.tsc.specs.declared.Card.{Card}
 use Rattle.tsc.specs.Constants.{mostWords}
-use Rattle.card.specs.declared.write.Written.the-variants.{Length, Refused}
-use Rattle.card.specs.Refusals.{check, firstOf, NoneApplies, tableMissing}
-use Rattle.card.specs.Fields.{Field, row, fields, field, tableBit, extent, allowed, same}
-use Rattle.card.specs.Reading.{present, offset, valuesAt, wordsOf, values, value, padded, cardFrom, cardOf, partChecks, fieldChecks, checksTo, formChecks, SoundForm}
-use Rattle.card.specs.Verdict.{periodChecks, verdict}
-use Rattle.card.specs.Writing.{numbersOf, isWritten, fieldBytes, writtenTo, written, unusedClear, inRange, valueChecks, writeChecks, writing, pageAfter}
-use Rattle.card.proofs.Refusals.{first-none, none-first, first-append, none-left, none-right, none-append}
-use Rattle.card.proofs.Sound.{Fitting, sound-fitting, sound-value, value-words, field-none}
-use Rattle.card.proofs.Fields.{allowed-at, same-refl, same-true}
-use Rattle.card.proofs.Bytes.{cond-le, length-cond, length-one, Bytes, byte-lt, length-bytesOf, read-differs, read-bytes, written-read, bit-map, map-bit}
+use Rattle.card_format.specs.declared.Written.the-variants.{Length, Refused}
+use Rattle.card_format.specs.Refusals.{check, firstOf, NoneApplies, tableMissing}
+use Rattle.card_format.specs.Fields.{Field, fields, field, tableBit, extent, allowed, same}
+use Rattle.card_format.specs.Reading.{present, offset, valuesAt, wordsOf, values, value, padded, cardFrom, cardOf, partChecks, fieldChecks, checksTo, formChecks, SoundForm}
+use Rattle.card_format.specs.Verdict.{periodChecks, verdict}
+use Rattle.card_format.specs.Writing.{numbersOf, isWritten, fieldBytes, writtenTo, written, unusedClear, inRange, valueChecks, writeChecks, writing, pageAfter}
+use Rattle.card_format.proofs.Refusals.{first-none, none-first, none-left, none-right, none-append}
+use Rattle.card_format.proofs.Sound.{Fitting, offset-suc, sound-fitting, sound-value, value-words, field-none}
+use Rattle.card_format.proofs.Fields.{numeric, same-refl, same-true}
+use Rattle.card_format.proofs.Writing.{numbersOf-single, range-words, room-told, writing-refused, writing-done}
+use Rattle.card_format.proofs.Bytes.{cond-le, length-cond, length-one, Bytes, byte-lt, length-bytesOf, read-differs, read-bytes, written-read, bit-map, map-bit}
 
 -- ---- the numbers of a card: one in each field but the table
 
-abbrev singles : ℕ → (ℕ → ℕ) → List (List ℕ)
-singles n number = map (λ (x : ℕ). x ∷ []) (tabulate n number)
-
-getD-singles : (n : ℕ) (number : ℕ → ℕ) (k : ℕ) → k < n → getD (singles n number) k [] ≡ number k ∷ []
-unfolding tabulate
-getD-singles zero number k l = absurd (omega arith)
-getD-singles (suc n) number zero l = refl
-getD-singles (suc n) number (suc k) l = getD-singles n (λ j. number (suc j)) k (omega arith)
-
-numbersOf-single : (number : ℕ → ℕ) (table : List ℕ) (k : ℕ) → k < 8 → k ≢ tableBit → numbersOf (cardFrom number table) k ≡ number k ∷ []
-unfolding numbersOf tabulate
-numbersOf-single number table k l ne =
-    getD-set-other (singles 8 number) tableBit k (take (2 ^ number 0) table) [] ne ∙ getD-singles 8 number k l
-
 count-single : (m k : ℕ) → k < 8 → k ≢ tableBit → field m k .count ≡ 1
-unfolding field fields
-count-single m k l ne =
-    sym (List·getD-map (λ (f : Field). f .count) (fields m) k (row 0 0 0 0 []))
-    ∙ getD-set-other (replicate 8 1) tableBit k (2 ^ m) 0 ne ∙ getD-replicate 8 k 1 0 l
+count-single m k l ne = ap (λ (f : Field). f .count) (numeric m k l ne)
 
 by-table : (P : ℕ → Type 0) → P tableBit → ((k : ℕ) → k < 8 → k ≢ tableBit → P k) → (k : ℕ) → k < 8 → P k
 by-table P t others k l = go (ℕ-discrete k tableBit)
@@ -61,12 +45,6 @@ by-table P t others k l = go (ℕ-discrete k tableBit)
 card-ext : (f g : ℕ → ℕ) (s t : List ℕ) → ((k : ℕ) → k < 8 → f k ≡ g k) → s ≡ t → cardFrom f s ≡ cardFrom g t
 unfolding tabulate
 card-ext f g s t h e = ap₂ (λ (xs table : List ℕ). cardFrom (λ k. getD xs k 0) table) (tabulate-ext 8 f g h) e
-
--- ---- offsets
-
-offset-suc : (m : ℕ) (bytes : List ℕ) (k : ℕ) → offset m bytes (suc k) ≡ offset m bytes k + cond (present bytes k) (extent (field m k)) 0
-unfolding offset sum
-offset-suc m bytes k = sym (add-assoc 1 _ _)
 
 -- ---- a card of sound form
 
@@ -135,27 +113,29 @@ accepted-none : (bytes : List ℕ) → verdict bytes ≡ 0 → SoundForm bytes �
 unfolding verdict
 accepted-none bytes z = let n = none-first _ z in (none-left (formChecks bytes) _ n, none-right (formChecks bytes) _ n)
 
-accepted-told : (bytes : List ℕ) → Bytes bytes → verdict bytes ≡ 0 → (room : ℕ)
-    → firstOf (writeChecks (cardOf bytes) room) ≡ cond (ltb room (length bytes)) 16 0
-unfolding formChecks writeChecks valueChecks firstOf NoneApplies
-accepted-told bytes b z room =
+accepted-value : (bytes : List ℕ) → verdict bytes ≡ 0 → firstOf (valueChecks (cardOf bytes)) ≡ 0
+unfolding formChecks valueChecks NoneApplies
+accepted-value bytes z =
     let a = accepted-none bytes z in
-    first-append (valueChecks (cardOf bytes)) _ (rw (sound-inRange bytes (a .0)), (none-right (checksTo bytes 8) _ (a .0) .1 .0, a .1))
-    ∙ ap (λ (l : List ℕ). cond (ltb room (length l)) 16 0) (sound-written bytes b (a .0))
+    first-none _ (rw (sound-inRange bytes (a .0)), (none-right (checksTo bytes 8) _ (a .0) .1 .0, a .1))
 
 -- an accepted card, read and written to a page with room, is the same bytes and the same length
 pub accepted-writing : (bytes page : List ℕ) → Bytes bytes → verdict bytes ≡ 0 → length bytes ≤ length page
     → (writing (cardOf bytes) (length page) ≡ Length (length bytes)) × (pageAfter (cardOf bytes) page ≡ bytes ++ drop (length bytes) page)
-unfolding writing pageAfter
 accepted-writing bytes page b z l =
     let w = sound-written bytes b (accepted-none bytes z .0) in
-    rw (accepted-told bytes b z (length page), le-ltb (length page) (length bytes) l, w) (refl, refl)
+    let d = writing-done (cardOf bytes) page (room-told (cardOf bytes) (length page) (accepted-value bytes z) ∙ rw (w, le-ltb (length page) (length bytes) l) refl) in
+    (sym (d .0) ∙ ap (λ (x : List ℕ). Length (length x)) w, sym (d .1) ∙ ap (λ (x : List ℕ). x ++ drop (length x) page) w)
 
 -- with less room the answer is 16, and the page is as it was
 pub accepted-small : (bytes page : List ℕ) → Bytes bytes → verdict bytes ≡ 0 → length page < length bytes
     → (writing (cardOf bytes) (length page) ≡ Refused 16) × (pageAfter (cardOf bytes) page ≡ page)
-unfolding writing pageAfter
-accepted-small bytes page b z l = rw (accepted-told bytes b z (length page), lt-ltb (length page) (length bytes) l) (refl, refl)
+accepted-small bytes page b z l =
+    let w = sound-written bytes b (accepted-none bytes z .0) in
+    let d =
+    writing-refused (cardOf bytes) page 16 (λ e. absurd (omega arith))
+    (room-told (cardOf bytes) (length page) (accepted-value bytes z) ∙ rw (w, lt-ltb (length page) (length bytes) l) refl) in
+    (sym (d .0), sym (d .1))
 
 -- two accepted byte strings with the same values are the same string
 pub accepted-unique : (a b : List ℕ) → Bytes a → Bytes b → verdict a ≡ 0 → verdict b ≡ 0 → cardOf a ≡ cardOf b → a ≡ b
@@ -193,8 +173,7 @@ module _ (card : Card) (sixteen : length (card .table) ≡ 2 ^ mostWords) (r : i
   range-card = and-eq-true-iff _ _ .0 r
 
   words-card : card .words ≤ mostWords
-  unfolding numbersOf field fields
-  words-card = allowed-at (field (card .words) 0) (numbersOf card 0) (every-at 8 _ (range-card .0) 0 (lit< tt)) 0 (lit< tt) .1
+  words-card = range-words card r
 
   length-table-card : length (take (2 ^ card .words) (card .table)) ≡ 2 ^ card .words
   length-table-card = length-take-le (2 ^ card .words) (card .table) (rw sixteen (pow-mono words-card))

@@ -7,8 +7,8 @@ use lib.ListN.{replicate}
 use Rattle.tsc.specs.Constants.{tsc2Table}
 use Rattle.tsc.specs.Step.{step}
 use Rattle.tsc.specs.Word.{word}
-use Rattle.card.specs.Reading.{cardOf}
-use Rattle.card.specs.Verdict.{verdict}
+use Rattle.card_format.specs.Reading.{cardOf}
+use Rattle.card_format.specs.Verdict.{verdict}
 
 -- a card, its verdict and, where given, the state that follows the all-zero state, and its word
 pub record Row : Type 0 where

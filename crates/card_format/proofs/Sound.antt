@@ -1,26 +1,25 @@
 -- A card of sound form: each field holds allowed numbers, as many as it should, so that the coverage theorem speaks of its values.
 use mathlib.Core.Path.{_≡_, refl, sym, ap, subst}
-use mathlib.Core.Logic.{_≢_}
 use mathlib.Core.Bool.{Bool, true, false, cond, not, _&&_, and-eq-true-iff}
 use mathlib.Core.List.{List, [], _∷_}
-use Prim.Native.Nat.{ℕ, zero, suc, _^_, _≤_, _<_}
+use Prim.Native.Nat.{ℕ, zero, suc, _+_, _^_, _≤_, _<_}
+use native.Mathlib.Nat.{add-assoc}
 use native.Mathlib.Decide.{ℕ-discrete}
 use native.Mathlib.Omega.{arith}
-use borrow.Author.Tests.{leb-true, eqb-true, eq-eqb, not-false}
-use lib.Dec.{eqb, leb}
+use borrow.Author.Tests.{eqb-true, eq-eqb, not-false}
+use lib.Dec.{eqb}
 use lib.ListN.{length, getD, drop, List·getD-append}
 use lib.Pow.{pow-pos}
-use lib.Seq.{getD-set-other}
 use Rattle.cycle.specs.Notation.{sum, every}
 use Rattle.cycle.proofs.Every.{every-at}
 use Rattle.cycle.proofs.Digits.{length-tabulate}
 use Rattle.tsc.specs.Step.{entry}
 use Rattle.tsc.specs.Coverage.{WellFormed}
-use Rattle.card.specs.Refusals.{NoneApplies, check, tableMissing}
-use Rattle.card.specs.Fields.{Field, row, fields, field, tableBit, numbers, allowed}
-use Rattle.card.specs.Reading.{present, offset, valuesAt, wordsOf, values, value, cardOf, partChecks, fieldChecks, checksTo, formChecks, SoundForm}
-use Rattle.card.proofs.Refusals.{none-left, none-right}
-use Rattle.card.proofs.Fields.{field-fixed, allowed-at}
+use Rattle.card_format.specs.Refusals.{NoneApplies, check, tableMissing}
+use Rattle.card_format.specs.Fields.{Field, fields, field, tableBit, extent, numbers, allowed}
+use Rattle.card_format.specs.Reading.{present, offset, valuesAt, wordsOf, values, value, cardOf, partChecks, fieldChecks, checksTo, formChecks, SoundForm}
+use Rattle.card_format.proofs.Refusals.{none-left, none-right}
+use Rattle.card_format.proofs.Fields.{field-fixed, allowed-at}
 
 -- the numbers that stand for a field: allowed, and as many as the field has
 pub record Fitting (f : Field) (xs : List ℕ) : Type 0 where
@@ -75,6 +74,12 @@ none-fitting bytes k l none = go (wordsOf bytes) (present bytes k) none
 
 pub sound-fitting : (bytes : List ℕ) → SoundForm bytes → (k : ℕ) → k < 8 → Fitting (field (wordsOf bytes) k) (values bytes k)
 sound-fitting bytes s k l = none-fitting bytes k l (field-none bytes s k l)
+
+-- ---- places
+
+pub offset-suc : (m : ℕ) (bytes : List ℕ) (k : ℕ) → offset m bytes (suc k) ≡ offset m bytes k + cond (present bytes k) (extent (field m k)) 0
+unfolding offset sum
+offset-suc m bytes k = sym (add-assoc 1 _ _)
 
 -- ---- the values
 

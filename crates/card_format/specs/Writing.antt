@@ -6,12 +6,12 @@ use lib.Dec.{eqb, ltb}
 use lib.ListN.{length, getD, take, drop, replicate}
 use Rattle.cycle.specs.Notation.{sum, every}
 use Rattle.tsc.specs.declared.Card.{Card}
-use Rattle.card.specs.declared.write.Written.{Written}
-use Rattle.card.specs.declared.write.Written.the-variants.{Length, Refused}
-use Rattle.card.specs.Refusals.{Check, check, firstOf, outOfRange, bufferTooSmall}
-use Rattle.card.specs.Fields.{field, bytesOf, allowed, same}
-use Rattle.card.specs.Reading.{constantCheck}
-use Rattle.card.specs.Verdict.{periodChecks}
+use Rattle.card_format.specs.declared.Written.{Written}
+use Rattle.card_format.specs.declared.Written.the-variants.{Length, Refused}
+use Rattle.card_format.specs.Refusals.{Check, check, firstOf, outOfRange, bufferTooSmall}
+use Rattle.card_format.specs.Fields.{field, bytesOf, allowed, same}
+use Rattle.card_format.specs.Reading.{constantCheck}
+use Rattle.card_format.specs.Verdict.{periodChecks}
 
 -- the numbers of field k of a card
 unfoldable pub numbersOf : Card → ℕ → List ℕ

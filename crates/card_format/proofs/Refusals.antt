@@ -6,7 +6,7 @@ use mathlib.Core.List.{List, [], _∷_, _++_}
 use Prim.Native.Nat.{_<_}
 use native.Mathlib.Omega.{arith}
 use lib.Dec.{lit<}
-use Rattle.card.specs.Refusals.{Refusal, number, Check, firstOf, NoneApplies, truncated, outOfRange, redundant, tableMissing, trailingBytes, constantTooWide, notSingleCycle, evenConstant, powerParity, wordCount, wordTooWide, lengthMismatch, noShovel, tooManyShovels, duplicateShovel, bufferTooSmall}
+use Rattle.card_format.specs.Refusals.{Refusal, number, Check, firstOf, NoneApplies, truncated, outOfRange, redundant, tableMissing, trailingBytes, constantTooWide, notSingleCycle, evenConstant, powerParity, wordCount, wordTooWide, lengthMismatch, noShovel, tooManyShovels, duplicateShovel, bufferTooSmall}
 
 pub number-pos : (r : Refusal) → 0 < number r
 number-pos =

@@ -6,11 +6,11 @@ use Rattle.tsc.specs.Columns.{column, fromColumns}
 use Rattle.tsc.specs.Selector.{andWords, sumWords, selector}
 use Rattle.tsc.specs.Step.{step}
 use Rattle.tsc.specs.Word.{_⊞_, _⋘_, filter1, filter2, word}
-use Rattle.card.specs.Refusals.{firstOf}
-use Rattle.card.specs.Fields.{fields, field, numbers, allowed, same}
-use Rattle.card.specs.Reading.{offset, valuesAt, wordsOf, cardOf, partChecks, fieldChecks, checksTo, formChecks}
-use Rattle.card.specs.Verdict.{periodChecks, verdict}
-use Rattle.card.specs.Examples.{rows, AllHold}
+use Rattle.card_format.specs.Refusals.{firstOf}
+use Rattle.card_format.specs.Fields.{fields, field, numbers, allowed, same}
+use Rattle.card_format.specs.Reading.{offset, valuesAt, wordsOf, cardOf, partChecks, fieldChecks, checksTo, formChecks}
+use Rattle.card_format.specs.Verdict.{periodChecks, verdict}
+use Rattle.card_format.specs.Examples.{rows, AllHold}
 
 pub rows-hold : AllHold rows
 unfolding sum tabulate iterate returnFrom firstReturn column fromColumns andWords sumWords selector step _⊞_ _⋘_ filter1 filter2 word firstOf fields field numbers allowed same offset valuesAt wordsOf cardOf partChecks fieldChecks checksTo formChecks periodChecks verdict rows

@@ -7,9 +7,9 @@ use lib.ListN.{length, getD, drop, replicate}
 use Rattle.cycle.specs.Notation.{sum, bit}
 use Rattle.tsc.specs.declared.Card.{Card}
 use Rattle.tsc.specs.Constants.{mostWords}
-use Rattle.card.specs.declared.read.Reading.{Reading}
-use Rattle.card.specs.Refusals.{Check, check, firstOf, NoneApplies, truncated, outOfRange, redundant, tableMissing, trailingBytes, constantTooWide}
-use Rattle.card.specs.Fields.{Field, field, tableBit, extent, numbers, allowed, same}
+use Rattle.card_format.specs.declared.Reading.{Reading}
+use Rattle.card_format.specs.Refusals.{Check, check, firstOf, NoneApplies, truncated, outOfRange, redundant, tableMissing, trailingBytes, constantTooWide}
+use Rattle.card_format.specs.Fields.{Field, field, tableBit, extent, numbers, allowed, same}
 
 -- whether field k is present
 abbrev pub present : List ℕ → ℕ → Bool

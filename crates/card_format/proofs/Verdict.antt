@@ -14,13 +14,13 @@ use Rattle.tsc.specs.Coverage.{IsState, Covers, WellFormed, FullPeriod}
 use Rattle.tsc.proofs.Table.{table-cycle}
 use Rattle.tsc.proofs.Coverage.{coverage}
 use Rattle.tsc.specs.Constants.{mostWords}
-use Rattle.card.specs.declared.read.Reading.{Reading}
-use Rattle.card.specs.Fields.{field, fields}
-use Rattle.card.specs.Refusals.{firstOf, NoneApplies}
-use Rattle.card.specs.Reading.{cardOf, formChecks, SoundForm, reading}
-use Rattle.card.specs.Verdict.{periodChecks, verdict}
-use Rattle.card.proofs.Refusals.{first-none, none-first, first-append, first-left}
-use Rattle.card.proofs.Sound.{sound-value, sound-card}
+use Rattle.card_format.specs.declared.Reading.{Reading}
+use Rattle.card_format.specs.Fields.{field, fields}
+use Rattle.card_format.specs.Refusals.{firstOf, NoneApplies}
+use Rattle.card_format.specs.Reading.{cardOf, formChecks, SoundForm, reading}
+use Rattle.card_format.specs.Verdict.{periodChecks, verdict}
+use Rattle.card_format.proofs.Refusals.{first-none, none-first, first-append, first-left}
+use Rattle.card_format.proofs.Sound.{sound-value, sound-card}
 
 neither : (a b : Bool) → (a || b) ≡ false → (a ≡ false) × (b ≡ false)
 neither true b h = absurd (true≢false h)
@@ -53,16 +53,20 @@ period-none card wf = (forth, back)
           ),
         )
 
+-- a card of sound form is judged by its values
+pub verdict-period : (bytes : List ℕ) → SoundForm bytes → firstOf (periodChecks (cardOf bytes)) ≡ verdict bytes
+unfolding verdict
+verdict-period bytes s = sym (first-append (formChecks bytes) (periodChecks (cardOf bytes)) s)
+
 -- what the check must answer, for every card of sound form and every start
 pub verdict-covers : (bytes : List ℕ) → SoundForm bytes → (start : List ℕ) → IsState (cardOf bytes) start
     → (verdict bytes ≡ 0) ↔ Covers (cardOf bytes) start
-unfolding verdict
 verdict-covers bytes s start st =
     let card = cardOf bytes in
     let wf = sound-card bytes s in
-    let told : verdict bytes ≡ firstOf (periodChecks card) = first-append (formChecks bytes) (periodChecks card) s in (
-      λ z. coverage card wf start st .1 (period-none card wf .0 (none-first (periodChecks card) (sym told ∙ z))),
-      λ c. told ∙ first-none (periodChecks card) (period-none card wf .1 (coverage card wf start st .0 c)),
+    let told = verdict-period bytes s in (
+      λ z. coverage card wf start st .1 (period-none card wf .0 (none-first (periodChecks card) (told ∙ z))),
+      λ c. sym told ∙ first-none (periodChecks card) (period-none card wf .1 (coverage card wf start st .0 c)),
     )
 
 -- an answer that is the verdict says of every card of sound form whether its orbit covers
@@ -76,11 +80,6 @@ verdict-told bytes r e = (e, λ s start st. let v = verdict-covers bytes s start
 pub verdict-form : (bytes : List ℕ) → firstOf (formChecks bytes) ≢ 0 → firstOf (formChecks bytes) ≡ verdict bytes
 unfolding verdict
 verdict-form bytes ne = sym (first-left (formChecks bytes) (periodChecks (cardOf bytes)) ne)
-
--- of any other the values decide
-pub verdict-period : (bytes : List ℕ) → SoundForm bytes → firstOf (periodChecks (cardOf bytes)) ≡ verdict bytes
-unfolding verdict
-verdict-period bytes s = sym (first-append (formChecks bytes) (periodChecks (cardOf bytes)) s)
 
 pub reading-sound : (bytes : List ℕ) (r : Reading) → r ≡ reading bytes → r .refusal ≡ 0 → SoundForm bytes × (r .card ≡ cardOf bytes)
 unfolding reading

@@ -1,0 +1,17 @@
+// Cards (document 01, The card): bytes that set up a generator. Here are the refusal numbers and what the reader and the writer answer; what bytes
+// mean and which are accepted is in specs/, and what holds of that in proofs/. The code is in crate card.
+use tsc::Card;
+
+pub mod refusal;
+
+// What the reader answers: 0 and the card's values, or the refusal.
+pub struct Reading {
+    pub refusal: u8,
+    pub card: Card,
+}
+
+// What the writer answers: how many bytes it wrote, or the refusal.
+pub enum Written {
+    Length(usize),
+    Refused(u8),
+}
