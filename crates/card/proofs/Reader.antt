@@ -14,8 +14,8 @@ use lib.Count.{trailingZeros, trailing-le}
 use lib.Dec.{eqb, leb, ltb}
 use lib.ListN.{length, getD, set, drop, length-drop}
 use lib.Seq.{getD-set-other}
+use Rattle.tsc.specs.Constants.{mostWords, tsc1Table}
 use Rattle.cycle.specs.Notation.{sum, bit}
-use Rattle.tsc.specs.Constants.{tsc1Table}
 use Rattle.card.specs.declared.read.Values.{Values}
 use Rattle.card_format.specs.Refusals.{Check, firstOf, NoneApplies}
 use Rattle.card_format.specs.Fields.{Field, field, fields, tableBit, numbers}
@@ -273,9 +273,9 @@ end-here bytes next at v h n m =
     reached-next bytes next 8 at v (h .reached) n (le-refl 8) (λ j nj lj. absent-bit bytes j (left-none _ next (h .fields) j lj nj)) m
 
 -- m is at most 4 once the words field is past its checks, and before
-pub words-few : (bytes : List ℕ) (next at : ℕ) (v : Values) → Reached bytes next at v → getD (v .numbers) 0 0 ≤ 4
+pub words-few : (bytes : List ℕ) (next at : ℕ) (v : Values) → Reached bytes next at v → getD (v .numbers) 0 0 ≤ mostWords
 unfolding numbersTo fields field
-words-few bytes zero at v h = rw (h .numbers) (le-refl 4)
+words-few bytes zero at v h = rw (h .numbers) (le-refl mostWords)
 words-few bytes (suc k) at v h =
     let f = none-fitting bytes 0 (omega arith) (fields-none bytes 0 (suc k) (omega arith) (h .none)) in
     omega (arith, words-known bytes (suc k) at v h (omega arith), value-words bytes, allowed-at _ (values bytes 0) (f .allow) 0 (omega (arith, f .count)) .1)

@@ -4,18 +4,12 @@ use mathlib.Core.List.{List}
 use Prim.Native.Nat.{ℕ, _/_, _%_, _^_}
 use lib.Dec.{eqb, leb, ltb}
 use lib.ListN.{getD, set}
-use Rattle.card.specs.declared.read.Number.{Number}
-use Rattle.card.specs.declared.read.Number.the-variants.{Value, Refused}
 use Rattle.card.specs.declared.read.Values.{Values}
 use Rattle.card_format.specs.declared.Reading.{Reading}
 use Rattle.cycle.specs.Notation.{tabulate}
 use Rattle.card_format.specs.Refusals.{firstOf}
-use Rattle.card_format.specs.Fields.{Field, field, tableBit, extent, numbers}
+use Rattle.card_format.specs.Fields.{field, tableBit, extent, numbers}
 use Rattle.card_format.specs.Reading.{partChecks, padded, noCard}
-
--- a field of one number at the start of the part
-unfoldable pub numberRead : Field → List ℕ → Number
-numberRead f part = let r = firstOf (partChecks f part) in cond (eqb r 0) (Value (getD (numbers f part) 0 0)) (Refused r)
 
 -- a field's refusal: nothing is used and the values are as they were
 abbrev pub refusedAt : Values → ℕ → Values

@@ -3,18 +3,19 @@ ghost use mathlib.Core.Path.{_≡_};
 ghost use mathlib.Core.Logic.{_↔_};
 ghost use mathlib.Core.List.{List};
 ghost use Prim.Native.Nat.{ℕ, _≤_};
+ghost use Rattle.tsc.specs.Constants.{mostWords};
 ghost use Rattle.tsc.specs.Coverage.{IsState, Covers, WellFormed};
 ghost use Rattle.card_format.specs.Refusals.{firstOf};
 ghost use Rattle.card_format.specs.Reading.{cardOf, SoundForm};
 ghost use Rattle.card_format.specs.Verdict.{periodChecks, verdict};
 use super::read;
-use super::table;
+use card_fields::table;
 use card_format::refusal;
 use tsc::Card;
 
 // The first of refusals 7 to 9 that applies to a card's values, or 0. The check and the writer call it once refusals 1 to 6 are ruled out.
 pub fn period_refusal(card: Card) -> u8
-    requires { ⌜ WellFormed card × (card .words ≤ 4) ⌝ }
+    requires { ⌜ WellFormed card × (card .words ≤ mostWords) ⌝ }
     ensures { λ r. ⌜ r ≡ firstOf (periodChecks card) ⌝ }
 {
     let size = table::entries(card.words as u32);

@@ -4,21 +4,18 @@ ghost use mathlib.Core.Logic.{_≢_};
 ghost use mathlib.Core.List.{List};
 ghost use Prim.Native.Nat.{ℕ, _+_, _*_, _<_, _≤_};
 ghost use lib.ListN.{length, getD};
+ghost use Rattle.tsc.specs.Constants.{mostWords};
 ghost use Rattle.card_format.specs.Fields.{field, tableBit, numbers};
 ghost use Rattle.card_format.specs.Reading.{cardFrom, noCard, reading};
-ghost use Rattle.card.specs.Steps.{numberRead, refusedAt, fieldRead, missing, refusedWith};
-use super::field;
-use super::table;
+ghost use Rattle.card.specs.Steps.{refusedAt, fieldRead, missing, refusedWith};
+use card_fields::field;
+use card_fields::number;
+use card_fields::number::Number;
+use card_fields::table;
 use card_format::Reading;
 use card_format::refusal;
 use tsc::Card;
 use tsc::TABLE_SIZE;
-
-// What the reader of a numeric field answers.
-enum Number {
-    Value(u32),
-    Refused(u8),
-}
 
 // What a field's reader hands on: the refusal or 0, the bytes that it used, and the values so far, the numbers by their bits.
 struct Values {
@@ -26,46 +23,6 @@ struct Values {
     used: usize,
     numbers: [u32; field::FIELDS],
     table: [u8; TABLE_SIZE],
-}
-
-// Four bytes as a number, low byte first.
-fn low_first(a: u8, b: u8, c: u8, d: u8) -> u32
-    ensures { λ r. ⌜ r ≡ a + b * 256 + c * 65536 + d * 16777216 ⌝ }
-{
-    a as u32 + b as u32 * 256 + c as u32 * 65536 + d as u32 * 16777216
-}
-
-// The number of field k at the start of the part.
-fn number_at(k: usize, part: &[u8]) -> u32
-    requires { ⌜ (k < 8) × (k ≢ tableBit) ⌝ }
-    requires { ⌜ field 4 k .size ≤ length (now part) ⌝ }
-    ensures { λ r. ⌜ r ≡ getD (numbers (field 4 k) (now (part .entry))) 0 0 ⌝ }
-{
-    if k == field::CONSTANT {
-        return low_first(part[0], part[1], part[2], part[3]);
-    }
-    part[0] as u32
-}
-
-// Field k, which is not the table, at the start of the part.
-fn read_number(k: usize, part: &[u8]) -> Number
-    requires { ⌜ (k < 8) × (k ≢ tableBit) ⌝ }
-    ensures { λ r. ⌜ r ≡ numberRead (field 4 k) (now (part .entry)) ⌝ }
-{
-    if part.len() < field::SIZE[k] {
-        return Number::Refused(refusal::TRUNCATED);
-    }
-    let v = number_at(k, part);
-    if v < field::LEAST[k] {
-        return Number::Refused(refusal::OUT_OF_RANGE);
-    }
-    if field::MOST[k] < v {
-        return Number::Refused(refusal::OUT_OF_RANGE);
-    }
-    if v == field::ABSENT[k] {
-        return Number::Refused(refusal::REDUNDANT);
-    }
-    Number::Value(v)
 }
 
 // A field's refusal, with the values as they were.
@@ -80,7 +37,7 @@ fn refused_at(v: Values, refusal: u8) -> Values
 
 // The table at the start of the part.
 fn read_table(part: &[u8], v: Values) -> Values
-    requires { ⌜ getD (v .numbers) 0 0 ≤ 4 ⌝ }
+    requires { ⌜ getD (v .numbers) 0 0 ≤ mostWords ⌝ }
     ensures { λ r. ⌜ r ≡ fieldRead tableBit (now (part .entry)) v ⌝ }
 {
     let m = v.numbers[field::WORDS];
@@ -106,14 +63,14 @@ fn read_table(part: &[u8], v: Values) -> Values
 
 // Field k at the start of the part.
 fn read_field(k: usize, part: &[u8], v: Values) -> Values
-    requires { ⌜ (k < 8) × (getD (v .numbers) 0 0 ≤ 4) ⌝ }
+    requires { ⌜ (k < 8) × (getD (v .numbers) 0 0 ≤ mostWords) ⌝ }
     ensures { λ r. ⌜ r ≡ fieldRead k (now (part .entry)) v ⌝ }
     ensures { λ r. ⌜ r .used ≤ length (now (part .entry)) ⌝ }
 {
     if k == field::TABLE {
         return read_table(part, v);
     }
-    match read_number(k, part) {
+    match number::read_number(k, part) {
         Number::Value(x) => {
             let mut out = v;
             out.refusal = 0;

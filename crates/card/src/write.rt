@@ -5,13 +5,14 @@ ghost use mathlib.Core.Bool.{true, cond, not};
 ghost use mathlib.Core.List.{List, [], _∷_, _++_};
 ghost use Prim.Native.Nat.{ℕ, _+_, _^_, _<_, _≤_};
 ghost use lib.ListN.{length, take, drop};
+ghost use Rattle.tsc.specs.Constants.{mostWords};
 ghost use Rattle.card_format.specs.Refusals.{firstOf};
 ghost use Rattle.card_format.specs.Fields.{Field, field, tableBit, bytesOf, allowed, same};
 ghost use Rattle.card.specs.Steps.{lowBytes};
 ghost use Rattle.card_format.specs.Writing.{numbersOf, isWritten, fieldBytes, mapTo, written, inRange, unusedClear, valueChecks, writing, pageAfter};
 use super::check;
-use super::field;
-use super::table;
+use card_fields::field;
+use card_fields::table;
 use card_format::Written;
 use card_format::refusal;
 use tsc::Card;
@@ -43,7 +44,7 @@ fn number_of(card: Card, k: usize) -> u32
 
 // Whether the numbers of field k are allowed. Field 0 is asked first: the table's size is worked out from it.
 fn field_allowed(card: Card, k: usize) -> bool
-    requires { ⌜ (k < 8) × (0 < k → card .words ≤ 4) ⌝ }
+    requires { ⌜ (k < 8) × (0 < k → card .words ≤ mostWords) ⌝ }
     ensures { λ r. ⌜ r ≡ allowed (field (card .words) k) (numbersOf card k) ⌝ }
 {
     if k == field::TABLE {
@@ -85,7 +86,7 @@ fn value_refusal(card: Card) -> u8
 
 // Whether field k is written: it is not its absent value.
 fn is_written(card: Card, k: usize) -> bool
-    requires { ⌜ (k < 8) × (card .words ≤ 4) ⌝ }
+    requires { ⌜ (k < 8) × (card .words ≤ mostWords) ⌝ }
     ensures { λ r. ⌜ r ≡ isWritten card k ⌝ }
 {
     if k == field::TABLE {
@@ -97,7 +98,7 @@ fn is_written(card: Card, k: usize) -> bool
 
 // The outline with field k.
 fn with_field(card: Card, k: usize, o: Outline) -> Outline
-    requires { ⌜ (k < 8) × (card .words ≤ 4) ⌝ }
+    requires { ⌜ (k < 8) × (card .words ≤ mostWords) ⌝ }
     requires { ⌜ (o .map < 2 ^ k) × (o .length < 256) ⌝ }
     ensures { λ r. ⌜ r .map ≡ o .map + cond (isWritten card k) (2 ^ k) 0 ⌝ }
     ensures { λ r. ⌜ r .length ≡ o .length + length (fieldBytes card k) ⌝ }
@@ -113,7 +114,7 @@ fn with_field(card: Card, k: usize, o: Outline) -> Outline
 
 // The outline of a card.
 fn outline_of(card: Card) -> Outline
-    requires { ⌜ card .words ≤ 4 ⌝ }
+    requires { ⌜ card .words ≤ mostWords ⌝ }
     ensures { λ r. ⌜ r .map ≡ mapTo card 8 ⌝ }
     ensures { λ r. ⌜ r .length ≡ length (written card) ⌝ }
 {
@@ -140,7 +141,7 @@ fn put_number(x: u32, size: usize, part: &mut [u8])
 
 // The first `size` entries of a table, at the start of the part.
 fn put_table(table: [u8; TABLE_SIZE], size: usize, part: &mut [u8])
-    requires { ⌜ (size ≤ 16) × (size ≤ length (now part)) ⌝ }
+    requires { ⌜ (size ≤ 2 ^ mostWords) × (size ≤ length (now part)) ⌝ }
     ensures { λ _. ⌜ now (part .exit) ≡ take size table ++ drop size (now (part .entry)) ⌝ }
 {
     let mut i = 0;

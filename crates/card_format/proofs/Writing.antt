@@ -105,17 +105,17 @@ fieldBytes-none card k w = rw w refl
 
 -- ---- how many they are
 
-pub extent-few : (m : ℕ) → m ≤ mostWords → (k : ℕ) → k < 8 → extent (field m k) ≤ 16
+pub extent-few : (m : ℕ) → m ≤ mostWords → (k : ℕ) → k < 8 → extent (field m k) ≤ 2 ^ mostWords
 unfolding field fields
 extent-few m h =
-    each (λ (k : ℕ). extent (field m k) ≤ 16) (omega arith) (omega arith) (omega (arith, few-entries m h)) (omega arith) (omega arith) (omega arith)
+    each (λ (k : ℕ). extent (field m k) ≤ 2 ^ mostWords) (omega arith) (omega arith) (omega (arith, few-entries m h)) (omega arith) (omega arith) (omega arith)
     (omega arith) (omega arith)
 
 pub length-fieldBytes : (card : Card) (k : ℕ) → length (fieldBytes card k) ≡ cond (isWritten card k) (extent (field (card .words) k)) 0
 unfolding fieldBytes
 length-fieldBytes card k = length-cond (isWritten card k) _ ∙ ap (λ (n : ℕ). cond (isWritten card k) n 0) (length-bytesOf (field (card .words) k) _)
 
-pub fieldBytes-few : (card : Card) (k : ℕ) → k < 8 → card .words ≤ mostWords → length (fieldBytes card k) ≤ 16
+pub fieldBytes-few : (card : Card) (k : ℕ) → k < 8 → card .words ≤ mostWords → length (fieldBytes card k) ≤ 2 ^ mostWords
 fieldBytes-few card k l h =
     omega (arith, length-fieldBytes card k, cond-le (isWritten card k) (extent (field (card .words) k)), extent-few (card .words) h k l)
 

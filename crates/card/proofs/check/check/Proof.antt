@@ -1,6 +1,7 @@
 use native.Mathlib.Omega.{arith}
 use mathlib.Core.Path.{sym, ap, _∙_, subst}
 use Prim.Native.Nat.{_≤_}
+use Rattle.tsc.specs.Constants.{mostWords}
 use Rattle.tsc.specs.declared.Card.{Card}
 use Rattle.tsc.specs.Coverage.{WellFormed}
 use Rattle.card_format.specs.declared.Reading.{Reading}
@@ -29,7 +30,7 @@ period-refusal-requires : tie.Need-period-refusal-requires
 period-refusal-requires c κs =
     let bytes = c .before .before .before .before .before .args .card .now in
     let h = reading-sound bytes _ (c .before .before .before .read .ensures) (c .before .if1 .left) in
-    subst (λ (card : Card). WellFormed card × (card .words ≤ 4)) (sym (h .1)) (sound-card bytes (h .0), words-sound bytes (h .0))
+    subst (λ (card : Card). WellFormed card × (card .words ≤ mostWords)) (sym (h .1)) (sound-card bytes (h .0), words-sound bytes (h .0))
 
 -- src/check.rt:39:1
 returns-2 : tie.Need-returns-2

@@ -1,3 +1,4 @@
+use Rattle.card_fields.specs.Number.{numberRead}
 use native.Mathlib.Omega.{arith}
 use mathlib.Core.Path.{_≡_, refl, sym, ap, ap₂, _∙_, subst}
 use mathlib.Core.Logic.{_≢_}
@@ -6,14 +7,15 @@ use Prim.Native.Nat.{ℕ, _≤_, _<_}
 use native.Mathlib.Nat.{one-mul}
 use borrow.Author.Tests.{ne-eqb, eqb-true}
 use lib.ListN.{length, getD, set}
-use Rattle.card.specs.declared.read.Number.the-variants.{Value, Refused}
+use Rattle.card_fields.specs.declared.number.Number.the-variants.{Value, Refused}
 use Rattle.card.specs.declared.read.Values.{Values}
 use Rattle.card_format.specs.Refusals.{firstOf}
 use Rattle.card_format.specs.Fields.{field, tableBit, extent}
 use Rattle.card_format.specs.Reading.{partChecks}
-use Rattle.card.specs.Steps.{numberRead, refusedAt, fieldRead}
+use Rattle.card.specs.Steps.{refusedAt, fieldRead}
 use Rattle.card_format.proofs.Fields.{sizes, numeric, field-fixed}
-use Rattle.card.proofs.Steps.{value-read, refused-read, used-fits}
+use Rattle.card_fields.proofs.Answer.{value-read, refused-read}
+use Rattle.card.proofs.Steps.{used-fits}
 use Rattle.card.proofs.read.read_field.Statement.{statement}
 use Rattle.card.proofs.read.read_field.Tie as tie
 

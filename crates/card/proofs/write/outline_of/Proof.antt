@@ -4,6 +4,7 @@ use Prim.Native.Nat.{ℕ, _+_, _-_, _*_, _^_, _≤_}
 use native.Mathlib.Numerals.{add-one}
 use native.Mathlib.Omega.{arith}
 use lib.ListN.{length}
+use Rattle.tsc.specs.Constants.{mostWords}
 use Rattle.cycle.specs.Notation.{sum}
 use Rattle.tsc.specs.declared.Card.{Card}
 use Rattle.card_format.specs.Writing.{isWritten, fieldBytes, mapTo, writtenTo}
@@ -17,7 +18,7 @@ unfolding sum
 map-suc card k = ap (mapTo card) (add-one k)
 
 abbrev Inv-loop : tie.InvT-loop
-Inv-loop card o₀ k₀ o k = (k ≤ 8) × (o .map ≡ mapTo card k) × (o .length ≡ lengthTo card k) × (o .length ≤ 1 + 16 * k)
+Inv-loop card o₀ k₀ o k = (k ≤ 8) × (o .map ≡ mapTo card k) × (o .length ≡ lengthTo card k) × (o .length ≤ 1 + 2 ^ mostWords * k)
 
 abbrev μ-loop : tie.MeasureT-loop
 μ-loop card o₀ k₀ o k = 8 - k

@@ -6,6 +6,7 @@ use native.Mathlib.Nat.{mul-one, one-mul}
 use native.Mathlib.Omega.{arith}
 use borrow.Author.Tests.{not-true, not-false}
 use lib.ListN.{length, take, drop}
+use Rattle.tsc.specs.Constants.{mostWords}
 use Rattle.tsc.specs.declared.Card.{Card}
 use Rattle.card_format.specs.Fields.{field, fields, tableBit, extent}
 use Rattle.card_format.specs.Writing.{isWritten, fieldBytes, inRange}
@@ -22,7 +23,7 @@ whole : (card : Card) (k n : ℕ) → n ≡ extent (field (card .words) k) → i
 whole card k n e w = e ∙ sym (length-fieldBytes card k ∙ rw w refl)
 
 -- the table's bytes are its entries
-table-bytes : (card : Card) (k size : ℕ) → k ≡ tableBit → length (card .table) ≡ 16 → inRange card ≡ true → isWritten card k ≡ true
+table-bytes : (card : Card) (k size : ℕ) → k ≡ tableBit → length (card .table) ≡ 2 ^ mostWords → inRange card ≡ true → isWritten card k ≡ true
     → size ≡ extent (field (card .words) k) → take size (card .table) ≡ fieldBytes card k
 unfolding field fields
 table-bytes card k size t z r w e =
@@ -64,7 +65,7 @@ returns-2 c =
     let a = c .before .before .before .before .before .before .before .before .before .before .before .args in
     let w = sym (c .before .before .before .before .before .before .before .before .before .is-written .ensures) ∙ not-false _ (c .before .before .before .before .before .before .before .before .if1 .left) in
     let e = whole (a .card) (a .k) (c .before .before .before .before .before .before .extent-of .result) (c .before .before .before .before .before .before .extent-of .ensures) w in
-    let z : length (a .card .table) ≡ 16 = search needs in (
+    let z : length (a .card .table) ≡ 2 ^ mostWords = search needs in (
       e,
       c .before .before .put-table .ensures ∙ ap₂ (λ (xs : List ℕ) (n : ℕ). xs ++ drop n (a .part .now))
           (table-bytes (a .card) (a .k) (c .before .before .before .before .before .before .extent-of .result) (c .before .before .before .before .before .if2 .taken) z (c .before .before .before .before .before .before .before .before .before .before .before .pre .0 .1) w (c .before .before .before .before .before .before .extent-of .ensures)) e,

@@ -1,14 +1,15 @@
 use mathlib.Core.Path.{_≡_, refl, ap, _∙_}
 use mathlib.Core.List.{List}
-use Prim.Native.Nat.{ℕ, _-_, _≤_}
+use Prim.Native.Nat.{ℕ, _-_, _≤_, _^_}
 use native.Mathlib.Omega.{arith}
 use lib.ListN.{length, getD, set}
+use Rattle.tsc.specs.Constants.{mostWords}
 use Rattle.card_format.proofs.Lists.{over, over-suc, length-over}
 use Rattle.card.proofs.write.put_table.Statement.{statement}
 use Rattle.card.proofs.write.put_table.Tie as tie
 
 abbrev Inv-loop : tie.InvT-loop
-Inv-loop size part₀ table i₀ part i = (i ≤ size) × (size ≤ 16) × (size ≤ length part₀) × (length table ≡ 16) × (part ≡ over table part₀ i)
+Inv-loop size part₀ table i₀ part i = (i ≤ size) × (size ≤ 2 ^ mostWords) × (size ≤ length part₀) × (length table ≡ 2 ^ mostWords) × (part ≡ over table part₀ i)
 
 abbrev μ-loop : tie.MeasureT-loop
 μ-loop size part₀ table i₀ part i = size - i

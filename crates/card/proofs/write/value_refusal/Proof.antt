@@ -1,7 +1,9 @@
+use Prim.Native.Nat.{_^_}
 use native.Mathlib.Omega.{arith}
 use mathlib.Core.Path.{_≡_, sym, _∙_}
 use borrow.Author.Tests.{not-true, not-false}
 use lib.ListN.{length}
+use Rattle.tsc.specs.Constants.{mostWords}
 use Rattle.card_format.specs.Refusals.{firstOf}
 use Rattle.card_format.specs.Writing.{valueChecks}
 use Rattle.card_format.proofs.Writing.{range-formed}
@@ -34,7 +36,7 @@ returns-2 c = simp (sym (c .before .before .before .before .in-range .ensures) �
 -- src/write.rt:89:5
 period-refusal-requires : tie.Need-period-refusal-requires
 period-refusal-requires c κs =
-    let z : length (c .before .before .before .before .before .args .card .table) ≡ 16 = search needs in
+    let z : length (c .before .before .before .before .before .args .card .table) ≡ 2 ^ mostWords = search needs in
     range-formed (c .before .before .before .before .before .args .card) z (sym (c .before .before .before .before .in-range .ensures) ∙ not-false _ (c .before .before .before .if1 .left))
 
 -- src/write.rt:80:1

@@ -5,8 +5,8 @@ use borrow.Author.Tests.{lt-leb}
 use lib.Dec.{leb}
 use lib.Pow.{pow-mono}
 use Rattle.card_format.proofs.Fields.{one-shifted}
-use Rattle.card.proofs.field.exceeds.Statement.{statement}
-use Rattle.card.proofs.field.exceeds.Tie as tie
+use Rattle.card_fields.proofs.field.exceeds.Statement.{statement}
+use Rattle.card_fields.proofs.field.exceeds.Tie as tie
 
 -- src/field.rt:36:16
 shl-result : tie.Need-shl-result

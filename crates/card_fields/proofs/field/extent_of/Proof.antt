@@ -5,8 +5,8 @@ use native.Mathlib.Nat.{mul-one, one-mul}
 use lib.ListN.{getD}
 use Rattle.card_format.specs.Fields.{field, fields, extent}
 use Rattle.card_format.proofs.Fields.{sizes, numeric}
-use Rattle.card.proofs.field.extent_of.Statement.{statement}
-use Rattle.card.proofs.field.extent_of.Tie as tie
+use Rattle.card_fields.proofs.field.extent_of.Statement.{statement}
+use Rattle.card_fields.proofs.field.extent_of.Tie as tie
 
 -- src/field.rt:26:9
 entries-requires : tie.Need-entries-requires

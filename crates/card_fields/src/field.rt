@@ -3,6 +3,7 @@ ghost use mathlib.Core.Path.{_≡_};
 ghost use mathlib.Core.Logic.{_≢_};
 ghost use Prim.Native.Nat.{ℕ, _*_, _^_, _<_, _≤_};
 ghost use lib.Dec.{leb};
+ghost use Rattle.tsc.specs.Constants.{mostWords};
 ghost use Rattle.card_format.specs.Fields.{field, tableBit, extent};
 use super::table::entries;
 
@@ -32,9 +33,9 @@ pub const MOST: [u32; FIELDS] = [4, 32, 0, 255, 255, 0xffff_ffff, 2, 1];
 
 pub const ABSENT: [u32; FIELDS] = [4, 32, 0, 1, 2, 0x1248_8421, 1, 1];
 
-// The bytes of field k on a card of m words.
+// The bytes of field k on a card of m words; the writer has asked m.
 pub fn extent_of(k: usize, m: u32) -> usize
-    requires { ⌜ (k < 8) × (m ≤ 4) ⌝ }
+    requires { ⌜ (k < 8) × (m ≤ mostWords) ⌝ }
     ensures { λ r. ⌜ r ≡ extent (field m k) ⌝ }
 {
     if k == TABLE {

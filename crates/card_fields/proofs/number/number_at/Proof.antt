@@ -5,11 +5,11 @@ use native.Mathlib.Omega.{arith}
 use lib.ListN.{length, getD}
 use Rattle.cycle.specs.Notation.{sum}
 use Rattle.card_format.proofs.Fields.{sizes, lowFirst, number-low, size-of, size-one}
-use Rattle.card.proofs.read.number_at.Statement.{statement}
-use Rattle.card.proofs.read.number_at.Tie as tie
-use Rattle.card.proofs.read.number_at.Reads as reads
-use Rattle.card.proofs.read.number_at.Lts as lts
-use Rattle.card.proofs.read.low_first.Reads as low-first-reads
+use Rattle.card_fields.proofs.number.number_at.Statement.{statement}
+use Rattle.card_fields.proofs.number.number_at.Tie as tie
+use Rattle.card_fields.proofs.number.number_at.Reads as reads
+use Rattle.card_fields.proofs.number.number_at.Lts as lts
+use Rattle.card_fields.proofs.number.low_first.Reads as low-first-reads
 
 four : (part : List ℕ) → getD part 0 0 + getD part 1 0 * 256 + getD part 2 0 * 65536 + getD part 3 0 * 16777216 ≡ lowFirst 4 part
 unfolding sum

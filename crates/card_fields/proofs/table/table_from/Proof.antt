@@ -1,15 +1,16 @@
 use mathlib.Core.Path.{_≡_, refl, ap, _∙_}
 use mathlib.Core.List.{List}
-use Prim.Native.Nat.{ℕ, _-_, _≤_}
+use Prim.Native.Nat.{ℕ, _-_, _≤_, _^_}
 use native.Mathlib.Omega.{arith}
 use lib.ListN.{length, getD, set, replicate}
+use Rattle.tsc.specs.Constants.{mostWords}
 use Rattle.card_format.proofs.Lists.{over, over-suc}
 use Rattle.card_format.proofs.Fields.{over-padded}
-use Rattle.card.proofs.table.table_from.Statement.{statement}
-use Rattle.card.proofs.table.table_from.Tie as tie
+use Rattle.card_fields.proofs.table.table_from.Statement.{statement}
+use Rattle.card_fields.proofs.table.table_from.Tie as tie
 
 abbrev Inv-loop : tie.InvT-loop
-Inv-loop part size table₀ i₀ table i = (i ≤ size) × (size ≤ 16) × (size ≤ length part) × (table ≡ over part (replicate 16 0) i)
+Inv-loop part size table₀ i₀ table i = (i ≤ size) × (size ≤ 2 ^ mostWords) × (size ≤ length part) × (table ≡ over part (replicate (2 ^ mostWords) 0) i)
 
 abbrev μ-loop : tie.MeasureT-loop
 μ-loop part size table₀ i₀ table i = size - i
@@ -42,7 +43,7 @@ loop-again c =
       omega arith,
       omega arith,
       omega arith,
-      ap (λ (t : List ℕ). set t (l .i) (getD p (l .i) 0)) (l .inv .3) ∙ over-suc p (replicate 16 0) (l .i) (omega arith) (omega arith),
+      ap (λ (t : List ℕ). set t (l .i) (getD p (l .i) 0)) (l .inv .3) ∙ over-suc p (replicate (2 ^ mostWords) 0) (l .i) (omega arith) (omega arith),
     )
 
 -- src/table.rt:30:1
@@ -51,7 +52,7 @@ returns c =
     let l = c .before .loop in
     let p = c .before .before .args .part .now in
     let e : l .i ≡ c .before .before .args .size = omega arith in
-    l .inv .3 ∙ ap (over p (replicate 16 0)) e ∙ over-padded p (c .before .before .args .size) (omega arith)
+    l .inv .3 ∙ ap (over p (replicate (2 ^ mostWords) 0)) e ∙ over-padded p (c .before .before .args .size) (omega arith)
 
 pub table-from-spec : {M : Type 1} → statement M
 table-from-spec =

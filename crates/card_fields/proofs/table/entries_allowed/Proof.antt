@@ -2,13 +2,14 @@ use mathlib.Core.Path.{_≡_, sym}
 use Prim.Native.Nat.{ℕ, _-_, _^_, _≤_, _<_}
 use native.Mathlib.Omega.{arith}
 use lib.ListN.{getD}
+use Rattle.tsc.specs.Constants.{mostWords}
 use Rattle.card_format.proofs.Lists.{extend}
 use Rattle.card_format.proofs.Fields.{few-entries, entries-allowed, entry-not-allowed}
-use Rattle.card.proofs.table.entries_allowed.Statement.{statement}
-use Rattle.card.proofs.table.entries_allowed.Tie as tie
+use Rattle.card_fields.proofs.table.entries_allowed.Statement.{statement}
+use Rattle.card_fields.proofs.table.entries_allowed.Tie as tie
 
 abbrev Inv-loop : tie.InvT-loop
-Inv-loop m table size i₀ i = (i ≤ size) × (size ≡ 2 ^ m) × (size ≤ 16) × ((j : ℕ) → j < i → getD table j 0 < size)
+Inv-loop m table size i₀ i = (i ≤ size) × (size ≡ 2 ^ m) × (size ≤ 2 ^ mostWords) × ((j : ℕ) → j < i → getD table j 0 < size)
 
 abbrev μ-loop : tie.MeasureT-loop
 μ-loop m table size i₀ i = size - i

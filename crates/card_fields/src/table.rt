@@ -1,9 +1,10 @@
-// The table of a card: 2^m entries and, past them, zeros.
+// The table of a card: 2^m entries and, past them, zeros. Callers establish m ≤ mostWords from the words field: the reader has it past its checks, the
+// writer has asked it first.
 ghost use mathlib.Core.Path.{_≡_};
 ghost use Prim.Native.Nat.{ℕ, _^_, _<_, _≤_};
 ghost use lib.ListN.{length, getD, take};
 ghost use Rattle.cycle.specs.Cycle.{firstReturn};
-ghost use Rattle.tsc.specs.Constants.{tsc1Table};
+ghost use Rattle.tsc.specs.Constants.{mostWords, tsc1Table};
 ghost use Rattle.card_format.specs.Fields.{field, tableBit, allowed, same};
 ghost use Rattle.card_format.specs.Reading.{padded};
 ghost use Rattle.card_format.specs.Writing.{unusedClear};
@@ -14,7 +15,7 @@ pub const TSC1_TABLE: [u8; TABLE_SIZE] = [3, 5, 9, 13, 1, 6, 11, 15, 4, 0, 8, 14
 
 // 2^m, the entries of a table.
 pub fn entries(m: u32) -> usize
-    requires { ⌜ m ≤ 4 ⌝ }
+    requires { ⌜ m ≤ mostWords ⌝ }
     ensures { λ r. ⌜ r ≡ 2 ^ m ⌝ }
 {
     1 << m
@@ -26,9 +27,9 @@ fn wide(x: u8) -> usize
     x as usize
 }
 
-// The table of the first `size` bytes of the part, filled in one by one.
+// The table of the first `size` bytes of the part, filled in one by one. The reader has found them there.
 pub fn table_from(part: &[u8], size: usize) -> [u8; TABLE_SIZE]
-    requires { ⌜ (size ≤ 16) × (size ≤ length (now part)) ⌝ }
+    requires { ⌜ (size ≤ 2 ^ mostWords) × (size ≤ length (now part)) ⌝ }
     ensures { λ r. ⌜ r ≡ padded (take size (now (part .entry))) ⌝ }
 {
     let mut table = [0; TABLE_SIZE];
@@ -42,7 +43,7 @@ pub fn table_from(part: &[u8], size: usize) -> [u8; TABLE_SIZE]
 
 // Whether each used entry is below 2^m.
 pub fn entries_allowed(table: [u8; TABLE_SIZE], m: u32) -> bool
-    requires { ⌜ m ≤ 4 ⌝ }
+    requires { ⌜ m ≤ mostWords ⌝ }
     ensures { λ r. ⌜ r ≡ allowed (field m tableBit) (take (2 ^ m) table) ⌝ }
 {
     let size = entries(m);
@@ -58,7 +59,7 @@ pub fn entries_allowed(table: [u8; TABLE_SIZE], m: u32) -> bool
 
 // Whether it is TSC-1's table.
 pub fn is_tsc1(table: [u8; TABLE_SIZE], m: u32) -> bool
-    requires { ⌜ m ≤ 4 ⌝ }
+    requires { ⌜ m ≤ mostWords ⌝ }
     ensures { λ r. ⌜ r ≡ same (take (2 ^ m) table) tsc1Table ⌝ }
 {
     if m != 4 {
@@ -76,7 +77,7 @@ pub fn is_tsc1(table: [u8; TABLE_SIZE], m: u32) -> bool
 
 // Whether the entries past 2^m are 0.
 pub fn unused_clear(table: [u8; TABLE_SIZE], m: u32) -> bool
-    requires { ⌜ m ≤ 4 ⌝ }
+    requires { ⌜ m ≤ mostWords ⌝ }
     ensures { λ r. ⌜ r ≡ unusedClear m table ⌝ }
 {
     let mut i = entries(m);
@@ -89,9 +90,9 @@ pub fn unused_clear(table: [u8; TABLE_SIZE], m: u32) -> bool
     true
 }
 
-// The table followed from 0: the number of steps until 0 returns, or 0 if it does not within `size`.
+// The table followed from 0: the number of steps until 0 returns, or 0 if it does not within `size`. Callers have entries that passed their check.
 pub fn first_return(table: [u8; TABLE_SIZE], size: usize) -> usize
-    requires { ⌜ (0 < size) × (size ≤ 16) ⌝ }
+    requires { ⌜ (0 < size) × (size ≤ 2 ^ mostWords) ⌝ }
     requires { ⌜ ((y : ℕ) → y < size → getD table y 0 < size) ⌝ }
     ensures { λ r. ⌜ r ≡ firstReturn (λ y. getD table y 0) size ⌝ }
 {

@@ -9,8 +9,8 @@ use lib.Seq.{length-take-le, take-all}
 use Rattle.tsc.specs.Constants.{tsc1Table}
 use Rattle.card_format.proofs.Fields.{same-all, same-not}
 use Rattle.card_format.proofs.Lists.{extend}
-use Rattle.card.proofs.table.is_tsc1.Statement.{statement}
-use Rattle.card.proofs.table.is_tsc1.Tie as tie
+use Rattle.card_fields.proofs.table.is_tsc1.Statement.{statement}
+use Rattle.card_fields.proofs.table.is_tsc1.Tie as tie
 
 -- a table of 4 words is used whole
 whole : (t : List ℕ) (m : ℕ) → length t ≡ 16 → m ≡ 4 → take (2 ^ m) t ≡ t

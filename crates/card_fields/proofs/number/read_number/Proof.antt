@@ -5,12 +5,12 @@ use Prim.Native.Nat.{ℕ, _<_}
 use native.Mathlib.Omega.{arith}
 use borrow.Author.Tests.{lt-ltb, le-ltb, le-leb, lt-leb, eq-eqb, ne-eqb}
 use lib.ListN.{getD}
-use Rattle.card.specs.declared.read.Number.the-variants.{Value, Refused}
+use Rattle.card_fields.specs.declared.number.Number.the-variants.{Value, Refused}
 use Rattle.card_format.specs.Fields.{field, tableBit, numbers}
-use Rattle.card.specs.Steps.{numberRead}
+use Rattle.card_fields.specs.Number.{numberRead}
 use Rattle.card_format.proofs.Fields.{numberRefusal, part-refusal, size-of}
-use Rattle.card.proofs.read.read_number.Statement.{statement}
-use Rattle.card.proofs.read.read_number.Tie as tie
+use Rattle.card_fields.proofs.number.read_number.Statement.{statement}
+use Rattle.card_fields.proofs.number.read_number.Tie as tie
 
 -- the refusal that goes with a number v, which is the field's
 refused-as : (k : ℕ) (part : List ℕ) (v r : ℕ) → (k < 8) × (k ≢ tableBit) → v ≡ getD (numbers (field 4 k) part) 0 0 → r ≢ 0

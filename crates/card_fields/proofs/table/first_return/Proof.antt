@@ -1,16 +1,17 @@
 use native.Mathlib.Nat.{add-sub-cancel}
 use native.Mathlib.Numerals.{add-one}
 use mathlib.Core.Path.{_≡_, sym, ap, _∙_}
-use Prim.Native.Nat.{ℕ, suc, _+_, _-_, _<_, _≤_}
+use Prim.Native.Nat.{ℕ, suc, _+_, _-_, _<_, _≤_, _^_}
 use native.Mathlib.Omega.{arith}
 use lib.ListN.{getD}
+use Rattle.tsc.specs.Constants.{mostWords}
 use Rattle.cycle.specs.Cycle.{returnFrom, firstReturn}
 use Rattle.cycle.proofs.FirstReturn.{return-none, return-here, return-later}
-use Rattle.card.proofs.table.first_return.Statement.{statement}
-use Rattle.card.proofs.table.first_return.Tie as tie
+use Rattle.card_fields.proofs.table.first_return.Statement.{statement}
+use Rattle.card_fields.proofs.table.first_return.Tie as tie
 
 abbrev Inv-loop : tie.InvT-loop
-Inv-loop size table x₀ steps₀ x steps = (x < size) × (1 ≤ steps) × (steps ≤ size + 1) × (size ≤ 16) × (returnFrom (λ y. getD table y 0) (size + 1 - steps) steps x ≡ firstReturn (λ y. getD table y 0) size)
+Inv-loop size table x₀ steps₀ x steps = (x < size) × (1 ≤ steps) × (steps ≤ size + 1) × (size ≤ 2 ^ mostWords) × (returnFrom (λ y. getD table y 0) (size + 1 - steps) steps x ≡ firstReturn (λ y. getD table y 0) size)
 
 abbrev μ-loop : tie.MeasureT-loop
 μ-loop size table x₀ steps₀ x steps = size + 1 - steps

@@ -2,16 +2,17 @@ use mathlib.Core.Path.{_≡_, sym}
 use Prim.Native.Nat.{ℕ, _-_, _^_, _≤_, _<_}
 use native.Mathlib.Omega.{arith}
 use lib.ListN.{getD}
+use Rattle.tsc.specs.Constants.{mostWords}
 use Rattle.card_format.proofs.Lists.{extend}
 use Rattle.card_format.proofs.Fields.{few-entries, unused-clear, unused-not-clear}
-use Rattle.card.proofs.table.unused_clear.Statement.{statement}
-use Rattle.card.proofs.table.unused_clear.Tie as tie
+use Rattle.card_fields.proofs.table.unused_clear.Statement.{statement}
+use Rattle.card_fields.proofs.table.unused_clear.Tie as tie
 
 abbrev Inv-loop : tie.InvT-loop
-Inv-loop m table i₀ i = (2 ^ m ≤ i) × (i ≤ 16) × ((j : ℕ) → j < i → 2 ^ m ≤ j → getD table j 0 ≡ 0)
+Inv-loop m table i₀ i = (2 ^ m ≤ i) × (i ≤ 2 ^ mostWords) × ((j : ℕ) → j < i → 2 ^ m ≤ j → getD table j 0 ≡ 0)
 
 abbrev μ-loop : tie.MeasureT-loop
-μ-loop m table i₀ i = 16 - i
+μ-loop m table i₀ i = 2 ^ mostWords - i
 
 -- src/table.rt:82:9
 entries-requires : tie.Need-entries-requires Inv-loop μ-loop
