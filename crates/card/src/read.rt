@@ -1,12 +1,11 @@
 // Reading a card: refusals 1 to 6, and the eight values.
 ghost use mathlib.Core.Path.{_≡_};
 ghost use mathlib.Core.Logic.{_≢_};
-ghost use mathlib.Core.List.{List};
-ghost use Prim.Native.Nat.{ℕ, _+_, _*_, _<_, _≤_};
+ghost use Prim.Native.Nat.{ℕ, _<_, _≤_};
 ghost use lib.ListN.{length, getD};
 ghost use Rattle.tsc.specs.Constants.{mostWords};
-ghost use Rattle.card_format.specs.Fields.{field, tableBit, numbers};
-ghost use Rattle.card_format.specs.Reading.{cardFrom, noCard, reading};
+ghost use Rattle.card_format.specs.Fields.{tableBit};
+ghost use Rattle.card_format.specs.Reading.{cardFrom, reading};
 ghost use Rattle.card.specs.Steps.{refusedAt, fieldRead, missing, refusedWith};
 use card_fields::field;
 use card_fields::number;

@@ -1,15 +1,15 @@
 // Writing a card: refusals 2, 6 to 9 and 16, and the bytes.
 ghost use mathlib.Core.Path.{_≡_};
 ghost use mathlib.Core.Logic.{_≢_};
-ghost use mathlib.Core.Bool.{true, cond, not};
-ghost use mathlib.Core.List.{List, [], _∷_, _++_};
-ghost use Prim.Native.Nat.{ℕ, _+_, _^_, _<_, _≤_};
+ghost use mathlib.Core.Bool.{true, cond};
+ghost use mathlib.Core.List.{[], _∷_, _++_};
+ghost use Prim.Native.Nat.{_+_, _^_, _<_, _≤_};
 ghost use lib.ListN.{length, take, drop};
 ghost use Rattle.tsc.specs.Constants.{mostWords};
 ghost use Rattle.card_format.specs.Refusals.{firstOf};
-ghost use Rattle.card_format.specs.Fields.{Field, field, tableBit, bytesOf, allowed, same};
+ghost use Rattle.card_format.specs.Fields.{field, tableBit, allowed};
 ghost use Rattle.card.specs.Steps.{lowBytes};
-ghost use Rattle.card_format.specs.Writing.{numbersOf, isWritten, fieldBytes, mapTo, written, inRange, unusedClear, valueChecks, writing, pageAfter};
+ghost use Rattle.card_format.specs.Writing.{numbersOf, isWritten, fieldBytes, mapTo, written, inRange, valueChecks, writing, pageAfter};
 use super::check;
 use card_fields::field;
 use card_fields::table;

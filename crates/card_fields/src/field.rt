@@ -1,10 +1,9 @@
 // The fields of a card (document 01, The card), by their bits. SIZE, LEAST, MOST and ABSENT speak of the numeric fields; the table's place in them is not used.
 ghost use mathlib.Core.Path.{_≡_};
-ghost use mathlib.Core.Logic.{_≢_};
-ghost use Prim.Native.Nat.{ℕ, _*_, _^_, _<_, _≤_};
+ghost use Prim.Native.Nat.{_^_, _<_, _≤_};
 ghost use lib.Dec.{leb};
 ghost use Rattle.tsc.specs.Constants.{mostWords};
-ghost use Rattle.card_format.specs.Fields.{field, tableBit, extent};
+ghost use Rattle.card_format.specs.Fields.{field, extent};
 use super::table::entries;
 
 pub const FIELDS: usize = 8;

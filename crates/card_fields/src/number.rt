@@ -1,7 +1,7 @@
 // Reading a field of one number.
 ghost use mathlib.Core.Path.{_≡_};
 ghost use mathlib.Core.Logic.{_≢_};
-ghost use Prim.Native.Nat.{ℕ, _+_, _*_, _<_, _≤_};
+ghost use Prim.Native.Nat.{_+_, _*_, _<_, _≤_};
 ghost use lib.ListN.{length, getD};
 ghost use Rattle.card_format.specs.Fields.{field, tableBit, numbers};
 ghost use Rattle.card_fields.specs.Number.{numberRead};

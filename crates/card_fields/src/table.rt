@@ -21,6 +21,7 @@ pub fn entries(m: u32) -> usize
     1 << m
 }
 
+// A byte as a number to compare with a size.
 fn wide(x: u8) -> usize
     ensures { λ r. ⌜ r ≡ x ⌝ }
 {

@@ -9,19 +9,15 @@ use Rattle.card_edges.proofs.again.Lts as lts
 use Rattle.card.proofs.read.read.Reads as read-reads
 use Rattle.card_edges.proofs.written.Reads as written-reads
 
--- src/main.rt:137:9
 read-requires : tie.Need-read-requires
 read-requires c κs = search needs
 
--- src/main.rt:139:5
 written-requires : tie.Need-written-requires
 written-requires c κs = search needs
 
--- src/main.rt:134:1
 same-length : tie.Need-same-length
 same-length c = search needs
 
--- src/main.rt:134:1
 returns : tie.Need-returns
 returns c = c .before .before .written .ensures ∙ ap (λ (r : Reading). pageAfter (r .card) (c .before .before .before .before .before .before .before .before .before .args .page .now)) (c .before .before .before .before .before .read .ensures)
 

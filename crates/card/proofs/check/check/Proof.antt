@@ -13,11 +13,9 @@ use Rattle.card_format.proofs.Verdict.{verdict-told, verdict-form, verdict-peri
 use Rattle.card.proofs.check.check.Statement.{statement}
 use Rattle.card.proofs.check.check.Tie as tie
 
--- src/check.rt:43:9
 read-requires : tie.Need-read-requires
 read-requires c κs = omega arith
 
--- src/check.rt:45:9
 returns : tie.Need-returns
 unfolding reading
 returns c =
@@ -25,14 +23,12 @@ returns c =
     let e = ap (λ (r : Reading). r .refusal) (c .before .before .read .ensures) in
     verdict-told bytes _ (e ∙ verdict-form bytes (λ z. c .if1 .taken (e ∙ z)))
 
--- src/check.rt:48:5
 period-refusal-requires : tie.Need-period-refusal-requires
 period-refusal-requires c κs =
     let bytes = c .before .before .before .before .before .args .card .now in
     let h = reading-sound bytes _ (c .before .before .before .read .ensures) (c .before .if1 .left) in
     subst (λ (card : Card). WellFormed card × (card .words ≤ mostWords)) (sym (h .1)) (sound-card bytes (h .0), words-sound bytes (h .0))
 
--- src/check.rt:39:1
 returns-2 : tie.Need-returns-2
 returns-2 c =
     let bytes = c .before .before .before .before .before .before .args .card .now in

@@ -19,42 +19,34 @@ returned : (card : Card) (size steps : ℕ) → size ≡ 2 ^ card .words → ste
     → eqb (firstReturn (entry card) (2 ^ card .words)) (2 ^ card .words) ≡ eqb steps size
 returned card size steps e r = sym (ap₂ eqb (r ∙ ap (firstReturn (entry card)) e) e)
 
--- src/check.rt:20:24
 cast-entries : tie.Need-cast-entries
 cast-entries c = omega arith
 
--- src/check.rt:20:9
 entries-requires : tie.Need-entries-requires
 entries-requires c κs = omega arith
 
--- src/check.rt:22:8
 first-return-requires : tie.Need-first-return-requires
 first-return-requires c κs =
     let e = c .before .entries .ensures in
     let m = c .before .before .before .args .card .words in
     ((omega (arith, e, pow-pos m), omega (arith, e, few-entries m (c .before .before .before .pre .1))), λ y l. omega (arith, e, c .before .before .before .pre .0 .entries y (omega (arith, e))))
 
--- src/check.rt:23:9
 returns : tie.Need-returns
 unfolding periodChecks firstOf
 returns c = simp (returned (c .before .before .before .before .before .args .card) _ _ (c .before .before .before .entries .ensures) (c .before .first-return .ensures) ∙ ne-eqb _ _ (c .if1 .taken))
 
--- src/check.rt:26:9
 returns-2 : tie.Need-returns-2
 unfolding periodChecks firstOf
 returns-2 c = simp (returned (c .before .before .before .before .before .before .before .args .card) _ _ (c .before .before .before .before .before .entries .ensures) (c .before .before .before .first-return .ensures) ∙ eq-eqb _ _ (c .before .before .if1 .left), eq-eqb _ _ (c .if2 .taken))
 
--- src/check.rt:29:9
 returns-3 : tie.Need-returns-3
 unfolding periodChecks firstOf
 returns-3 c = simp (returned (c .before .before .before .before .before .before .before .before .before .args .card) _ _ (c .before .before .before .before .before .before .before .entries .ensures) (c .before .before .before .before .before .first-return .ensures) ∙ eq-eqb _ _ (c .before .before .before .before .if1 .left), ne-eqb _ _ (c .before .before .if2 .left), eq-eqb _ _ (c .if3 .taken))
 
--- src/check.rt:32:9
 returns-4 : tie.Need-returns-4
 unfolding periodChecks firstOf
 returns-4 c = simp (returned (c .before .before .before .before .before .before .before .before .before .before .before .args .card) _ _ (c .before .before .before .before .before .before .before .before .before .entries .ensures) (c .before .before .before .before .before .before .before .first-return .ensures) ∙ eq-eqb _ _ (c .before .before .before .before .before .before .if1 .left), ne-eqb _ _ (c .before .before .before .before .if2 .left), ne-eqb _ _ (c .before .before .if3 .left), eq-eqb _ _ (c .if4 .taken))
 
--- src/check.rt:16:1
 returns-5 : tie.Need-returns-5
 unfolding periodChecks firstOf
 returns-5 c = simp (returned (c .before .before .before .before .before .before .before .before .before .before .before .args .card) _ _ (c .before .before .before .before .before .before .before .before .before .entries .ensures) (c .before .before .before .before .before .before .before .first-return .ensures) ∙ eq-eqb _ _ (c .before .before .before .before .before .before .if1 .left), ne-eqb _ _ (c .before .before .before .before .if2 .left), ne-eqb _ _ (c .before .before .if3 .left), ne-eqb _ _ (c .if4 .left))

@@ -3,59 +3,45 @@ use borrow.Author.Needs.{needs}
 use Rattle.card.proofs.read.card_of.Statement.{statement}
 use Rattle.card.proofs.read.card_of.Tie as tie
 
--- src/read.rt:172:16
 element-copy-out-t6 : tie.Need-element-copy-out-t6
 element-copy-out-t6 c = omega arith
 
--- src/read.rt:172:16
 cast-t7 : tie.Need-cast-t7
 cast-t7 c = omega (arith, c .before .before .pre 0 (omega arith) (λ e. absurd (omega arith)) (λ e. absurd (omega arith)))
 
--- src/read.rt:173:16
 element-copy-out-t10 : tie.Need-element-copy-out-t10
 element-copy-out-t10 c = omega arith
 
--- src/read.rt:173:16
 cast-t11 : tie.Need-cast-t11
 cast-t11 c = omega (arith, c .before .before .before .pre 1 (omega arith) (λ e. absurd (omega arith)) (λ e. absurd (omega arith)))
 
--- src/read.rt:175:20
 element-copy-out-t14 : tie.Need-element-copy-out-t14
 element-copy-out-t14 c = omega arith
 
--- src/read.rt:175:20
 cast-t15 : tie.Need-cast-t15
 cast-t15 c = omega (arith, c .before .before .before .before .pre 3 (omega arith) (λ e. absurd (omega arith)) (λ e. absurd (omega arith)))
 
--- src/read.rt:176:21
 element-copy-out-t18 : tie.Need-element-copy-out-t18
 element-copy-out-t18 c = omega arith
 
--- src/read.rt:176:21
 cast-t19 : tie.Need-cast-t19
 cast-t19 c = omega (arith, c .before .before .before .before .before .pre 4 (omega arith) (λ e. absurd (omega arith)) (λ e. absurd (omega arith)))
 
--- src/read.rt:177:19
 element-copy-out-t22 : tie.Need-element-copy-out-t22
 element-copy-out-t22 c = omega arith
 
--- src/read.rt:178:17
 element-copy-out-t25 : tie.Need-element-copy-out-t25
 element-copy-out-t25 c = omega arith
 
--- src/read.rt:178:17
 cast-t26 : tie.Need-cast-t26
 cast-t26 c = omega (arith, c .before .before .before .before .before .before .before .pre 6 (omega arith) (λ e. absurd (omega arith)) (λ e. absurd (omega arith)))
 
--- src/read.rt:179:19
 element-copy-out-t29 : tie.Need-element-copy-out-t29
 element-copy-out-t29 c = omega arith
 
--- src/read.rt:179:19
 cast-t30 : tie.Need-cast-t30
 cast-t30 c = omega (arith, c .before .before .before .before .before .before .before .before .pre 7 (omega arith) (λ e. absurd (omega arith)) (λ e. absurd (omega arith)))
 
--- src/read.rt:166:1
 returns : tie.Need-returns
 returns c = search needs
 

@@ -51,19 +51,15 @@ sound c =
 some : (c : tie.In-loop Inv-loop μ-loop) → 0 < c .before .loop .left
 some c = ones-some (c .before .loop .left) (omega arith)
 
--- src/read.rt:188:9
 refused-requires : tie.Need-refused-requires Inv-loop μ-loop
 refused-requires c κs = omega arith
 
--- src/read.rt:188:9
 returns : tie.Need-returns Inv-loop μ-loop
 returns c = c .refused .ensures ∙ reading-refused (c .before .before .before .args .card .now) 1 (λ e. absurd (omega arith)) (told-empty (c .before .before .before .args .card .now) (c .before .if1 .taken))
 
--- src/read.rt:196:20
 shared-slice-read-left : tie.Need-shared-slice-read-left Inv-loop μ-loop
 shared-slice-read-left c = omega arith
 
--- src/read.rt:199:5
 loop-holds : tie.Need-loop-holds Inv-loop μ-loop
 loop-holds c =
     let bytes = c .before .before .before .args .card .now in
@@ -74,53 +70,42 @@ loop-holds c =
       ones-le 8 (getD bytes 0 0) small,
     )
 
--- src/read.rt:200:17
 cast-k : tie.Need-cast-k Inv-loop μ-loop
 cast-k c = omega (arith, trailing-le 8 (c .before .loop .left))
 
--- src/read.rt:201:35
 element-copy-out-table-missing : tie.Need-element-copy-out-table-missing Inv-loop μ-loop
 element-copy-out-table-missing c = omega arith
 
--- src/read.rt:201:12
 table-missing-requires : tie.Need-table-missing-requires Inv-loop μ-loop
 table-missing-requires c κs = omega arith
 
--- src/read.rt:202:13
 refused-requires-2 : tie.Need-refused-requires-2 Inv-loop μ-loop
 refused-requires-2 c κs = omega arith
 
--- src/read.rt:202:13
 returns-2 : tie.Need-returns-2 Inv-loop μ-loop
 returns-2 c =
     let l = c .before .before .before .before .before .loop in
     c .refused2 .ensures ∙ reading-refused _ 4 (λ e. absurd (omega arith))
     (rest-gap (c .before .before .before .before .before .before .before .before .before .args .card .now) (l .left) (l .next) (l .at) (l .v) (l .inv .0) (some (c .before .before .before .before)) (sym (c .before .before .table-missing .ensures) ∙ c .before .if2 .taken))
 
--- src/read.rt:204:27
 sub-read-field : tie.Need-sub-read-field Inv-loop μ-loop
 sub-read-field c = omega arith
 
--- src/read.rt:204:27
 part-read-field-start : tie.Need-part-read-field-start Inv-loop μ-loop
 part-read-field-start c = omega arith
 
--- src/read.rt:204:27
 part-read-field-end : tie.Need-part-read-field-end Inv-loop μ-loop
 part-read-field-end c = omega arith
 
--- src/read.rt:204:13
 read-field-requires : tie.Need-read-field-requires Inv-loop μ-loop
 read-field-requires c κs =
     let l = c .before .before .before .before .before .loop in
     let h = rest-here (c .before .before .before .before .before .before .before .before .before .args .card .now) (l .left) (l .next) (l .at) (l .v) (l .inv .0) (some (c .before .before .before .before)) (sym (c .before .before .table-missing .ensures) ∙ c .before .if2 .left) in
     (h .1, words-few (c .before .before .before .before .before .before .before .before .before .args .card .now) (l .next) (l .at) (l .v) (l .inv .0 .reached))
 
--- src/read.rt:206:13
 refused-requires-3 : tie.Need-refused-requires-3 Inv-loop μ-loop
 refused-requires-3 c κs = omega arith
 
--- src/read.rt:206:13
 returns-3 : tie.Need-returns-3 Inv-loop μ-loop
 returns-3 c =
     let l = c .before .before .before .before .before .before .before .before .loop in
@@ -129,27 +114,21 @@ returns-3 c =
     (rest-refused bytes (l .left) (l .next) (l .at) (l .v) _ (l .inv .0) (some (c .before .before .before .before .before .before .before)) (sym (c .before .before .before .before .before .table-missing .ensures) ∙ c .before .before .before .before .if2 .left)
     (whole bytes (trailingZeros 8 (l .left)) (l .at) (l .v) _ (c .before .before .read-field .ensures .0)) (c .before .if3 .taken))
 
--- src/read.rt:208:9
 add-at : tie.Need-add-at Inv-loop μ-loop
 add-at c = omega arith
 
--- src/read.rt:209:16
 add-next : tie.Need-add-next Inv-loop μ-loop
 add-next c = omega (arith, trailing-le 8 (c .before .before .before .before .before .before .before .loop .left))
 
--- src/read.rt:210:24
 sub-left : tie.Need-sub-left Inv-loop μ-loop
 sub-left c = some (c .before .before .before .before .before .before)
 
--- src/read.rt:199:9
 add-counter : tie.Need-add-counter Inv-loop μ-loop
 add-counter c = omega arith
 
--- src/read.rt:199:5
 loop-less : tie.Need-loop-less Inv-loop μ-loop
 loop-less c = omega arith
 
--- src/read.rt:199:5
 loop-again : tie.Need-loop-again Inv-loop μ-loop
 loop-again c =
     let l = c .before .before .before .before .before .before .before .loop in
@@ -162,64 +141,51 @@ loop-again c =
       omega arith,
     )
 
--- src/read.rt:212:36
 element-copy-out-table-missing-2 : tie.Need-element-copy-out-table-missing-2 Inv-loop μ-loop
 element-copy-out-table-missing-2 c = omega arith
 
--- src/read.rt:212:8
 table-missing-requires-2 : tie.Need-table-missing-requires-2 Inv-loop μ-loop
 table-missing-requires-2 c κs = omega arith
 
--- src/read.rt:213:9
 refused-requires-4 : tie.Need-refused-requires-4 Inv-loop μ-loop
 refused-requires-4 c κs = omega arith
 
--- src/read.rt:213:9
 returns-4 : tie.Need-returns-4 Inv-loop μ-loop
 returns-4 c =
     let l = c .before .before .before .before .before .loop in
     c .refused4 .ensures ∙ reading-refused _ 4 (λ e. absurd (omega arith))
     (end-gap (c .before .before .before .before .before .before .before .before .before .args .card .now) (l .next) (l .at) (l .v) (none (c .before .before .before .before)) (sym (c .before .before .table-missing2 .ensures) ∙ c .before .if4 .taken))
 
--- src/read.rt:216:9
 refused-requires-5 : tie.Need-refused-requires-5 Inv-loop μ-loop
 refused-requires-5 c κs = omega arith
 
--- src/read.rt:216:9
 returns-5 : tie.Need-returns-5 Inv-loop μ-loop
 returns-5 c =
     let l = c .before .before .before .before .before .before .loop in
     c .refused5 .ensures ∙ reading-refused _ 5 (λ e. absurd (omega arith))
     (told-end (c .before .before .before .before .before .before .before .before .before .before .args .card .now) (l .at) (l .v) (past (c .before .before)) ∙ simp (lt-ltb _ _ (c .before .if5 .taken)))
 
--- src/read.rt:218:16
 element-copy-out-exceeds : tie.Need-element-copy-out-exceeds Inv-loop μ-loop
 element-copy-out-exceeds c = omega arith
 
--- src/read.rt:218:37
 element-copy-out-exceeds-2 : tie.Need-element-copy-out-exceeds-2 Inv-loop μ-loop
 element-copy-out-exceeds-2 c = omega arith
 
--- src/read.rt:218:8
 exceeds-requires : tie.Need-exceeds-requires Inv-loop μ-loop
 exceeds-requires c κs = omega arith
 
--- src/read.rt:219:9
 refused-requires-6 : tie.Need-refused-requires-6 Inv-loop μ-loop
 refused-requires-6 c κs = omega arith
 
--- src/read.rt:219:9
 returns-6 : tie.Need-returns-6 Inv-loop μ-loop
 returns-6 c =
     let l = c .before .before .before .before .before .before .before .before .before .before .loop in
     c .refused6 .ensures ∙ reading-refused _ 6 (λ e. absurd (omega arith))
     (told-end (c .before .before .before .before .before .before .before .before .before .before .before .before .before .before .args .card .now) (l .at) (l .v) (past (c .before .before .before .before .before .before)) ∙ simp (le-ltb _ _ (c .before .before .before .before .before .if5 .left), sym (c .before .before .exceeds .ensures) ∙ c .before .if6 .taken))
 
--- src/read.rt:223:15
 card-of-requires : tie.Need-card-of-requires Inv-loop μ-loop
 card-of-requires c κs = byte-values (c .before .before .before .before .before .before .before .before .before .before .before .before .before .args .card .now) (none-first _ (sound c)) (c .before .before .before .before .before .before .before .before .before .loop .at) (c .before .before .before .before .before .before .before .before .before .loop .v) (past (c .before .before .before .before .before))
 
--- src/read.rt:184:1
 returns-7 : tie.Need-returns-7 Inv-loop μ-loop
 returns-7 c =
     let l = c .before .before .before .before .before .before .before .before .before .before .loop in

@@ -39,56 +39,44 @@ stored-as k part v x l ne e =
     (sym (eqb-true _ 0 (r .0))) (sym (ap extent (numeric 4 k l ne) ∙ one-mul (getD sizes k 0)))
     ∙ ap {B = Values} (λ (x : ℕ). record { refusal = firstOf (partChecks (field 4 k) part); used = extent (field 4 k); numbers = set (v .numbers) k x; table = v .table }) (r .1))
 
--- src/read.rt:120:9
 read-table-requires : tie.Need-read-table-requires
 read-table-requires c κs = omega arith
 
--- src/read.rt:120:9
 returns : tie.Need-returns
 returns c =
     let a = c .before .before .before .args in
     full (a .k) (a .part .now) (a .v) _ (c .read-table .ensures ∙ ap (λ (k : ℕ). fieldRead k (a .part .now) (a .v)) (sym (c .before .if1 .taken)))
 
--- src/read.rt:122:11
 read-number-requires : tie.Need-read-number-requires
 read-number-requires c κs = omega arith
 
--- src/read.rt:123:23
 enum-known-x : tie.Need-enum-known-x
 enum-known-x c = omega arith
 
--- src/read.rt:126:24
 mul-out : tie.Need-mul-out
 mul-out c = omega arith
 
--- src/read.rt:126:24
 array-read-out : tie.Need-array-read-out
 array-read-out c = omega arith
 
--- src/read.rt:127:13
 mul-out-2 : tie.Need-mul-out-2
 mul-out-2 c = omega arith
 
--- src/read.rt:127:13
 element-write-out : tie.Need-element-write-out
 element-write-out c = omega arith
 
--- src/read.rt:130:25
 enum-known-r : tie.Need-enum-known-r
 enum-known-r c = omega arith
 
--- src/read.rt:130:31
 refused-at-requires : tie.Need-refused-at-requires
 refused-at-requires c κs = omega arith
 
--- src/read.rt:113:1
 returns-2 : tie.Need-returns-2
 returns-2 c =
     let a = c .before .before .before .before .before .before .args in
     full (a .k) (a .part .now) (a .v) _
     (stored-as (a .k) (a .part .now) (a .v) _ (c .before .before .before .before .before .before .pre .0) (c .before .before .before .before .if1 .left) (sym (c .before .x .given .1) ∙ c .before .before .before .read-number .ensures))
 
--- src/read.rt:113:1
 returns-3 : tie.Need-returns-3
 returns-3 c =
     let a = c .before .before .before .before .before .before .before .args in

@@ -37,38 +37,30 @@ shown : (part : List ℕ) (m size : ℕ) (t : List ℕ) → size ≡ 2 ^ m → s
 shown part m size t es h et =
     (omega (arith, es), rw (sym es) (ap (λ (t : List ℕ). take size t) et ∙ take-padded part size h))
 
--- src/read.rt:91:13
 element-copy-out-m : tie.Need-element-copy-out-m
 element-copy-out-m c = omega arith
 
--- src/read.rt:92:9
 entries-requires : tie.Need-entries-requires
 entries-requires c κs = omega arith
 
--- src/read.rt:94:9
 refused-at-requires : tie.Need-refused-at-requires
 refused-at-requires c κs = omega arith
 
--- src/read.rt:94:9
 returns : tie.Need-returns
 returns c =
     let a = c .before .before .before .before .before .args in
     c .refused-at .ensures ∙ refused-as (a .part .now) (a .t2) 1 (λ e. absurd (omega arith))
     (table-short (getD (a .t2 .numbers) 0 0) (a .part .now) (omega (arith, c .before .before .entries .ensures)))
 
--- src/read.rt:96:9
 table-from-requires : tie.Need-table-from-requires
 table-from-requires c κs = (omega (arith, c .before .entries .ensures, few-entries (getD (c .before .before .before .before .args .t2 .numbers) 0 0) (c .before .before .before .before .pre)), search needs)
 
--- src/read.rt:97:9
 entries-allowed-requires : tie.Need-entries-allowed-requires
 entries-allowed-requires c κs = omega arith
 
--- src/read.rt:98:9
 refused-at-requires-2 : tie.Need-refused-at-requires-2
 refused-at-requires-2 c κs = omega arith
 
--- src/read.rt:98:9
 returns-2 : tie.Need-returns-2
 returns-2 c =
     let a = c .before .before .before .before .before .before .before .before .args in
@@ -77,15 +69,12 @@ returns-2 c =
     c .refused-at2 .ensures ∙ refused-as (a .part .now) (a .t2) 2 (λ e. absurd (omega arith))
     (table-refusal m (a .part .now) (e .0) _ (e .1) ∙ simp (sym (c .before .before .entries-allowed .ensures) ∙ not-true _ (c .before .if2 .taken)))
 
--- src/read.rt:100:8
 is-tsc1-requires : tie.Need-is-tsc1-requires
 is-tsc1-requires c κs = omega arith
 
--- src/read.rt:101:9
 refused-at-requires-3 : tie.Need-refused-at-requires-3
 refused-at-requires-3 c κs = omega arith
 
--- src/read.rt:101:9
 returns-3 : tie.Need-returns-3
 returns-3 c =
     let a = c .before .before .before .before .before .before .before .before .before .before .args in
@@ -94,7 +83,6 @@ returns-3 c =
     c .refused-at3 .ensures ∙ refused-as (a .part .now) (a .t2) 3 (λ e. absurd (omega arith))
     (table-refusal m (a .part .now) (e .0) _ (e .1) ∙ simp (sym (c .before .before .before .before .entries-allowed .ensures) ∙ not-false _ (c .before .before .before .if2 .left), sym (c .before .before .is-tsc1 .ensures) ∙ c .before .if3 .taken))
 
--- src/read.rt:87:1
 returns-4 : tie.Need-returns-4
 returns-4 c =
     let a = c .before .before .before .before .before .before .before .before .before .before .args in

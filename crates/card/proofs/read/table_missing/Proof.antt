@@ -2,15 +2,12 @@ use borrow.Author.Tests.{le-leb, lt-leb, lt-ltb, le-ltb}
 use Rattle.card.proofs.read.table_missing.Statement.{statement}
 use Rattle.card.proofs.read.table_missing.Tie as tie
 
--- src/read.rt:140:13
 returns : tie.Need-returns
 returns c = simp (le-leb _ _ (c .before .if1 .taken), lt-ltb _ _ (c .if2 .taken))
 
--- src/read.rt:135:1
 returns-2 : tie.Need-returns-2
 returns-2 c = simp (le-leb _ _ (c .before .if1 .taken), le-ltb _ _ (c .if2 .left))
 
--- src/read.rt:135:1
 returns-3 : tie.Need-returns-3
 returns-3 c = simp (lt-leb _ _ (c .if1 .left))
 

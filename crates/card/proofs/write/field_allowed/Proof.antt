@@ -8,48 +8,38 @@ use Rattle.card_format.proofs.Writing.{allowed-one}
 use Rattle.card.proofs.write.field_allowed.Statement.{statement}
 use Rattle.card.proofs.write.field_allowed.Tie as tie
 
--- src/write.rt:57:39
 cast-entries-allowed : tie.Need-cast-entries-allowed
 cast-entries-allowed c = omega arith
 
--- src/write.rt:57:9
 entries-allowed-requires : tie.Need-entries-allowed-requires
 entries-allowed-requires c κs = c .before .before .before .pre .1 (omega (arith, c .before .before .if1 .taken))
 
--- src/write.rt:57:9
 returns : tie.Need-returns
 unfolding numbersOf
 returns c =
     let a = c .before .before .before .before .args in
     c .entries-allowed .ensures ∙ ap (λ (k : ℕ). allowed (field (a .card .words) k) (numbersOf (a .card) k)) (sym (c .before .before .before .if1 .taken))
 
--- src/write.rt:59:9
 number-of-requires : tie.Need-number-of-requires
 number-of-requires c κs = omega arith
 
--- src/write.rt:60:12
 mul-if2 : tie.Need-mul-if2
 mul-if2 c = omega arith
 
--- src/write.rt:60:12
 array-read-if2 : tie.Need-array-read-if2
 array-read-if2 c = omega arith
 
--- src/write.rt:61:9
 returns-2 : tie.Need-returns-2
 returns-2 c =
     let a = c .before .before .before .args in
     rw (c .before .number-of .ensures, allowed-one (a .card .words) (a .k) (c .before .number-of .result) (c .before .before .before .pre .0) (c .before .before .if1 .left), lt-leb _ _ (c .if2 .taken))
 
--- src/write.rt:63:10
 mul-result : tie.Need-mul-result
 mul-result c = omega arith
 
--- src/write.rt:63:10
 array-read-result : tie.Need-array-read-result
 array-read-result c = omega arith
 
--- src/write.rt:51:1
 returns-3 : tie.Need-returns-3
 returns-3 c =
     let a = c .before .before .before .args in

@@ -18,42 +18,33 @@ Inv-loop card k₀ k = (k ≤ 8) × (every k (λ j. allowed (field (card .words)
 abbrev μ-loop : tie.MeasureT-loop
 μ-loop card k₀ k = 8 - k
 
--- src/write.rt:70:5
 loop-holds : tie.Need-loop-holds Inv-loop μ-loop
 unfolding every
 loop-holds c = (omega arith, refl)
 
--- src/write.rt:71:13
 field-allowed-requires : tie.Need-field-allowed-requires Inv-loop μ-loop
 field-allowed-requires c κs = (omega arith, λ p. words-allowed (c .before .before .args .card) (every-at (c .before .loop .k) _ (c .before .loop .inv .1) 0 p))
 
--- src/write.rt:72:13
 returns : tie.Need-returns Inv-loop μ-loop
 unfolding inRange
 returns c = rw (every-not 8 _ (c .before .before .before .loop .k) (omega arith) (sym (c .before .field-allowed .ensures) ∙ not-true _ (c .if1 .taken))) refl
 
--- src/write.rt:70:9
 add-k : tie.Need-add-k Inv-loop μ-loop
 add-k c = omega arith
 
--- src/write.rt:70:5
 loop-less : tie.Need-loop-less Inv-loop μ-loop
 loop-less c = omega arith
 
--- src/write.rt:70:5
 loop-again : tie.Need-loop-again Inv-loop μ-loop
 unfolding every
 loop-again c = (omega arith, rw add-one (simp (c .before .before .before .loop .inv .1, sym (c .before .field-allowed .ensures) ∙ not-false _ (c .if1 .left))))
 
--- src/write.rt:76:25
 cast-unused-clear : tie.Need-cast-unused-clear Inv-loop μ-loop
 cast-unused-clear c = omega arith
 
--- src/write.rt:76:5
 unused-clear-requires : tie.Need-unused-clear-requires Inv-loop μ-loop
 unused-clear-requires c κs = words-allowed (c .before .before .before .before .args .card) (every-at (c .before .before .before .loop .k) _ (c .before .before .before .loop .inv .1) 0 (omega arith))
 
--- src/write.rt:67:1
 returns-2 : tie.Need-returns-2 Inv-loop μ-loop
 unfolding inRange
 returns-2 c =

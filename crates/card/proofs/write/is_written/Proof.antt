@@ -7,32 +7,25 @@ use Rattle.card_format.proofs.Writing.{absent-one}
 use Rattle.card.proofs.write.is_written.Statement.{statement}
 use Rattle.card.proofs.write.is_written.Tie as tie
 
--- src/write.rt:99:32
 cast-is-tsc1 : tie.Need-cast-is-tsc1
 cast-is-tsc1 c = omega arith
 
--- src/write.rt:99:17
 is-tsc1-requires : tie.Need-is-tsc1-requires
 is-tsc1-requires c κs = omega arith
 
--- src/write.rt:99:9
 returns : tie.Need-returns
 unfolding numbersOf field fields
 returns c = ap not (c .is-tsc1 .ensures) ∙ ap (isWritten (c .before .before .before .before .args .card)) (sym (c .before .before .before .if1 .taken))
 
--- src/write.rt:101:5
 number-of-requires : tie.Need-number-of-requires
 number-of-requires c κs = omega arith
 
--- src/write.rt:101:27
 mul-result : tie.Need-mul-result
 mul-result c = omega arith
 
--- src/write.rt:101:27
 array-read-result : tie.Need-array-read-result
 array-read-result c = omega arith
 
--- src/write.rt:93:1
 returns-2 : tie.Need-returns-2
 returns-2 c =
     let a = c .before .before .args in

@@ -12,39 +12,30 @@ abbrev numbersArray : Card → List ℕ
 numbersArray card =
     card .words ∷ card .width ∷ 0 ∷ card .«odd_power» ∷ card .«even_power» ∷ card .constant ∷ card .filter ∷ card .«sum_term» ∷ []
 
--- src/write.rt:38:9
 cast-result : tie.Need-cast-result
 cast-result c = omega arith
 
--- src/write.rt:39:9
 cast-t5 : tie.Need-cast-t5
 cast-t5 c = omega arith
 
--- src/write.rt:41:9
 cast-t6 : tie.Need-cast-t6
 cast-t6 c = omega arith
 
--- src/write.rt:42:9
 cast-t7 : tie.Need-cast-t7
 cast-t7 c = omega arith
 
--- src/write.rt:44:9
 cast-t8 : tie.Need-cast-t8
 cast-t8 c = omega arith
 
--- src/write.rt:45:9
 cast-t9 : tie.Need-cast-t9
 cast-t9 c = omega arith
 
--- src/write.rt:47:5
 mul-result : tie.Need-mul-result
 mul-result c = omega arith
 
--- src/write.rt:47:5
 array-read-result : tie.Need-array-read-result
 array-read-result c = omega arith
 
--- src/write.rt:33:1
 returns : tie.Need-returns
 returns c =
     let p = c .before .before .before .before .before .before .pre in

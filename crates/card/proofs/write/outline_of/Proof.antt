@@ -23,26 +23,21 @@ Inv-loop card o₀ k₀ o k = (k ≤ 8) × (o .map ≡ mapTo card k) × (o .leng
 abbrev μ-loop : tie.MeasureT-loop
 μ-loop card o₀ k₀ o k = 8 - k
 
--- src/write.rt:129:5
 loop-holds : tie.Need-loop-holds Inv-loop μ-loop
 unfolding sum writtenTo
 loop-holds c = (omega arith, refl, refl, omega arith)
 
--- src/write.rt:130:9
 with-field-requires : tie.Need-with-field-requires Inv-loop μ-loop
 with-field-requires c κs =
     let l = c .before .loop in
     ((omega arith, c .before .before .pre), (omega (arith, l .inv .1, map-lt (l .k) (isWritten (c .before .before .args .card))), omega arith))
 
--- src/write.rt:129:9
 add-k : tie.Need-add-k Inv-loop μ-loop
 add-k c = omega arith
 
--- src/write.rt:129:5
 loop-less : tie.Need-loop-less Inv-loop μ-loop
 loop-less c = omega arith
 
--- src/write.rt:129:5
 loop-again : tie.Need-loop-again Inv-loop μ-loop
 loop-again c =
     let l = c .before .before .loop in
@@ -54,7 +49,6 @@ loop-again c =
       omega (arith, e .1, fieldBytes-few card (l .k) (omega arith) (c .before .before .before .pre)),
     )
 
--- src/write.rt:120:1
 returns : tie.Need-returns Inv-loop μ-loop
 returns c =
     let l = c .before .loop in

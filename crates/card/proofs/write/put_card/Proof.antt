@@ -31,11 +31,9 @@ Inv-loop card map page₀ at₀ k₀ page at k = Front card page₀ page at k
 abbrev μ-loop : tie.MeasureT-loop
 μ-loop card map page₀ at₀ k₀ page at k = 8 - k
 
--- src/write.rt:187:5
 slice-write-page : tie.Need-slice-write-page Inv-loop μ-loop
 slice-write-page c = omega (arith, c .before .pre .1, length-some (c .before .args .card) 8)
 
--- src/write.rt:189:5
 loop-holds : tie.Need-loop-holds Inv-loop μ-loop
 unfolding writtenTo
 loop-holds c =
@@ -47,19 +45,15 @@ loop-holds c =
       omega (arith, length-set (a .page .now) 0 (a .map), c .before .pre .1),
     )
 
--- src/write.rt:190:34
 sub-put-field : tie.Need-sub-put-field Inv-loop μ-loop
 sub-put-field c = let l = c .before .loop in room (c .before .before .before .args .card) _ (l .page) (l .at) (l .k) (omega arith) (l .inv) .0
 
--- src/write.rt:190:34
 part-put-field-start : tie.Need-part-put-field-start Inv-loop μ-loop
 part-put-field-start c = let l = c .before .loop in room (c .before .before .before .args .card) _ (l .page) (l .at) (l .k) (omega arith) (l .inv) .0
 
--- src/write.rt:190:34
 part-put-field-end : tie.Need-part-put-field-end Inv-loop μ-loop
 part-put-field-end c = omega arith
 
--- src/write.rt:190:15
 put-field-requires : tie.Need-put-field-requires Inv-loop μ-loop
 put-field-requires c κs =
     let l = c .before .before .loop in (
@@ -67,21 +61,17 @@ put-field-requires c κs =
       omega (arith, room (c .before .before .before .before .args .card) _ (l .page) (l .at) (l .k) (omega arith) (l .inv) .1, ap (λ (p : List ℕ). length p) (part-rest (l .at) (l .page)), length-drop (l .at) (l .page)),
     )
 
--- src/write.rt:190:9
 add-at : tie.Need-add-at Inv-loop μ-loop
 add-at c =
     let l = c .before .before .before .before .before .loop in
     omega (arith, c .before .before .put-field .ensures .0, room (c .before .before .before .before .before .before .before .args .card) _ (l .page) (l .at) (l .k) (omega arith) (l .inv) .1, kept (c .before .before .before .before .before .before .before .args .card) _ (l .page) (l .at) (l .k) (l .inv), length-set (c .before .before .before .before .before .before .before .args .page .now) 0 (c .before .before .before .before .before .before .before .args .map))
 
--- src/write.rt:189:9
 add-k : tie.Need-add-k Inv-loop μ-loop
 add-k c = omega arith
 
--- src/write.rt:189:5
 loop-less : tie.Need-loop-less Inv-loop μ-loop
 loop-less c = omega arith
 
--- src/write.rt:189:5
 loop-again : tie.Need-loop-again Inv-loop μ-loop
 loop-again c =
     let l = c .before .before .before .before .before .loop in
@@ -98,11 +88,9 @@ loop-again c =
       l .inv .3,
     )
 
--- src/write.rt:182:1
 same-length : tie.Need-same-length Inv-loop μ-loop
 same-length c = kept (c .before .before .before .args .card) _ (c .before .loop .page) (c .before .loop .at) (c .before .loop .k) (c .before .loop .inv) ∙ length-set (c .before .before .before .args .page .now) 0 (c .before .before .before .args .map)
 
--- src/write.rt:182:1
 returns : tie.Need-returns Inv-loop μ-loop
 returns c =
     let l = c .before .loop in

@@ -30,36 +30,29 @@ table-bytes card k size t z r w e =
     ap (λ (n : ℕ). take n (card .table)) (e ∙ ap (λ (k : ℕ). extent (field (card .words) k)) t ∙ mul-one (2 ^ card .words))
     ∙ sym (ap (fieldBytes card) t ∙ fieldBytes-table card z r (ap (isWritten card) (sym t) ∙ w))
 
--- src/write.rt:168:9
 is-written-requires : tie.Need-is-written-requires
 is-written-requires c κs = (c .before .pre .0 .0, range-words (c .before .args .card) (c .before .pre .0 .1))
 
--- src/write.rt:169:9
 returns : tie.Need-returns
 returns c =
     let a = c .before .before .before .args in
     rw (fieldBytes-none (a .card) (a .k) (sym (c .before .is-written .ensures) ∙ not-true _ (c .if1 .taken))) (refl, refl)
 
--- src/write.rt:171:29
 cast-extent-of : tie.Need-cast-extent-of
 cast-extent-of c = omega arith
 
--- src/write.rt:171:9
 extent-of-requires : tie.Need-extent-of-requires
 extent-of-requires c κs = (c .before .before .before .before .pre .0 .0, range-words (c .before .before .before .before .args .card) (c .before .before .before .before .pre .0 .1))
 
--- src/write.rt:174:9
 put-table-requires : tie.Need-put-table-requires
 put-table-requires c κs =
     let a = c .before .before .before .before .before .before .before .before .args in
     let e = whole (a .card) (a .k) (c .before .before .before .extent-of .result) (c .before .before .before .extent-of .ensures) (sym (c .before .before .before .before .before .before .is-written .ensures) ∙ not-false _ (c .before .before .before .before .before .if1 .left)) in
     (omega (arith, c .before .before .before .extent-of .ensures, extent-few (a .card .words) (range-words (a .card) (c .before .before .before .before .before .before .before .before .pre .0 .1)) (a .k) (c .before .before .before .before .before .before .before .before .pre .0 .0)), omega (arith, e, c .before .before .before .before .before .before .before .before .pre .1))
 
--- src/write.rt:175:9
 same-length : tie.Need-same-length
 same-length c = omega arith
 
--- src/write.rt:175:9
 returns-2 : tie.Need-returns-2
 returns-2 c =
     let a = c .before .before .before .before .before .before .before .before .before .before .before .args in
@@ -71,21 +64,17 @@ returns-2 c =
           (table-bytes (a .card) (a .k) (c .before .before .before .before .before .before .extent-of .result) (c .before .before .before .before .before .if2 .taken) z (c .before .before .before .before .before .before .before .before .before .before .before .pre .0 .1) w (c .before .before .before .before .before .before .extent-of .ensures)) e,
     )
 
--- src/write.rt:177:16
 number-of-requires : tie.Need-number-of-requires
 number-of-requires c κs = omega arith
 
--- src/write.rt:177:5
 put-number-requires : tie.Need-put-number-requires
 put-number-requires c κs =
     let a = c .before .before .before .before .before .before .before .before .args in
     omega (arith, whole (a .card) (a .k) (c .before .before .before .extent-of .result) (c .before .before .before .extent-of .ensures) (sym (c .before .before .before .before .before .before .is-written .ensures) ∙ not-false _ (c .before .before .before .before .before .if1 .left)), c .before .before .before .before .before .before .before .before .pre .1)
 
--- src/write.rt:162:1
 same-length-2 : tie.Need-same-length-2
 same-length-2 c = omega arith
 
--- src/write.rt:162:1
 returns-3 : tie.Need-returns-3
 returns-3 c =
     let a = c .before .before .before .before .before .before .before .before .before .before .before .args in

@@ -32,30 +32,24 @@ Inv-loop x size part₀ rest₀ i₀ part rest i = (i ≤ size) × (size ≤ len
 abbrev μ-loop : tie.MeasureT-loop
 μ-loop x size part₀ rest₀ i₀ part rest i = size - i
 
--- src/write.rt:142:5
 loop-holds : tie.Need-loop-holds Inv-loop μ-loop
 loop-holds c = (omega arith, omega arith, sym (div-one (c .args .x)), refl)
 
--- src/write.rt:143:19
 cast-part : tie.Need-cast-part Inv-loop μ-loop
 cast-part c = omega arith
 
--- src/write.rt:143:9
 slice-write-part : tie.Need-slice-write-part Inv-loop μ-loop
 slice-write-part c =
     let l = c .before .loop in
     let a = c .before .before .args in
     omega (arith, ap (λ (p : List ℕ). length p) (l .inv .3), kept (a .x) (a .size) (a .part .now) (l .i) (omega arith) (omega arith))
 
--- src/write.rt:145:9
 add-i : tie.Need-add-i Inv-loop μ-loop
 add-i c = omega arith
 
--- src/write.rt:142:5
 loop-less : tie.Need-loop-less Inv-loop μ-loop
 loop-less c = omega arith
 
--- src/write.rt:142:5
 loop-again : tie.Need-loop-again Inv-loop μ-loop
 loop-again c =
     let l = c .before .loop in
@@ -67,14 +61,12 @@ loop-again c =
           ∙ over-suc (lowBytes (a .x) (a .size)) (a .part .now) (l .i) (omega (arith, size-low (a .x) (a .size))) (omega arith),
     )
 
--- src/write.rt:136:1
 same-length : tie.Need-same-length Inv-loop μ-loop
 same-length c =
     let l = c .before .loop in
     let a = c .before .before .args in
     ap (λ (p : List ℕ). length p) (l .inv .3) ∙ kept (a .x) (a .size) (a .part .now) (l .i) (omega arith) (omega arith)
 
--- src/write.rt:136:1
 returns : tie.Need-returns Inv-loop μ-loop
 returns c =
     let l = c .before .loop in

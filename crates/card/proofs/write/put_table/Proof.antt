@@ -14,29 +14,23 @@ Inv-loop size part₀ table i₀ part i = (i ≤ size) × (size ≤ 2 ^ mostWord
 abbrev μ-loop : tie.MeasureT-loop
 μ-loop size part₀ table i₀ part i = size - i
 
--- src/write.rt:155:5
 loop-holds : tie.Need-loop-holds Inv-loop μ-loop
 loop-holds c = (omega arith, omega arith, omega arith, omega arith, refl)
 
--- src/write.rt:156:19
 array-read-part : tie.Need-array-read-part Inv-loop μ-loop
 array-read-part c = omega arith
 
--- src/write.rt:156:9
 slice-write-part : tie.Need-slice-write-part Inv-loop μ-loop
 slice-write-part c =
     let l = c .before .loop in
     omega (arith, ap (λ (p : List ℕ). length p) (l .inv .4), length-over (c .before .before .args .t1) (c .before .before .args .part .now) (l .i) (omega arith) (omega arith))
 
--- src/write.rt:157:9
 add-i : tie.Need-add-i Inv-loop μ-loop
 add-i c = omega arith
 
--- src/write.rt:155:5
 loop-less : tie.Need-loop-less Inv-loop μ-loop
 loop-less c = omega arith
 
--- src/write.rt:155:5
 loop-again : tie.Need-loop-again Inv-loop μ-loop
 loop-again c =
     let l = c .before .loop in
@@ -48,13 +42,11 @@ loop-again c =
       ap (λ (p : List ℕ). set p (l .i) (getD t (l .i) 0)) (l .inv .4) ∙ over-suc t (c .before .before .args .part .now) (l .i) (omega arith) (omega arith),
     )
 
--- src/write.rt:150:1
 same-length : tie.Need-same-length Inv-loop μ-loop
 same-length c =
     let l = c .before .loop in
     ap (λ (p : List ℕ). length p) (l .inv .4) ∙ length-over (c .before .before .args .t1) (c .before .before .args .part .now) (l .i) (omega arith) (omega arith)
 
--- src/write.rt:150:1
 returns : tie.Need-returns Inv-loop μ-loop
 returns c =
     let l = c .before .loop in

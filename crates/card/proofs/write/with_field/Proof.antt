@@ -9,47 +9,38 @@ use Rattle.card_format.proofs.Writing.{length-fieldBytes, extent-few}
 use Rattle.card.proofs.write.with_field.Statement.{statement}
 use Rattle.card.proofs.write.with_field.Tie as tie
 
--- src/write.rt:110:9
 is-written-requires : tie.Need-is-written-requires
 is-written-requires c κs = omega arith
 
--- src/write.rt:111:9
 returns : tie.Need-returns
 returns c =
     let a = c .before .before .args in
     let w = sym (c .before .is-written .ensures) ∙ not-true _ (c .if1 .taken) in
     (rw w (sym (add-zero _)), rw (length-fieldBytes (a .card) (a .k), w) (sym (add-zero _)))
 
--- src/write.rt:114:28
 cast-t6 : tie.Need-cast-t6
 cast-t6 c = omega arith
 
--- src/write.rt:114:23
 shl-t7 : tie.Need-shl-t7
 shl-t7 c = omega arith
 
--- src/write.rt:114:14
 add-t8 : tie.Need-add-t8
 add-t8 c =
     let k = c .before .before .before .args .k in
     let p : 2 ^ k ≤ 2 ^ 7 = pow-mono {j = 7} (omega arith) in
     omega (arith, one-shifted k 8 (omega arith), p, c .before .before .before .pre)
 
--- src/write.rt:115:41
 cast-extent-of : tie.Need-cast-extent-of
 cast-extent-of c = omega arith
 
--- src/write.rt:115:28
 extent-of-requires : tie.Need-extent-of-requires
 extent-of-requires c κs = omega arith
 
--- src/write.rt:115:17
 add-t11 : tie.Need-add-t11
 add-t11 c =
     let a = c .before .before .before .before .before .before .args in
     omega (arith, c .before .extent-of .ensures, extent-few (a .card .words) (c .before .before .before .before .before .before .pre .0 .1) (a .k) (c .before .before .before .before .before .before .pre .0 .0))
 
--- src/write.rt:104:1
 returns-2 : tie.Need-returns-2
 returns-2 c =
     let a = c .before .before .before .before .before .before .args in

@@ -9,22 +9,18 @@ use Rattle.card_format.proofs.Writing.{range-words, value-told, room-told, valu
 use Rattle.card.proofs.write.write.Statement.{statement}
 use Rattle.card.proofs.write.write.Tie as tie
 
--- src/write.rt:199:9
 value-refusal-requires : tie.Need-value-refusal-requires
 value-refusal-requires c κs = omega arith
 
--- src/write.rt:201:9
 returns : tie.Need-returns
 returns c =
     let a = c .before .before .before .args in
     let e = c .before .value-refusal .ensures in
     writing-refused (a .card) (a .page .now) _ (c .if1 .taken) (value-told (a .card) _ (λ z. c .if1 .taken (e ∙ z)) ∙ sym e)
 
--- src/write.rt:203:9
 outline-of-requires : tie.Need-outline-of-requires
 outline-of-requires c κs = let card = c .before .before .before .args .card in range-words card (value-range card (sym (c .before .value-refusal .ensures) ∙ c .if1 .left))
 
--- src/write.rt:205:9
 returns-2 : tie.Need-returns-2
 returns-2 c =
     let a = c .before .before .before .before .before .before .args in
@@ -32,17 +28,14 @@ returns-2 c =
     writing-refused (a .card) (a .page .now) 16 (λ e. absurd (omega arith))
     (room-told (a .card) _ (sym (c .before .before .before .before .value-refusal .ensures) ∙ c .before .before .before .if1 .left) ∙ simp (lt-ltb _ _ small))
 
--- src/write.rt:207:5
 put-card-requires : tie.Need-put-card-requires
 put-card-requires c κs =
     let card = c .before .before .before .before .before .before .before .args .card in
     ((value-range card (sym (c .before .before .before .before .before .value-refusal .ensures) ∙ c .before .before .before .before .if1 .left), c .before .before .before .outline-of .ensures .0), omega (arith, c .before .if2 .left, c .before .before .before .outline-of .ensures .1))
 
--- src/write.rt:195:1
 same-length : tie.Need-same-length
 same-length c = omega arith
 
--- src/write.rt:195:1
 returns-3 : tie.Need-returns-3
 returns-3 c =
     let a = c .before .before .before .before .before .before .before .before .before .before .args in

@@ -8,15 +8,12 @@ use Rattle.card_format.proofs.Fields.{one-shifted}
 use Rattle.card_fields.proofs.field.exceeds.Statement.{statement}
 use Rattle.card_fields.proofs.field.exceeds.Tie as tie
 
--- src/field.rt:36:16
 shl-result : tie.Need-shl-result
 shl-result c = omega arith
 
--- src/field.rt:36:9
 returns : tie.Need-returns
 returns c = ap (λ (p : ℕ). leb p (c .before .args .constant)) (one-shifted (c .before .args .width) 32 (c .if1 .taken))
 
--- src/field.rt:32:1
 returns-2 : tie.Need-returns-2
 returns-2 c =
     let p : 2 ^ 32 ≤ 2 ^ c .before .args .width = pow-mono (c .if1 .left) in

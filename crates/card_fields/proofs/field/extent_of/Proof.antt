@@ -8,24 +8,19 @@ use Rattle.card_format.proofs.Fields.{sizes, numeric}
 use Rattle.card_fields.proofs.field.extent_of.Statement.{statement}
 use Rattle.card_fields.proofs.field.extent_of.Tie as tie
 
--- src/field.rt:26:9
 entries-requires : tie.Need-entries-requires
 entries-requires c κs = omega arith
 
--- src/field.rt:26:9
 returns : tie.Need-returns
 unfolding field fields
 returns c = c .entries .ensures ∙ sym (mul-one (2 ^ c .before .before .args .m)) ∙ ap (λ (k : ℕ). extent (field (c .before .before .args .m) k)) (sym (c .before .if1 .taken))
 
--- src/field.rt:28:5
 mul-result : tie.Need-mul-result
 mul-result c = omega arith
 
--- src/field.rt:28:5
 array-read-result : tie.Need-array-read-result
 array-read-result c = omega arith
 
--- src/field.rt:21:1
 returns-2 : tie.Need-returns-2
 returns-2 c = sym (ap extent (numeric (c .before .args .m) (c .before .args .k) (c .before .pre .0) (c .if1 .left)) ∙ one-mul (getD sizes (c .before .args .k) 0))
 

@@ -23,42 +23,33 @@ one part = omega arith
 room : (c : lts.Start (low-first-reads.Asked, low-first-reads.Learnt) reads.Pre reads.Post) → c .args .k ≡ 5 → 4 ≤ length (c .args .part .now)
 room c e = omega (arith, c .pre .1, size-of (c .args .k) (c .pre .0 .0) (c .pre .0 .1), ap (λ (k : ℕ). getD sizes k 0) e)
 
--- src/read.rt:50:26
 shared-slice-read-low-first : tie.Need-shared-slice-read-low-first
 shared-slice-read-low-first c = omega (arith, room (c .before .before .before) (c .before .if1 .taken))
 
--- src/read.rt:50:35
 shared-slice-read-low-first-2 : tie.Need-shared-slice-read-low-first-2
 shared-slice-read-low-first-2 c = omega (arith, room (c .before .before .before .before) (c .before .before .if1 .taken))
 
--- src/read.rt:50:44
 shared-slice-read-low-first-3 : tie.Need-shared-slice-read-low-first-3
 shared-slice-read-low-first-3 c = omega (arith, room (c .before .before .before .before .before) (c .before .before .before .if1 .taken))
 
--- src/read.rt:50:53
 shared-slice-read-low-first-4 : tie.Need-shared-slice-read-low-first-4
 shared-slice-read-low-first-4 c = omega (arith, room (c .before .before .before .before .before .before) (c .before .before .before .before .if1 .taken))
 
--- src/read.rt:50:9
 low-first-requires : tie.Need-low-first-requires
 low-first-requires c κs = omega arith
 
--- src/read.rt:50:9
 returns : tie.Need-returns
 returns c =
     let a = c .before .before .before .before .before .before .before .args in
     let p = c .before .before .before .before .before .before .before .pre .0 in
     c .low-first .ensures ∙ four (a .part .now) ∙ sym (number-low (a .k) (p .0) (p .1) (a .part .now) ∙ ap (λ (k : ℕ). lowFirst (getD sizes k 0) (a .part .now)) (c .before .before .before .before .before .if1 .taken))
 
--- src/read.rt:52:5
 shared-slice-read-result : tie.Need-shared-slice-read-result
 shared-slice-read-result c = let p = c .before .before .before .pre in omega (arith, p .1, size-of (c .before .before .before .args .k) (p .0 .0) (p .0 .1), size-one (c .before .before .before .args .k) (p .0 .0) (p .0 .1) (c .before .if1 .left))
 
--- src/read.rt:52:5
 cast-result : tie.Need-cast-result
 cast-result c = omega (arith, c .before .before .shared-slice-known .given 0)
 
--- src/read.rt:44:1
 returns-2 : tie.Need-returns-2
 returns-2 c =
     let a = c .before .before .before .args in

@@ -23,62 +23,48 @@ value-as : (k : ℕ) (part : List ℕ) (v : ℕ) → (k < 8) × (k ≢ tableBit)
 unfolding numberRead
 value-as k part v p ev e = rw (part-refusal k (p .0) (p .1) part ∙ sym (ap (numberRefusal k part) ev) ∙ e) (ap Value ev)
 
--- src/read.rt:60:21
 mul-if1 : tie.Need-mul-if1
 mul-if1 c = omega arith
 
--- src/read.rt:60:21
 array-read-if1 : tie.Need-array-read-if1
 array-read-if1 c = omega arith
 
--- src/read.rt:61:9
 returns : tie.Need-returns
 returns c = refused-as (c .before .before .args .k) (c .before .before .args .part .now) _ 1 (c .before .before .pre) refl (λ e. absurd (omega arith)) (simp (lt-ltb _ _ (c .if1 .taken)))
 
--- src/read.rt:63:9
 number-at-requires : tie.Need-number-at-requires
 number-at-requires c κs = (c .before .before .pre, omega (arith, c .if1 .left, size-of (c .before .before .args .k) (c .before .before .pre .0) (c .before .before .pre .1)))
 
--- src/read.rt:64:12
 mul-if2 : tie.Need-mul-if2
 mul-if2 c = omega arith
 
--- src/read.rt:64:12
 array-read-if2 : tie.Need-array-read-if2
 array-read-if2 c = omega arith
 
--- src/read.rt:65:9
 returns-2 : tie.Need-returns-2
 returns-2 c = refused-as (c .before .before .before .before .args .k) (c .before .before .before .before .args .part .now) _ 2 (c .before .before .before .before .pre) (c .before .number-at .ensures) (λ e. absurd (omega arith))
     (simp (le-ltb _ _ (c .before .before .if1 .left), lt-leb _ _ (c .if2 .taken)))
 
--- src/read.rt:67:8
 mul-if3 : tie.Need-mul-if3
 mul-if3 c = omega arith
 
--- src/read.rt:67:8
 array-read-if3 : tie.Need-array-read-if3
 array-read-if3 c = omega arith
 
--- src/read.rt:68:9
 returns-3 : tie.Need-returns-3
 returns-3 c = refused-as (c .before .before .before .before .before .args .k) (c .before .before .before .before .before .args .part .now) _ 2 (c .before .before .before .before .before .pre) (c .before .before .number-at .ensures) (λ e. absurd (omega arith))
     (simp (le-ltb _ _ (c .before .before .before .if1 .left), le-leb _ _ (c .before .if2 .left), lt-leb _ _ (c .if3 .taken)))
 
--- src/read.rt:70:13
 mul-if4 : tie.Need-mul-if4
 mul-if4 c = omega arith
 
--- src/read.rt:70:13
 array-read-if4 : tie.Need-array-read-if4
 array-read-if4 c = omega arith
 
--- src/read.rt:71:9
 returns-4 : tie.Need-returns-4
 returns-4 c = refused-as (c .before .before .before .before .before .before .args .k) (c .before .before .before .before .before .before .args .part .now) _ 3 (c .before .before .before .before .before .before .pre) (c .before .before .before .number-at .ensures) (λ e. absurd (omega arith))
     (simp (le-ltb _ _ (c .before .before .before .before .if1 .left), le-leb _ _ (c .before .before .if2 .left), le-leb _ _ (c .before .if3 .left), eq-eqb _ _ (c .if4 .taken)))
 
--- src/read.rt:56:1
 returns-5 : tie.Need-returns-5
 returns-5 c = value-as (c .before .before .before .before .before .before .args .k) (c .before .before .before .before .before .before .args .part .now) _ (c .before .before .before .before .before .before .pre) (c .before .before .before .number-at .ensures)
     (simp (le-ltb _ _ (c .before .before .before .before .if1 .left), le-leb _ _ (c .before .before .if2 .left), le-leb _ _ (c .before .if3 .left), ne-eqb _ _ (c .if4 .left)))

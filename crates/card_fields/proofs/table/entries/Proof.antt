@@ -3,11 +3,9 @@ use Rattle.card_format.proofs.Fields.{one-shifted}
 use Rattle.card_fields.proofs.table.entries.Statement.{statement}
 use Rattle.card_fields.proofs.table.entries.Tie as tie
 
--- src/table.rt:20:5
 shl-result : tie.Need-shl-result
 shl-result c = omega arith
 
--- src/table.rt:16:1
 returns : tie.Need-returns
 returns c = one-shifted (c .args .m) 64 (omega arith)
 

@@ -14,41 +14,32 @@ Inv-loop m table size i₀ i = (i ≤ size) × (size ≡ 2 ^ m) × (size ≤ 2 ^
 abbrev μ-loop : tie.MeasureT-loop
 μ-loop m table size i₀ i = size - i
 
--- src/table.rt:48:9
 entries-requires : tie.Need-entries-requires Inv-loop μ-loop
 entries-requires c κs = omega arith
 
--- src/table.rt:50:5
 loop-holds : tie.Need-loop-holds Inv-loop μ-loop
 loop-holds c = (omega arith, c .entries .ensures, omega (arith, c .entries .ensures, few-entries (c .before .args .m) (omega arith)), λ j l. absurd (omega arith))
 
--- src/table.rt:51:25
 array-read-wide : tie.Need-array-read-wide Inv-loop μ-loop
 array-read-wide c = omega arith
 
--- src/table.rt:51:20
 wide-requires : tie.Need-wide-requires Inv-loop μ-loop
 wide-requires c κs = omega arith
 
--- src/table.rt:52:13
 returns : tie.Need-returns Inv-loop μ-loop
 returns c =
     let e = c .before .before .before .loop .inv .1 in
     sym (entry-not-allowed (c .before .before .before .before .before .args .m) (c .before .before .before .before .before .args .t1) (c .before .before .before .loop .i) (omega (arith, e)) (omega (arith, e)) (omega (arith, e, c .before .wide .ensures)))
 
--- src/table.rt:54:9
 add-i : tie.Need-add-i Inv-loop μ-loop
 add-i c = omega arith
 
--- src/table.rt:50:5
 loop-less : tie.Need-loop-less Inv-loop μ-loop
 loop-less c = omega arith
 
--- src/table.rt:50:5
 loop-again : tie.Need-loop-again Inv-loop μ-loop
 loop-again c = (omega arith, c .before .before .before .loop .inv .1, omega arith, extend _ _ (c .before .before .before .loop .inv .3) (omega (arith, c .before .wide .ensures)))
 
--- src/table.rt:44:1
 returns-2 : tie.Need-returns-2 Inv-loop μ-loop
 returns-2 c =
     let e = c .before .loop .inv .1 in

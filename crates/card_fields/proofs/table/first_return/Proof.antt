@@ -16,11 +16,9 @@ Inv-loop size table x₀ steps₀ x steps = (x < size) × (1 ≤ steps) × (step
 abbrev μ-loop : tie.MeasureT-loop
 μ-loop size table x₀ steps₀ x steps = size + 1 - steps
 
--- src/table.rt:98:17
 array-read-x : tie.Need-array-read-x Inv-loop μ-loop
 array-read-x c = omega arith
 
--- src/table.rt:100:5
 loop-holds : tie.Need-loop-holds Inv-loop μ-loop
 unfolding firstReturn
 loop-holds c =
@@ -32,23 +30,18 @@ loop-holds c =
       ap (λ (d : ℕ). returnFrom (λ y. getD (a .t1) y 0) d 1 (getD (a .t1) 0 0)) (add-sub-cancel (a .size) 1),
     )
 
--- src/table.rt:107:19
 cast-x : tie.Need-cast-x Inv-loop μ-loop
 cast-x c = omega arith
 
--- src/table.rt:107:13
 array-read-x-2 : tie.Need-array-read-x-2 Inv-loop μ-loop
 array-read-x-2 c = omega arith
 
--- src/table.rt:108:9
 add-steps : tie.Need-add-steps Inv-loop μ-loop
 add-steps c = omega arith
 
--- src/table.rt:100:5
 loop-less : tie.Need-loop-less Inv-loop μ-loop
 loop-less c = omega arith
 
--- src/table.rt:100:5
 loop-again : tie.Need-loop-again Inv-loop μ-loop
 loop-again c =
     let a = c .before .before .before .args in
@@ -64,13 +57,11 @@ loop-again c =
           ∙ ap (λ (d : ℕ). returnFrom f d (l .steps) (l .x)) (sym d) ∙ l .inv .4,
     )
 
--- src/table.rt:93:1
 returns : tie.Need-returns Inv-loop μ-loop
 returns c =
     let l = c .before .loop in
     sym (return-none _ (c .before .before .args .size + 1 - l .steps) (l .steps) (l .x) (omega arith)) ∙ l .inv .4
 
--- src/table.rt:93:1
 returns-2 : tie.Need-returns-2 Inv-loop μ-loop
 returns-2 c =
     let a = c .before .before .before .args in

@@ -22,45 +22,36 @@ Inv-loop m table i₀ i = (m ≡ 4) × (i ≤ 16) × ((j : ℕ) → j < i → ge
 abbrev μ-loop : tie.MeasureT-loop
 μ-loop m table i₀ i = 16 - i
 
--- src/table.rt:65:9
 returns : tie.Need-returns Inv-loop μ-loop
 returns c =
     let z : length (c .before .args .t1) ≡ 16 = search needs in
     let p : 2 ^ c .before .args .m < 16 = pow-lt {j = 4} (omega arith) in
     sym (same-not _ _ (λ e. omega (arith, z, p, sym (length-take-le (2 ^ c .before .args .m) (c .before .args .t1) (omega arith)) ∙ ap (λ (l : List ℕ). length l) e)))
 
--- src/table.rt:68:5
 loop-holds : tie.Need-loop-holds Inv-loop μ-loop
 loop-holds c = (omega arith, omega arith, λ j l. absurd (omega arith))
 
--- src/table.rt:69:12
 array-read-if2 : tie.Need-array-read-if2 Inv-loop μ-loop
 array-read-if2 c = omega arith
 
--- src/table.rt:69:24
 array-read-if2-2 : tie.Need-array-read-if2-2 Inv-loop μ-loop
 array-read-if2-2 c = omega arith
 
--- src/table.rt:70:13
 returns-2 : tie.Need-returns-2 Inv-loop μ-loop
 returns-2 c =
     let t = c .before .before .before .before .args .t1 in
     let z : length t ≡ 16 = search needs in
     rw (whole t (c .before .before .before .before .args .m) z (c .before .before .loop .inv .0)) (sym (same-not t tsc1Table (λ e. c .if2 .taken (ap (λ (l : List ℕ). getD l (c .before .before .loop .i) 0) e))))
 
--- src/table.rt:72:9
 add-i : tie.Need-add-i Inv-loop μ-loop
 add-i c = omega arith
 
--- src/table.rt:68:5
 loop-less : tie.Need-loop-less Inv-loop μ-loop
 loop-less c = omega arith
 
--- src/table.rt:68:5
 loop-again : tie.Need-loop-again Inv-loop μ-loop
 loop-again c = (omega arith, omega arith, extend _ _ (c .before .before .loop .inv .2) (c .if2 .left))
 
--- src/table.rt:60:1
 returns-3 : tie.Need-returns-3 Inv-loop μ-loop
 returns-3 c =
     let t = c .before .before .before .args .t1 in

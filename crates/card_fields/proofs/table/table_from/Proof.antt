@@ -15,27 +15,21 @@ Inv-loop part size table₀ i₀ table i = (i ≤ size) × (size ≤ 2 ^ mostWor
 abbrev μ-loop : tie.MeasureT-loop
 μ-loop part size table₀ i₀ table i = size - i
 
--- src/table.rt:36:5
 loop-holds : tie.Need-loop-holds Inv-loop μ-loop
 loop-holds c = (omega arith, omega arith, omega arith, refl)
 
--- src/table.rt:37:20
 shared-slice-read-table : tie.Need-shared-slice-read-table Inv-loop μ-loop
 shared-slice-read-table c = omega arith
 
--- src/table.rt:37:9
 array-write-table : tie.Need-array-write-table Inv-loop μ-loop
 array-write-table c = omega arith
 
--- src/table.rt:38:9
 add-i : tie.Need-add-i Inv-loop μ-loop
 add-i c = omega arith
 
--- src/table.rt:36:5
 loop-less : tie.Need-loop-less Inv-loop μ-loop
 loop-less c = omega arith
 
--- src/table.rt:36:5
 loop-again : tie.Need-loop-again Inv-loop μ-loop
 loop-again c =
     let l = c .before .before .loop in
@@ -46,7 +40,6 @@ loop-again c =
       ap (λ (t : List ℕ). set t (l .i) (getD p (l .i) 0)) (l .inv .3) ∙ over-suc p (replicate (2 ^ mostWords) 0) (l .i) (omega arith) (omega arith),
     )
 
--- src/table.rt:30:1
 returns : tie.Need-returns Inv-loop μ-loop
 returns c =
     let l = c .before .loop in

@@ -14,35 +14,27 @@ Inv-loop m table i₀ i = (2 ^ m ≤ i) × (i ≤ 2 ^ mostWords) × ((j : ℕ) �
 abbrev μ-loop : tie.MeasureT-loop
 μ-loop m table i₀ i = 2 ^ mostWords - i
 
--- src/table.rt:82:9
 entries-requires : tie.Need-entries-requires Inv-loop μ-loop
 entries-requires c κs = omega arith
 
--- src/table.rt:83:5
 loop-holds : tie.Need-loop-holds Inv-loop μ-loop
 loop-holds c = (omega (arith, c .entries .ensures), omega (arith, c .entries .ensures, few-entries (c .before .args .m) (omega arith)), λ j l h. absurd (omega (arith, c .entries .ensures)))
 
--- src/table.rt:84:12
 array-read-if1 : tie.Need-array-read-if1 Inv-loop μ-loop
 array-read-if1 c = omega arith
 
--- src/table.rt:85:13
 returns : tie.Need-returns Inv-loop μ-loop
 returns c = sym (unused-not-clear (c .before .before .before .before .args .m) (c .before .before .before .before .args .t1) (c .before .before .loop .i) (omega arith) (omega arith) (c .if1 .taken))
 
--- src/table.rt:87:9
 add-i : tie.Need-add-i Inv-loop μ-loop
 add-i c = omega arith
 
--- src/table.rt:83:5
 loop-less : tie.Need-loop-less Inv-loop μ-loop
 loop-less c = omega arith
 
--- src/table.rt:83:5
 loop-again : tie.Need-loop-again Inv-loop μ-loop
 loop-again c = (omega arith, omega arith, extend (λ (j : ℕ). 2 ^ c .before .before .before .before .args .m ≤ j → getD (c .before .before .before .before .args .t1) j 0 ≡ 0) _ (c .before .before .loop .inv .2) (λ h. c .if1 .left))
 
--- src/table.rt:78:1
 returns-2 : tie.Need-returns-2 Inv-loop μ-loop
 returns-2 c = sym (unused-clear (c .before .before .before .args .m) (c .before .before .before .args .t1) (λ i l h. c .before .loop .inv .2 i (omega arith) h))
 
