@@ -8,7 +8,7 @@ use native.Mathlib.Numerals.{sub-one}
 use native.Mathlib.Omega.{arith}
 use borrow.Author.Tests.{ltb-true, lt-ltb, le-ltb, eqb-true, eq-eqb, ne-eqb}
 use lib.Bits.{bitAnd, and-le-l}
-use lib.Count.{ones, trailingZeros}
+use lib.Count.{ones, trailingZeros, trailing-le}
 use lib.Dec.{eqb, ltb}
 use Rattle.cycle.specs.Notation.{every, bit}
 use Rattle.cycle.proofs.Every.{every-at}
@@ -49,6 +49,10 @@ lowest-one (suc n) p l =
       count = rw sub-one (eqb-true _ _ (a .1));
     }
 
+pub below-lowest : (n : ℕ) → n < 256 → (j : ℕ) → j < trailingZeros 8 n → bit j n ≡ 0
+below-lowest zero l j lj = ap (λ (x : ℕ). x % 2) (zero-div (2 ^ j))
+below-lowest (suc n) l j lj = lowest-one (suc n) (omega arith) l .below j lj
+
 -- a byte with no ones is 0
 pub ones-none : (n : ℕ) → n < 256 → ones n ≡ 0 → n ≡ 0
 ones-none zero l e = refl
@@ -71,20 +75,19 @@ left-all map l = record { small = l; bits = λ j lj. rw (le-ltb j 0 (omega arith
 left-ahead : (map left next : ℕ) → Left map left next → (j : ℕ) → j < 8 → next ≤ j → bit j left ≡ bit j map
 left-ahead map left next h j l n = h .bits j l ∙ rw (le-ltb j next n) refl
 
--- where nothing is left, the map has no further field
-pub left-none : (map next : ℕ) → Left map 0 next → (j : ℕ) → j < 8 → next ≤ j → bit j map ≡ 0
-left-none map next h j l n = sym (left-ahead map 0 next h j l n) ∙ ap (λ (x : ℕ). x % 2) (zero-div (2 ^ j))
+-- the map has no field between `next` and the lowest one of what is left; where nothing is left, trailing zeros are 8
+pub left-below : (map left next : ℕ) → Left map left next → (j : ℕ) → next ≤ j → j < trailingZeros 8 left → bit j map ≡ 0
+left-below map left next h j n l = sym (left-ahead map left next h j (omega (arith, trailing-le 8 left)) n) ∙ below-lowest left (h .small) j l
 
--- the next field is the lowest one of what is left
+-- the next field is that lowest one
 pub next-field : (map left next : ℕ) → Left map left next → 0 < left → let k = trailingZeros 8 left in
-    (next ≤ k) × (bit k map ≡ 1) × ((j : ℕ) → next ≤ j → j < k → bit j map ≡ 0) × Left map (bitAnd left (left - 1)) (k + 1)
+    (next ≤ k) × (bit k map ≡ 1) × Left map (bitAnd left (left - 1)) (k + 1)
 next-field map left next h p =
     let low = lowest-one left p (h .small) in
     let k = trailingZeros 8 left in
     let n = after low (decLt k next) in (
       n,
       sym (left-ahead map left next h k (low .place) n) ∙ low .one,
-      λ j nj lj. sym (left-ahead map left next h j (omega (arith, low .place)) nj) ∙ low .below j lj,
       record {
         small = omega (arith, and-le-l left (left - 1), h .small);
         bits = λ j lj. low .less j lj ∙ taken low n j lj (decLt j k) (ℕ-discrete j k);

@@ -15,7 +15,7 @@ use lib.Dec.{eqb, leb, ltb}
 use lib.ListN.{length, getD, set, drop, length-drop}
 use lib.Seq.{getD-set-other}
 use Rattle.tsc.specs.Constants.{mostWords, tsc1Table}
-use Rattle.cycle.specs.Notation.{sum, bit}
+use Rattle.cycle.specs.Notation.{sum}
 use Rattle.card.specs.declared.read.Values.{Values}
 use Rattle.card_format.specs.Refusals.{Check, firstOf, NoneApplies}
 use Rattle.card_format.specs.Fields.{Field, field, fields, tableBit, numbers}
@@ -23,8 +23,10 @@ use Rattle.card_format.specs.Reading.{reading, present, offset, valuesAt, words
 use Rattle.card.specs.Steps.{fieldRead, missing, refusedWith}
 use Rattle.card_format.proofs.Lists.{set-own}
 use Rattle.card_format.proofs.Refusals.{none-first, first-append, first-left, none-append}
-use Rattle.card_format.proofs.Fields.{allowed-at, field-fixed, each, absents, numeric}
-use Rattle.card.proofs.Map.{Left, lowest-one, left-none, next-field}
+use Rattle.card_format.proofs.Fields.{allowed-at, field-fixed, each, absents, numeric, size-one}
+use Rattle.card_format.proofs.Verdict.{words-sound}
+use Rattle.card_format.proofs.RoundTrip.{row-facts}
+use Rattle.card.proofs.Map.{Left, lowest-one, left-below, next-field}
 use Rattle.card_format.proofs.Sound.{offset-suc, fields-none, none-fitting, value-words, sound-value}
 use Rattle.card.proofs.Steps.{used-fits}
 
@@ -218,25 +220,26 @@ pub record Rest (bytes : List ℕ) (left next at : ℕ) (v : Values) : Type 0 wh
   pub reached : Reached bytes next at v
   pub fields : Left (getD bytes 0 0) left next
 
-absent-bit : (bytes : List ℕ) (j : ℕ) → bit j (getD bytes 0 0) ≡ 0 → present bytes j ≡ false
-absent-bit bytes j e = rw e refl
+-- the fields between `next` and the lowest of what is left are absent
+absent-below : (bytes : List ℕ) (left next : ℕ) → Left (getD bytes 0 0) left next → (j : ℕ) → next ≤ j → j < trailingZeros 8 left → present bytes j ≡ false
+absent-below bytes left next h j n l = rw (left-below (getD bytes 0 0) left next h j n l) refl
 
-pub rest-gap : (bytes : List ℕ) (left next at : ℕ) (v : Values) → Rest bytes left next at v → 0 < left
+-- so they are passed over, up to the next field or, where nothing is left, to the end
+pub rest-gap : (bytes : List ℕ) (left next at : ℕ) (v : Values) → Rest bytes left next at v
     → missing next (trailingZeros 8 left) (getD (v .numbers) 0 0) ≡ true → firstOf (formChecks bytes) ≡ 4
-rest-gap bytes left next at v h p m =
-    let f = next-field (getD bytes 0 0) left next (h .fields) p in
-    told-gap bytes next _ at v (h .reached) (trailing-le 8 left) (λ j nj lj. absent-bit bytes j (f .2 j nj lj)) m
+rest-gap bytes left next at v h m = told-gap bytes next _ at v (h .reached) (trailing-le 8 left) (absent-below bytes left next (h .fields)) m
+
+pub rest-reached : (bytes : List ℕ) (left next at : ℕ) (v : Values) → Rest bytes left next at v → next ≤ trailingZeros 8 left
+    → missing next (trailingZeros 8 left) (getD (v .numbers) 0 0) ≡ false → Reached bytes (trailingZeros 8 left) at v
+rest-reached bytes left next at v h n m = reached-next bytes next _ at v (h .reached) n (trailing-le 8 left) (absent-below bytes left next (h .fields)) m
 
 -- the next field
 pub rest-here : (bytes : List ℕ) (left next at : ℕ) (v : Values) → Rest bytes left next at v → 0 < left
     → missing next (trailingZeros 8 left) (getD (v .numbers) 0 0) ≡ false
     → Reached bytes (trailingZeros 8 left) at v × (trailingZeros 8 left < 8) × (present bytes (trailingZeros 8 left) ≡ true)
 rest-here bytes left next at v h p m =
-    let f = next-field (getD bytes 0 0) left next (h .fields) p in (
-      reached-next bytes next _ at v (h .reached) (f .0) (trailing-le 8 left) (λ j nj lj. absent-bit bytes j (f .2 j nj lj)) m,
-      lowest-one left p (h .fields .small) .place,
-      eq-eqb _ 1 (f .1),
-    )
+    let f = next-field (getD bytes 0 0) left next (h .fields) p in
+    (rest-reached bytes left next at v h (f .0) m, lowest-one left p (h .fields .small) .place, eq-eqb _ 1 (f .1))
 
 pub rest-next : (bytes : List ℕ) (left next at : ℕ) (v r : Values) → Rest bytes left next at v → 0 < left
     → missing next (trailingZeros 8 left) (getD (v .numbers) 0 0) ≡ false → r ≡ fieldRead (trailingZeros 8 left) (drop at bytes) v → r .refusal ≡ 0
@@ -250,7 +253,7 @@ rest-next bytes left next at v r h p m e z =
           subst (λ (j : ℕ). Reached bytes j (at + r .used) r) (sym (add-one k))
           (subst (λ (r : Values). Reached bytes (suc k) (at + r .used) r) (sym e)
           (reached-field bytes k at v (here .1) (here .0) (here .2) (ap (λ (r : Values). r .refusal) (sym e) ∙ z)));
-      fields = f .3;
+      fields = f .2;
     }
 
 pub rest-refused : (bytes : List ℕ) (left next at : ℕ) (v r : Values) → Rest bytes left next at v → 0 < left
@@ -260,17 +263,6 @@ rest-refused bytes left next at v r h p m e ne =
     let here = rest-here bytes left next at v h p m in
     let re = ap (λ (r : Values). r .refusal) e in
     told-field bytes (trailingZeros 8 left) at v (here .1) (here .0) (here .2) (λ z. ne (re ∙ z)) ∙ sym re
-
--- nothing is left
-pub end-gap : (bytes : List ℕ) (next at : ℕ) (v : Values) → Rest bytes 0 next at v → missing next 8 (getD (v .numbers) 0 0) ≡ true
-    → firstOf (formChecks bytes) ≡ 4
-end-gap bytes next at v h m =
-    told-gap bytes next 8 at v (h .reached) (le-refl 8) (λ j nj lj. absent-bit bytes j (left-none _ next (h .fields) j lj nj)) m
-
-pub end-here : (bytes : List ℕ) (next at : ℕ) (v : Values) → Rest bytes 0 next at v → next ≤ 8 → missing next 8 (getD (v .numbers) 0 0) ≡ false
-    → Reached bytes 8 at v
-end-here bytes next at v h n m =
-    reached-next bytes next 8 at v (h .reached) n (le-refl 8) (λ j nj lj. absent-bit bytes j (left-none _ next (h .fields) j lj nj)) m
 
 -- m is at most 4 once the words field is past its checks, and before
 pub words-few : (bytes : List ℕ) (next at : ℕ) (v : Values) → Reached bytes next at v → getD (v .numbers) 0 0 ≤ mostWords
@@ -306,8 +298,20 @@ pub reading-accepted : (bytes : List ℕ) → firstOf (formChecks bytes) ≡ 0 �
 unfolding reading
 reading-accepted bytes e = rw e refl
 
--- one-byte values are below 256
+-- a number is the field's value, and below 256 where it has one byte
+numbers-read : (bytes : List ℕ) (k : ℕ) → k < 8 → k ≢ tableBit → getD (numbersTo bytes 8) k 0 ≡ value bytes k
+unfolding numbersTo
+numbers-read bytes =
+    each (λ (k : ℕ). k ≢ tableBit → getD (numbersTo bytes 8) k 0 ≡ value bytes k) (λ n. refl) (λ n. refl) (λ n. absurd (n refl)) (λ n. refl)
+    (λ n. refl) (λ n. refl) (λ n. refl) (λ n. refl)
+
 pub byte-values : (bytes : List ℕ) → SoundForm bytes → (at : ℕ) (v : Values) → Reached bytes 8 at v
     → (k : ℕ) → k < 8 → k ≢ tableBit → k ≢ 5 → getD (v .numbers) k 0 < 256
-unfolding numbersTo fields field
-byte-values bytes s at v h k l ne nc = rw (h .numbers) (each (λ (k : ℕ). k ≢ tableBit → k ≢ 5 → getD (numbersTo bytes 8) k 0 < 256) (λ n c. omega (arith, sound-value bytes s 0 (omega arith) refl .1)) (λ n c. omega (arith, sound-value bytes s 1 (omega arith) refl .1)) (λ n c. absurd (n refl)) (λ n c. omega (arith, sound-value bytes s 3 (omega arith) refl .1)) (λ n c. omega (arith, sound-value bytes s 4 (omega arith) refl .1)) (λ n c. absurd (c refl)) (λ n c. omega (arith, sound-value bytes s 6 (omega arith) refl .1)) (λ n c. omega (arith, sound-value bytes s 7 (omega arith) refl .1)) k l ne nc)
+unfolding cardOf
+byte-values bytes s at v h k l ne nc =
+    let m = wordsOf bytes in
+    let e = numeric m k l ne in
+    let read : getD (v .numbers) k 0 ≡ value bytes k = ap (λ (xs : List ℕ). getD xs k 0) (h .numbers) ∙ numbers-read bytes k l ne in
+    let few : m ≤ mostWords = omega (arith, value-words bytes, words-sound bytes s) in
+    let byte : 256 ^ field m k .size ≡ 256 = ap (λ (n : ℕ). 256 ^ n) (ap (λ (f : Field). f .size) e ∙ size-one k l ne nc) in
+    omega (arith, read, sound-value bytes s k l (ap (λ (f : Field). f .count) e) .1, row-facts m k few l .0, byte)

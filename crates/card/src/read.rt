@@ -25,11 +25,11 @@ struct Values {
 }
 
 // A field's refusal, with the values as they were.
-fn refused_at(v: Values, refusal: u8) -> Values
-    ensures { λ r. ⌜ r ≡ refusedAt v refusal ⌝ }
+fn refused_at(v: Values, number: u8) -> Values
+    ensures { λ r. ⌜ r ≡ refusedAt v number ⌝ }
 {
     let mut out = v;
-    out.refusal = refusal;
+    out.refusal = number;
     out.used = 0;
     out
 }
@@ -94,11 +94,11 @@ fn table_missing(next: usize, k: usize, m: u32) -> bool
 }
 
 // A refusal, with the card that goes with it.
-fn refused(refusal: u8) -> Reading
-    ensures { λ r. ⌜ r ≡ refusedWith refusal ⌝ }
+fn refused(number: u8) -> Reading
+    ensures { λ r. ⌜ r ≡ refusedWith number ⌝ }
 {
     Reading {
-        refusal: refusal,
+        refusal: number,
         card: Card {
             words: 0,
             width: 0,

@@ -189,9 +189,9 @@ pub fn write(card: Card, page: &mut [u8]) -> Written
     ensures { λ r. ⌜ r ≡ writing card (length (now (page .entry))) ⌝ }
     ensures { λ _. ⌜ now (page .exit) ≡ pageAfter card (now (page .entry)) ⌝ }
 {
-    let refusal = value_refusal(card);
-    if refusal != 0 {
-        return Written::Refused(refusal);
+    let told = value_refusal(card);
+    if told != 0 {
+        return Written::Refused(told);
     }
     let o = outline_of(card);
     if page.len() < o.length {

@@ -1,5 +1,5 @@
 -- What the answer of a number's reader says.
-use mathlib.Core.Path.{_≡_, refl, sym, ap, _∙_}
+use mathlib.Core.Path.{_≡_, refl, sym, subst}
 use mathlib.Core.Bool.{Bool, true, false, cond}
 use mathlib.Core.List.{List}
 use Prim.Native.Nat.{ℕ}
@@ -12,35 +12,27 @@ use Rattle.card_format.specs.Fields.{Field, numbers}
 use Rattle.card_format.specs.Reading.{partChecks}
 use Rattle.card_fields.specs.Number.{numberRead}
 
-isValue : Number → Bool
+abbrev pub isValue : Number → Bool
 isValue (Value x) = true
 isValue (Refused r) = false
 
-valueOf : Number → ℕ
-valueOf (Value x) = x
-valueOf (Refused r) = r
+-- the number that it holds, a value or a refusal
+abbrev pub held : Number → ℕ
+held (Value x) = x
+held (Refused r) = r
 
-told : (b : Bool) (x r : ℕ) → (isValue (cond b (Value x) (Refused r)) ≡ b) × (valueOf (cond b (Value x) (Refused r)) ≡ cond b x r)
-unfolding isValue valueOf
-told true x r = (refl, refl)
-told false x r = (refl, refl)
+-- a number's reader answers a value where nothing is refused, and it is the field's; else it answers the refusal
+pub answered : (f : Field) (part : List ℕ) (n : Number) → n ≡ numberRead f part → let r = firstOf (partChecks f part) in
+    (eqb r 0 ≡ isValue n) × (held n ≡ cond (isValue n) (getD (numbers f part) 0 0) r)
+unfolding numberRead
+answered f part n e = subst (λ (n : Number). (eqb r 0 ≡ isValue n) × (held n ≡ cond (isValue n) x r)) (sym e) (go (eqb r 0))
+  where
+    r : ℕ
+    r = firstOf (partChecks f part)
 
--- a number's reader answers a value where nothing is refused, and it is the field's
-pub value-read : (f : Field) (part : List ℕ) (x : ℕ) → Value x ≡ numberRead f part
-    → (eqb (firstOf (partChecks f part)) 0 ≡ true) × (x ≡ getD (numbers f part) 0 0)
-unfolding numberRead isValue valueOf
-value-read f part x e =
-    let r = firstOf (partChecks f part) in
-    let t = told (eqb r 0) (getD (numbers f part) 0 0) r in
-    let b : eqb r 0 ≡ true = sym (ap isValue e ∙ t .0) in
-    (b, ap valueOf e ∙ t .1 ∙ ap (λ (b : Bool). cond b (getD (numbers f part) 0 0) r) b)
+    x : ℕ
+    x = getD (numbers f part) 0 0
 
--- and else the refusal
-pub refused-read : (f : Field) (part : List ℕ) (q : ℕ) → Refused q ≡ numberRead f part
-    → (eqb (firstOf (partChecks f part)) 0 ≡ false) × (q ≡ firstOf (partChecks f part))
-unfolding numberRead isValue valueOf
-refused-read f part q e =
-    let r = firstOf (partChecks f part) in
-    let t = told (eqb r 0) (getD (numbers f part) 0 0) r in
-    let b : eqb r 0 ≡ false = sym (ap isValue e ∙ t .0) in
-    (b, ap valueOf e ∙ t .1 ∙ ap (λ (b : Bool). cond b (getD (numbers f part) 0 0) r) b)
+    go : (b : Bool) → let n = cond b (Value x) (Refused r) in (b ≡ isValue n) × (held n ≡ cond (isValue n) x r)
+    go true = (refl, refl)
+    go false = (refl, refl)

@@ -5,15 +5,15 @@ use mathlib.Core.List.{List, [], _∷_, _++_}
 use Prim.Native.Nat.{ℕ, zero, suc, _+_, _*_, _/_, _%_, _^_, _≤_, _<_, zero-le}
 use native.Mathlib.Nat.{one-mul, zero-mul, mul-zero, mod-lt, mod-eq-of-lt, div-add-mod', div-lt-iff-lt-mul, le-refl, le-add-right, lt-of-le-of-lt, lt-of-mul-lt-mul-left}
 use native.Mathlib.Omega.{arith}
-use borrow.Author.Tests.{eqb-true, ltb-false, le-ltb}
+use borrow.Author.Tests.{ltb-false, le-ltb}
 use lib.Arith.{digits-lt, digits-div, digits-mod}
 use lib.Dec.{eqb, lit<}
 use lib.ListN.{length, getD, take, length-append, List·getD-append}
 use lib.Seq.{take-all}
-use Rattle.cycle.specs.Notation.{sum, every, bit}
+use Rattle.cycle.specs.Notation.{sum, bit}
 use Rattle.cycle.proofs.Sum.{sum-ext}
-use Rattle.cycle.proofs.Every.{every-at}
-use Rattle.cycle.proofs.Parity.{two-pos}
+use Rattle.cycle.proofs.Bits.{bit-lt}
+use Rattle.cycle.proofs.Parity.{two-pos, bit-cases}
 use Rattle.cycle.proofs.Digits.{fromDigits, fromDigits-ext, fromDigits-lt, fromDigits-of, digit-fromDigits, length-tabulate, getD-tabulate, tabulate-ext, tabulate-getD}
 use Rattle.card_format.specs.Refusals.{Check, NoneApplies}
 use Rattle.card_format.specs.Fields.{Field, extent, numbers, bytesOf, same}
@@ -128,7 +128,7 @@ bit-map n b k l =
     ap (λ (x : ℕ). eqb (bit k x) 1) (sum-ext n _ _ (λ j lj. flag (b j) (2 ^ j) .0))
     ∙ ap (λ (d : ℕ). eqb d 1) (digit-fromDigits 2 n (λ j. cond (b j) 1 0) two-pos (λ j lj. flag (b j) 0 .1) k l) ∙ flag (b k) 0 .2
 
--- computed for each byte
-pub map-bit : (x : ℕ) → x < 256 → sum 8 (λ j. cond (eqb (bit j x) 1) (2 ^ j) 0) ≡ x
-unfolding every sum
-map-bit x l = eqb-true _ x (every-at 256 (λ x. eqb (sum 8 (λ j. cond (eqb (bit j x) 1) (2 ^ j) 0)) x) refl x l)
+pub map-bit : (n x : ℕ) → x < 2 ^ n → sum n (λ j. cond (eqb (bit j x) 1) (2 ^ j) 0) ≡ x
+map-bit n x l =
+    sum-ext n _ _ (λ j lj. bit-cases (λ b. cond (eqb b 1) (2 ^ j) 0 ≡ b * 2 ^ j) (sym (zero-mul (2 ^ j))) (sym (one-mul (2 ^ j))) (bit j x) (bit-lt j x))
+    ∙ fromDigits-of 2 n x two-pos ∙ mod-eq-of-lt l

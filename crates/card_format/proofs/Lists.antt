@@ -27,8 +27,12 @@ over-suc s d i hs hd =
     ∙ paste-suc d 0 s i 0 (omega arith) hs
     ∙ ap₂ (λ (j k : ℕ). take j s ++ drop k d) (sym (add-one i)) (zero-add (suc i) ∙ sym (add-one i))
 
+-- a front written over keeps the length
+pub length-front : (w d : List ℕ) (at : ℕ) → length w ≡ at → at ≤ length d → length (w ++ drop at d) ≡ length d
+length-front w d at e h = omega (arith, length-append w (drop at d), length-drop at d)
+
 pub length-over : (s d : List ℕ) (i : ℕ) → i ≤ length s → i ≤ length d → length (over s d i) ≡ length d
-length-over s d i hs hd = omega (arith, length-append (take i s) (drop i d), length-take-le i s hs, length-drop i d)
+length-over s d i hs hd = length-front (take i s) d i (length-take-le i s hs) hd
 
 pub drop-replicate : (n i a : ℕ) → drop i (replicate n a) ≡ replicate (n - i) a
 drop-replicate zero i a = drop-nil i ∙ ap (λ (k : ℕ). replicate k a) (sym (zero-sub i))
@@ -55,9 +59,6 @@ put-next w d f at e =
     (ap₂ (λ (x y : List ℕ). (f ++ drop (length f) x) ++ y) (part-rest at page ∙ rest) (drop-of-length-le (drop at page) (le-of-eq (length-drop at page)))
     ∙ append-nil _ ∙ ap (λ (r : List ℕ). f ++ r) (drop-drop (length f) at d))
     ∙ sym (append-assoc w f _)
-
-pub length-front : (w d : List ℕ) (at : ℕ) → length w ≡ at → at ≤ length d → length (w ++ drop at d) ≡ length d
-length-front w d at e h = omega (arith, length-append w (drop at d), length-drop at d)
 
 -- the first entry set
 pub set-first : (l : List ℕ) (x : ℕ) → 0 < length l → set l 0 x ≡ x ∷ drop 1 l

@@ -77,7 +77,7 @@ module _ (bytes : List ℕ) (s : SoundForm bytes) where
   writtenTo-sound b zero l =
       let some : 0 < length bytes = omega (arith, eqb-false (length bytes) 0 (s .0)) in
       ap (λ (x : ℕ). x ∷ [])
-      (sum-ext 8 _ _ (λ k lk. ap (λ (t : Bool). cond t (2 ^ k) 0) (isWritten-sound k lk)) ∙ map-bit (getD bytes 0 0) (b 0 some))
+      (sum-ext 8 _ _ (λ k lk. ap (λ (t : Bool). cond t (2 ^ k) 0) (isWritten-sound k lk)) ∙ map-bit 8 (getD bytes 0 0) (b 0 some))
       ∙ sym (take-suc bytes 0 0 some)
   writtenTo-sound b (suc k) l =
       ap₂ (λ (x y : List ℕ). x ++ y) (writtenTo-sound b k (omega arith)) (fieldBytes-sound b k l)
@@ -160,7 +160,7 @@ row-holds m k =
     let f = field m k in
     ltb (f .most) (256 ^ f .size) && cond (eqb (length (f .absent)) (f .count)) (not (eqb k tableBit && not (eqb m 4))) true
 
-row-facts : (m k : ℕ) → m ≤ mostWords → k < 8 → let f = field m k in
+pub row-facts : (m k : ℕ) → m ≤ mostWords → k < 8 → let f = field m k in
     (f .most < 256 ^ f .size) × (length (f .absent) ≡ f .count → (eqb k tableBit && not (eqb m 4)) ≡ false)
 unfolding row-holds every field fields
 row-facts m k lm lk =

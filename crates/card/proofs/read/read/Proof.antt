@@ -14,7 +14,7 @@ use Rattle.card.specs.Steps.{fieldRead}
 use Rattle.card_format.proofs.Lists.{part-rest}
 use Rattle.card_format.proofs.Refusals.{none-first}
 use Rattle.card.proofs.Map.{lowest-one, left-all, ones-none, ones-some}
-use Rattle.card.proofs.Reader.{Reached, Rest, reached-map, rest-gap, rest-here, rest-next, rest-refused, end-gap, end-here, words-few, told-end, told-empty, card-read, reading-refused, reading-accepted, byte-values}
+use Rattle.card.proofs.Reader.{Reached, Rest, reached-map, rest-gap, rest-reached, rest-here, rest-next, rest-refused, words-few, told-end, told-empty, card-read, reading-refused, reading-accepted, byte-values}
 use Rattle.card.proofs.read.read.Statement.{statement}
 use Rattle.card.proofs.read.read.Tie as tie
 
@@ -36,9 +36,10 @@ none c =
 
 -- past the last field
 past : (c : tie.Else4 Inv-loop μ-loop) → Reached (c .before .before .before .before .before .before .before .before .args .card .now) 8 (c .before .before .before .before .loop .at) (c .before .before .before .before .loop .v)
+unfolding trailingZeros
 past c =
     let l = c .before .before .before .before .loop in
-    end-here _ (l .next) (l .at) (l .v) (none (c .before .before .before)) (l .inv .2) (sym (c .before .table-missing2 .ensures) ∙ c .if4 .left)
+    rest-reached _ 0 (l .next) (l .at) (l .v) (none (c .before .before .before)) (l .inv .2) (sym (c .before .table-missing2 .ensures) ∙ c .if4 .left)
 
 -- and past every check
 sound : (c : tie.Else6 Inv-loop μ-loop) → firstOf (formChecks (c .before .before .before .before .before .before .before .before .before .before .before .before .before .args .card .now)) ≡ 0
@@ -55,7 +56,9 @@ refused-requires : tie.Need-refused-requires Inv-loop μ-loop
 refused-requires c κs = omega arith
 
 returns : tie.Need-returns Inv-loop μ-loop
-returns c = c .refused .ensures ∙ reading-refused (c .before .before .before .args .card .now) 1 (λ e. absurd (omega arith)) (told-empty (c .before .before .before .args .card .now) (c .before .if1 .taken))
+returns c =
+    c .refused .ensures ∙ reading-refused (c .before .before .before .args .card .now) 1 (λ e. absurd (omega arith))
+    (told-empty (c .before .before .before .args .card .now) (c .before .if1 .taken))
 
 shared-slice-read-left : tie.Need-shared-slice-read-left Inv-loop μ-loop
 shared-slice-read-left c = omega arith
@@ -86,7 +89,8 @@ returns-2 : tie.Need-returns-2 Inv-loop μ-loop
 returns-2 c =
     let l = c .before .before .before .before .before .loop in
     c .refused2 .ensures ∙ reading-refused _ 4 (λ e. absurd (omega arith))
-    (rest-gap (c .before .before .before .before .before .before .before .before .before .args .card .now) (l .left) (l .next) (l .at) (l .v) (l .inv .0) (some (c .before .before .before .before)) (sym (c .before .before .table-missing .ensures) ∙ c .before .if2 .taken))
+    (rest-gap (c .before .before .before .before .before .before .before .before .before .args .card .now) (l .left) (l .next) (l .at) (l .v) (l .inv .0)
+    (sym (c .before .before .table-missing .ensures) ∙ c .before .if2 .taken))
 
 sub-read-field : tie.Need-sub-read-field Inv-loop μ-loop
 sub-read-field c = omega arith
@@ -100,7 +104,8 @@ part-read-field-end c = omega arith
 read-field-requires : tie.Need-read-field-requires Inv-loop μ-loop
 read-field-requires c κs =
     let l = c .before .before .before .before .before .loop in
-    let h = rest-here (c .before .before .before .before .before .before .before .before .before .args .card .now) (l .left) (l .next) (l .at) (l .v) (l .inv .0) (some (c .before .before .before .before)) (sym (c .before .before .table-missing .ensures) ∙ c .before .if2 .left) in
+    let h = rest-here (c .before .before .before .before .before .before .before .before .before .args .card .now) (l .left) (l .next) (l .at) (l .v) (l .inv .0)
+    (some (c .before .before .before .before)) (sym (c .before .before .table-missing .ensures) ∙ c .before .if2 .left) in
     (h .1, words-few (c .before .before .before .before .before .before .before .before .before .args .card .now) (l .next) (l .at) (l .v) (l .inv .0 .reached))
 
 refused-requires-3 : tie.Need-refused-requires-3 Inv-loop μ-loop
@@ -111,7 +116,8 @@ returns-3 c =
     let l = c .before .before .before .before .before .before .before .before .loop in
     let bytes = c .before .before .before .before .before .before .before .before .before .before .before .before .args .card .now in
     c .refused3 .ensures ∙ reading-refused bytes _ (c .before .if3 .taken)
-    (rest-refused bytes (l .left) (l .next) (l .at) (l .v) _ (l .inv .0) (some (c .before .before .before .before .before .before .before)) (sym (c .before .before .before .before .before .table-missing .ensures) ∙ c .before .before .before .before .if2 .left)
+    (rest-refused bytes (l .left) (l .next) (l .at) (l .v) _ (l .inv .0) (some (c .before .before .before .before .before .before .before))
+    (sym (c .before .before .before .before .before .table-missing .ensures) ∙ c .before .before .before .before .if2 .left)
     (whole bytes (trailingZeros 8 (l .left)) (l .at) (l .v) _ (c .before .before .read-field .ensures .0)) (c .before .if3 .taken))
 
 add-at : tie.Need-add-at Inv-loop μ-loop
@@ -134,7 +140,8 @@ loop-again c =
     let l = c .before .before .before .before .before .before .before .loop in
     let bytes = c .before .before .before .before .before .before .before .before .before .before .before .args .card .now in
     let low = lowest-one (l .left) (some (c .before .before .before .before .before .before)) (l .inv .0 .fields .small) in (
-      rest-next bytes (l .left) (l .next) (l .at) (l .v) _ (l .inv .0) (some (c .before .before .before .before .before .before)) (sym (c .before .before .before .before .table-missing .ensures) ∙ c .before .before .before .if2 .left)
+      rest-next bytes (l .left) (l .next) (l .at) (l .v) _ (l .inv .0) (some (c .before .before .before .before .before .before))
+          (sym (c .before .before .before .before .table-missing .ensures) ∙ c .before .before .before .if2 .left)
           (whole bytes (trailingZeros 8 (l .left)) (l .at) (l .v) _ (c .before .read-field .ensures .0)) (c .if3 .left),
       omega (arith, low .count, l .inv .1),
       omega (arith, low .place),
@@ -151,10 +158,12 @@ refused-requires-4 : tie.Need-refused-requires-4 Inv-loop μ-loop
 refused-requires-4 c κs = omega arith
 
 returns-4 : tie.Need-returns-4 Inv-loop μ-loop
+unfolding trailingZeros
 returns-4 c =
     let l = c .before .before .before .before .before .loop in
     c .refused4 .ensures ∙ reading-refused _ 4 (λ e. absurd (omega arith))
-    (end-gap (c .before .before .before .before .before .before .before .before .before .args .card .now) (l .next) (l .at) (l .v) (none (c .before .before .before .before)) (sym (c .before .before .table-missing2 .ensures) ∙ c .before .if4 .taken))
+    (rest-gap (c .before .before .before .before .before .before .before .before .before .args .card .now) 0 (l .next) (l .at) (l .v) (none (c .before .before .before .before))
+    (sym (c .before .before .table-missing2 .ensures) ∙ c .before .if4 .taken))
 
 refused-requires-5 : tie.Need-refused-requires-5 Inv-loop μ-loop
 refused-requires-5 c κs = omega arith
@@ -163,7 +172,8 @@ returns-5 : tie.Need-returns-5 Inv-loop μ-loop
 returns-5 c =
     let l = c .before .before .before .before .before .before .loop in
     c .refused5 .ensures ∙ reading-refused _ 5 (λ e. absurd (omega arith))
-    (told-end (c .before .before .before .before .before .before .before .before .before .before .args .card .now) (l .at) (l .v) (past (c .before .before)) ∙ simp (lt-ltb _ _ (c .before .if5 .taken)))
+    (told-end (c .before .before .before .before .before .before .before .before .before .before .args .card .now) (l .at) (l .v) (past (c .before .before)) ∙ simp
+    (lt-ltb _ _ (c .before .if5 .taken)))
 
 element-copy-out-exceeds : tie.Need-element-copy-out-exceeds Inv-loop μ-loop
 element-copy-out-exceeds c = omega arith
@@ -181,10 +191,15 @@ returns-6 : tie.Need-returns-6 Inv-loop μ-loop
 returns-6 c =
     let l = c .before .before .before .before .before .before .before .before .before .before .loop in
     c .refused6 .ensures ∙ reading-refused _ 6 (λ e. absurd (omega arith))
-    (told-end (c .before .before .before .before .before .before .before .before .before .before .before .before .before .before .args .card .now) (l .at) (l .v) (past (c .before .before .before .before .before .before)) ∙ simp (le-ltb _ _ (c .before .before .before .before .before .if5 .left), sym (c .before .before .exceeds .ensures) ∙ c .before .if6 .taken))
+    (told-end (c .before .before .before .before .before .before .before .before .before .before .before .before .before .before .args .card .now) (l .at) (l .v)
+    (past (c .before .before .before .before .before .before)) ∙ simp
+    (le-ltb _ _ (c .before .before .before .before .before .if5 .left), sym (c .before .before .exceeds .ensures) ∙ c .before .if6 .taken))
 
 card-of-requires : tie.Need-card-of-requires Inv-loop μ-loop
-card-of-requires c κs = byte-values (c .before .before .before .before .before .before .before .before .before .before .before .before .before .args .card .now) (none-first _ (sound c)) (c .before .before .before .before .before .before .before .before .before .loop .at) (c .before .before .before .before .before .before .before .before .before .loop .v) (past (c .before .before .before .before .before))
+card-of-requires c κs =
+    byte-values (c .before .before .before .before .before .before .before .before .before .before .before .before .before .args .card .now) (none-first _ (sound c))
+    (c .before .before .before .before .before .before .before .before .before .loop .at) (c .before .before .before .before .before .before .before .before .before .loop .v)
+    (past (c .before .before .before .before .before))
 
 returns-7 : tie.Need-returns-7 Inv-loop μ-loop
 returns-7 c =

@@ -1,21 +1,22 @@
 use Rattle.card_fields.specs.Number.{numberRead}
 use native.Mathlib.Omega.{arith}
-use mathlib.Core.Path.{_≡_, refl, sym, ap, ap₂, _∙_, subst}
+use mathlib.Core.Path.{_≡_, sym, ap, ap₂, _∙_, subst}
 use mathlib.Core.Logic.{_≢_}
 use mathlib.Core.List.{List}
 use Prim.Native.Nat.{ℕ, _≤_, _<_}
 use native.Mathlib.Nat.{one-mul}
 use borrow.Author.Tests.{ne-eqb, eqb-true}
+use lib.Dec.{eqb}
 use lib.ListN.{length, getD, set}
 use Rattle.card_fields.specs.declared.number.Number.the-variants.{Value, Refused}
 use Rattle.card.specs.declared.read.Values.{Values}
 use Rattle.card_format.specs.Refusals.{firstOf}
-use Rattle.card_format.specs.Fields.{field, tableBit, extent}
+use Rattle.card_format.specs.Fields.{Field, field, tableBit, extent}
 use Rattle.card_format.specs.Reading.{partChecks}
 use Rattle.card.specs.Steps.{refusedAt, fieldRead}
 use Rattle.card_format.proofs.Fields.{sizes, numeric, field-fixed}
-use Rattle.card_fields.proofs.Answer.{value-read, refused-read}
-use Rattle.card.proofs.Steps.{used-fits}
+use Rattle.card_fields.proofs.Answer.{answered}
+use Rattle.card.proofs.Steps.{used-fits, field-refused}
 use Rattle.card.proofs.read.read_field.Statement.{statement}
 use Rattle.card.proofs.read.read_field.Tie as tie
 
@@ -24,16 +25,15 @@ full : (k : ℕ) (part : List ℕ) (v r : Values) → r ≡ fieldRead k part v �
 full k part v r e = (e, subst (λ (r : Values). r .used ≤ length part) (sym e) (used-fits k part v))
 
 refused-as : (k : ℕ) (part : List ℕ) (v : Values) (q : ℕ) → k ≢ tableBit → Refused q ≡ numberRead (field 4 k) part → refusedAt v q ≡ fieldRead k part v
-unfolding fieldRead
 refused-as k part v q ne e =
-    let r = refused-read (field 4 k) part q e in
-    rw (field-fixed (getD (v .numbers) 0 0) k ne, r .0, r .1) refl
+    let r = answered (field 4 k) part (Refused q) e in
+    field-refused k part v q (ap (λ (n : ℕ). eqb n 0) (r .1) ∙ r .0) (ap (λ (f : Field). firstOf (partChecks f part)) (field-fixed _ k ne) ∙ sym (r .1))
 
 stored-as : (k : ℕ) (part : List ℕ) (v : Values) (x : ℕ) → k < 8 → k ≢ tableBit → Value x ≡ numberRead (field 4 k) part
     → record { refusal = 0; used = getD sizes k 0; numbers = set (v .numbers) k x; table = v .table } ≡ fieldRead k part v
 unfolding fieldRead
 stored-as k part v x l ne e =
-    let r = value-read (field 4 k) part x e in
+    let r = answered (field 4 k) part (Value x) e in
     rw (field-fixed (getD (v .numbers) 0 0) k ne, r .0, ne-eqb k tableBit ne)
     (ap₂ {C = Values} (λ (q u : ℕ). record { refusal = q; used = u; numbers = set (v .numbers) k x; table = v .table })
     (sym (eqb-true _ 0 (r .0))) (sym (ap extent (numeric 4 k l ne) ∙ one-mul (getD sizes k 0)))
@@ -75,13 +75,15 @@ returns-2 : tie.Need-returns-2
 returns-2 c =
     let a = c .before .before .before .before .before .before .args in
     full (a .k) (a .part .now) (a .v) _
-    (stored-as (a .k) (a .part .now) (a .v) _ (c .before .before .before .before .before .before .pre .0) (c .before .before .before .before .if1 .left) (sym (c .before .x .given .1) ∙ c .before .before .before .read-number .ensures))
+    (stored-as (a .k) (a .part .now) (a .v) _ (c .before .before .before .before .before .before .pre .0) (c .before .before .before .before .if1 .left)
+    (sym (c .before .x .given .1) ∙ c .before .before .before .read-number .ensures))
 
 returns-3 : tie.Need-returns-3
 returns-3 c =
     let a = c .before .before .before .before .before .before .before .args in
     full (a .k) (a .part .now) (a .v) _
-    (c .refused-at .ensures ∙ refused-as (a .k) (a .part .now) (a .v) _ (c .before .before .before .before .before .if1 .left) (sym (c .before .before .r .given .1) ∙ c .before .before .before .before .read-number .ensures))
+    (c .refused-at .ensures ∙ refused-as (a .k) (a .part .now) (a .v) _ (c .before .before .before .before .before .if1 .left)
+    (sym (c .before .before .r .given .1) ∙ c .before .before .before .before .read-number .ensures))
 
 pub read-field-spec : {M : Type 1} → statement M
 read-field-spec =

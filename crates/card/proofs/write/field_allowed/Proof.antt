@@ -32,7 +32,12 @@ array-read-if2 c = omega arith
 returns-2 : tie.Need-returns-2
 returns-2 c =
     let a = c .before .before .before .args in
-    rw (c .before .number-of .ensures, allowed-one (a .card .words) (a .k) (c .before .number-of .result) (c .before .before .before .pre .0) (c .before .before .if1 .left), lt-leb _ _ (c .if2 .taken))
+    rw (
+      c .before .number-of .ensures,
+      allowed-one (a .card .words) (a .k) (c .before .number-of .result) (c .before .before .before .pre .0)
+          (c .before .before .if1 .left),
+      lt-leb _ _ (c .if2 .taken),
+    )
 
 mul-result : tie.Need-mul-result
 mul-result c = omega arith
@@ -43,7 +48,12 @@ array-read-result c = omega arith
 returns-3 : tie.Need-returns-3
 returns-3 c =
     let a = c .before .before .before .args in
-    rw (c .before .number-of .ensures, allowed-one (a .card .words) (a .k) (c .before .number-of .result) (c .before .before .before .pre .0) (c .before .before .if1 .left), le-leb _ _ (c .if2 .left))
+    rw (
+      c .before .number-of .ensures,
+      allowed-one (a .card .words) (a .k) (c .before .number-of .result) (c .before .before .before .pre .0)
+          (c .before .before .if1 .left),
+      le-leb _ _ (c .if2 .left),
+    )
 
 pub field-allowed-spec : {M : Type 1} → statement M
 field-allowed-spec =

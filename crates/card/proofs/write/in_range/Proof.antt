@@ -43,7 +43,8 @@ cast-unused-clear : tie.Need-cast-unused-clear Inv-loop μ-loop
 cast-unused-clear c = omega arith
 
 unused-clear-requires : tie.Need-unused-clear-requires Inv-loop μ-loop
-unused-clear-requires c κs = words-allowed (c .before .before .before .before .args .card) (every-at (c .before .before .before .loop .k) _ (c .before .before .before .loop .inv .1) 0 (omega arith))
+unused-clear-requires c κs =
+    words-allowed (c .before .before .before .before .args .card) (every-at (c .before .before .before .loop .k) _ (c .before .before .before .loop .inv .1) 0 (omega arith))
 
 returns-2 : tie.Need-returns-2 Inv-loop μ-loop
 unfolding inRange

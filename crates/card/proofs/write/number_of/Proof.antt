@@ -39,7 +39,8 @@ array-read-result c = omega arith
 returns : tie.Need-returns
 returns c =
     let p = c .before .before .before .before .before .before .pre in
-    numbersOf-single (λ k. getD (numbersArray (c .before .before .before .before .before .before .args .card)) k 0) (c .before .before .before .before .before .before .args .card .table) (c .before .before .before .before .before .before .args .k) (p .0) (p .1)
+    numbersOf-single (λ k. getD (numbersArray (c .before .before .before .before .before .before .args .card)) k 0)
+    (c .before .before .before .before .before .before .args .card .table) (c .before .before .before .before .before .before .args .k) (p .0) (p .1)
 
 pub number-of-spec : {M : Type 1} → statement M
 number-of-spec =

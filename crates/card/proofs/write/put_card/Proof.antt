@@ -58,13 +58,27 @@ put-field-requires : tie.Need-put-field-requires Inv-loop μ-loop
 put-field-requires c κs =
     let l = c .before .before .loop in (
       (omega arith, c .before .before .before .before .pre .0 .0),
-      omega (arith, room (c .before .before .before .before .args .card) _ (l .page) (l .at) (l .k) (omega arith) (l .inv) .1, ap (λ (p : List ℕ). length p) (part-rest (l .at) (l .page)), length-drop (l .at) (l .page)),
+      omega (
+        arith,
+        room (c .before .before .before .before .args .card) _ (l .page) (l .at) (l .k) (omega arith) (l .inv) .1,
+        ap (λ (p : List ℕ). length p)
+            (part-rest (l .at) (l .page)),
+        length-drop (l .at) (l .page),
+      ),
     )
 
 add-at : tie.Need-add-at Inv-loop μ-loop
 add-at c =
     let l = c .before .before .before .before .before .loop in
-    omega (arith, c .before .before .put-field .ensures .0, room (c .before .before .before .before .before .before .before .args .card) _ (l .page) (l .at) (l .k) (omega arith) (l .inv) .1, kept (c .before .before .before .before .before .before .before .args .card) _ (l .page) (l .at) (l .k) (l .inv), length-set (c .before .before .before .before .before .before .before .args .page .now) 0 (c .before .before .before .before .before .before .before .args .map))
+    omega (
+      arith,
+      c .before .before .put-field .ensures .0,
+      room (c .before .before .before .before .before .before .before .args .card) _ (l .page) (l .at) (l .k) (omega arith)
+          (l .inv) .1,
+      kept (c .before .before .before .before .before .before .before .args .card) _ (l .page) (l .at) (l .k) (l .inv),
+      length-set
+          (c .before .before .before .before .before .before .before .args .page .now) 0 (c .before .before .before .before .before .before .before .args .map),
+    )
 
 add-k : tie.Need-add-k Inv-loop μ-loop
 add-k c = omega arith
@@ -89,7 +103,9 @@ loop-again c =
     )
 
 same-length : tie.Need-same-length Inv-loop μ-loop
-same-length c = kept (c .before .before .before .args .card) _ (c .before .loop .page) (c .before .loop .at) (c .before .loop .k) (c .before .loop .inv) ∙ length-set (c .before .before .before .args .page .now) 0 (c .before .before .before .args .map)
+same-length c =
+    kept (c .before .before .before .args .card) _ (c .before .loop .page) (c .before .loop .at) (c .before .loop .k) (c .before .loop .inv) ∙ length-set
+    (c .before .before .before .args .page .now) 0 (c .before .before .before .args .map)
 
 returns : tie.Need-returns Inv-loop μ-loop
 returns c =

@@ -18,10 +18,6 @@ use borrow.Author.Needs.{needs}
 use Rattle.card.proofs.write.put_field.Statement.{statement}
 use Rattle.card.proofs.write.put_field.Tie as tie
 
--- a field that is written has its whole extent
-whole : (card : Card) (k n : ℕ) → n ≡ extent (field (card .words) k) → isWritten card k ≡ true → n ≡ length (fieldBytes card k)
-whole card k n e w = e ∙ sym (length-fieldBytes card k ∙ rw w refl)
-
 -- the table's bytes are its entries
 table-bytes : (card : Card) (k size : ℕ) → k ≡ tableBit → length (card .table) ≡ 2 ^ mostWords → inRange card ≡ true → isWritten card k ≡ true
     → size ≡ extent (field (card .words) k) → take size (card .table) ≡ fieldBytes card k
@@ -44,47 +40,55 @@ cast-extent-of c = omega arith
 extent-of-requires : tie.Need-extent-of-requires
 extent-of-requires c κs = (c .before .before .before .before .pre .0 .0, range-words (c .before .before .before .before .args .card) (c .before .before .before .before .pre .0 .1))
 
+-- past the first test the field is written
+is : (c : tie.Else1) → isWritten (c .before .before .before .args .card) (c .before .before .before .args .k) ≡ true
+is c = sym (c .before .is-written .ensures) ∙ not-false _ (c .if1 .left)
+
+-- with its whole extent
+whole : (c : tie.After-extent-of) → c .extent-of .result ≡ length (fieldBytes (c .before .before .before .before .before .args .card) (c .before .before .before .before .before .args .k))
+whole c =
+    c .extent-of .ensures ∙ sym (length-fieldBytes (c .before .before .before .before .before .args .card) (c .before .before .before .before .before .args .k) ∙ rw
+    (is (c .before .before)) refl)
+
 put-table-requires : tie.Need-put-table-requires
 put-table-requires c κs =
-    let a = c .before .before .before .before .before .before .before .before .args in
-    let e = whole (a .card) (a .k) (c .before .before .before .extent-of .result) (c .before .before .before .extent-of .ensures) (sym (c .before .before .before .before .before .before .is-written .ensures) ∙ not-false _ (c .before .before .before .before .before .if1 .left)) in
-    (omega (arith, c .before .before .before .extent-of .ensures, extent-few (a .card .words) (range-words (a .card) (c .before .before .before .before .before .before .before .before .pre .0 .1)) (a .k) (c .before .before .before .before .before .before .before .before .pre .0 .0)), omega (arith, e, c .before .before .before .before .before .before .before .before .pre .1))
+    let s = c .before .before .before .before .before .before .before .before in (
+      omega (arith, c .before .before .before .extent-of .ensures, extent-few (s .args .card .words) (range-words (s .args .card) (s .pre .0 .1)) (s .args .k) (s .pre .0 .0)),
+      omega (arith, whole (c .before .before .before), s .pre .1),
+    )
 
 same-length : tie.Need-same-length
 same-length c = omega arith
 
 returns-2 : tie.Need-returns-2
 returns-2 c =
-    let a = c .before .before .before .before .before .before .before .before .before .before .before .args in
-    let w = sym (c .before .before .before .before .before .before .before .before .before .is-written .ensures) ∙ not-false _ (c .before .before .before .before .before .before .before .before .if1 .left) in
-    let e = whole (a .card) (a .k) (c .before .before .before .before .before .before .extent-of .result) (c .before .before .before .before .before .before .extent-of .ensures) w in
-    let z : length (a .card .table) ≡ 2 ^ mostWords = search needs in (
-      e,
-      c .before .before .put-table .ensures ∙ ap₂ (λ (xs : List ℕ) (n : ℕ). xs ++ drop n (a .part .now))
-          (table-bytes (a .card) (a .k) (c .before .before .before .before .before .before .extent-of .result) (c .before .before .before .before .before .if2 .taken) z (c .before .before .before .before .before .before .before .before .before .before .before .pre .0 .1) w (c .before .before .before .before .before .before .extent-of .ensures)) e,
-    )
+    let s = c .before .before .before .before .before .before .before .before .before .before .before in
+    let a = s .args in
+    let x = c .before .before .before .before .before .before in
+    let z : length (a .card .table) ≡ 2 ^ mostWords = search needs in
+    let entries = table-bytes (a .card) (a .k) (x .extent-of .result) (c .before .before .before .before .before .if2 .taken) z (s .pre .0 .1) (is (x .before .before))
+    (x .extent-of .ensures) in
+    (whole x, c .before .before .put-table .ensures ∙ ap₂ (λ (xs : List ℕ) (n : ℕ). xs ++ drop n (a .part .now)) entries (whole x))
 
 number-of-requires : tie.Need-number-of-requires
 number-of-requires c κs = omega arith
 
 put-number-requires : tie.Need-put-number-requires
-put-number-requires c κs =
-    let a = c .before .before .before .before .before .before .before .before .args in
-    omega (arith, whole (a .card) (a .k) (c .before .before .before .extent-of .result) (c .before .before .before .extent-of .ensures) (sym (c .before .before .before .before .before .before .is-written .ensures) ∙ not-false _ (c .before .before .before .before .before .if1 .left)), c .before .before .before .before .before .before .before .before .pre .1)
+put-number-requires c κs = omega (arith, whole (c .before .before .before), c .before .before .before .before .before .before .before .before .pre .1)
 
 same-length-2 : tie.Need-same-length-2
 same-length-2 c = omega arith
 
 returns-3 : tie.Need-returns-3
 returns-3 c =
-    let a = c .before .before .before .before .before .before .before .before .before .before .before .args in
-    let w = sym (c .before .before .before .before .before .before .before .before .before .is-written .ensures) ∙ not-false _ (c .before .before .before .before .before .before .before .before .if1 .left) in
-    let e = whole (a .card) (a .k) (c .before .before .before .before .before .before .extent-of .result) (c .before .before .before .before .before .before .extent-of .ensures) w in (
-      e,
-      c .before .before .put-number .ensures ∙ ap₂ (λ (xs : List ℕ) (n : ℕ). xs ++ drop n (a .part .now))
-          (ap (lowBytes (c .before .before .before .before .number-of .result)) (c .before .before .before .before .before .before .extent-of .ensures ∙ ap extent (numeric (a .card .words) (a .k) (c .before .before .before .before .before .before .before .before .before .before .before .pre .0 .0) (c .before .before .before .before .before .if2 .left)) ∙ one-mul _)
-          ∙ sym (fieldBytes-one (a .card) (a .k) (c .before .before .before .before .number-of .result) (c .before .before .before .before .before .before .before .before .before .before .before .pre .0 .0) (c .before .before .before .before .before .if2 .left) (c .before .before .before .before .number-of .ensures) w)) e,
-    )
+    let s = c .before .before .before .before .before .before .before .before .before .before .before in
+    let a = s .args in
+    let x = c .before .before .before .before .before .before in
+    let n = c .before .before .before .before .number-of in
+    let size = x .extent-of .ensures ∙ ap extent (numeric (a .card .words) (a .k) (s .pre .0 .0) (c .before .before .before .before .before .if2 .left)) ∙ one-mul _ in
+    let digits = ap (lowBytes (n .result)) size ∙ sym
+    (fieldBytes-one (a .card) (a .k) (n .result) (s .pre .0 .0) (c .before .before .before .before .before .if2 .left) (n .ensures) (is (x .before .before))) in
+    (whole x, c .before .before .put-number .ensures ∙ ap₂ (λ (xs : List ℕ) (n : ℕ). xs ++ drop n (a .part .now)) digits (whole x))
 
 pub put-field-spec : {M : Type 1} → statement M
 put-field-spec =

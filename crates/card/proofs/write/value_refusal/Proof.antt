@@ -35,7 +35,13 @@ period-refusal-requires c κs =
 
 returns-3 : tie.Need-returns-3
 unfolding valueChecks firstOf
-returns-3 c = c .period-refusal .ensures ∙ sym (simp (sym (c .before .before .before .before .before .in-range .ensures) ∙ not-false _ (c .before .before .before .before .if1 .left), sym (c .before .before .exceeds .ensures) ∙ c .before .if2 .left))
+returns-3 c =
+    c .period-refusal .ensures ∙ sym
+    (simp (
+      sym (c .before .before .before .before .before .in-range .ensures) ∙ not-false _ (c .before .before .before .before .if1 .left),
+      sym
+          (c .before .before .exceeds .ensures) ∙ c .before .if2 .left,
+    ))
 
 pub value-refusal-spec : {M : Type 1} → statement M
 value-refusal-spec =

@@ -39,7 +39,12 @@ extent-of-requires c κs = omega arith
 add-t11 : tie.Need-add-t11
 add-t11 c =
     let a = c .before .before .before .before .before .before .args in
-    omega (arith, c .before .extent-of .ensures, extent-few (a .card .words) (c .before .before .before .before .before .before .pre .0 .1) (a .k) (c .before .before .before .before .before .before .pre .0 .0))
+    omega (
+      arith,
+      c .before .extent-of .ensures,
+      extent-few (a .card .words) (c .before .before .before .before .before .before .pre .0 .1) (a .k)
+          (c .before .before .before .before .before .before .pre .0 .0),
+    )
 
 returns-2 : tie.Need-returns-2
 returns-2 c =

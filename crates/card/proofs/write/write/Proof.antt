@@ -30,8 +30,15 @@ returns-2 c =
 
 put-card-requires : tie.Need-put-card-requires
 put-card-requires c κs =
-    let card = c .before .before .before .before .before .before .before .args .card in
-    ((value-range card (sym (c .before .before .before .before .before .value-refusal .ensures) ∙ c .before .before .before .before .if1 .left), c .before .before .before .outline-of .ensures .0), omega (arith, c .before .if2 .left, c .before .before .before .outline-of .ensures .1))
+    let card = c .before .before .before .before .before .before .before .args .card in (
+      (
+        value-range card (sym (c .before .before .before .before .before .value-refusal .ensures)
+            ∙ c .before .before .before .before .if1 .left),
+        c .before .before .before .outline-of .ensures .0,
+      ),
+      omega
+          (arith, c .before .if2 .left, c .before .before .before .outline-of .ensures .1),
+    )
 
 same-length : tie.Need-same-length
 same-length c = omega arith
@@ -41,7 +48,8 @@ returns-3 c =
     let a = c .before .before .before .before .before .before .before .before .before .before .args in
     let room : length (written (a .card)) ≤ length (a .page .now) = omega (arith, c .before .before .before .before .if2 .left, c .before .before .before .before .before .before .outline-of .ensures .1) in
     let d = writing-done (a .card) (a .page .now)
-    (room-told (a .card) _ (sym (c .before .before .before .before .before .before .before .before .value-refusal .ensures) ∙ c .before .before .before .before .before .before .before .if1 .left) ∙ simp (le-ltb _ _ room)) in
+    (room-told (a .card) _ (sym (c .before .before .before .before .before .before .before .before .value-refusal .ensures)
+    ∙ c .before .before .before .before .before .before .before .if1 .left) ∙ simp (le-ltb _ _ room)) in
     (ap Length (c .before .before .before .before .before .before .outline-of .ensures .1) ∙ d .0, c .before .before .put-card .ensures ∙ d .1)
 
 pub write-spec : {M : Type 1} → statement M

@@ -42,10 +42,13 @@ returns : tie.Need-returns
 returns c =
     let a = c .before .before .before .before .before .before .before .args in
     let p = c .before .before .before .before .before .before .before .pre .0 in
-    c .low-first .ensures ∙ four (a .part .now) ∙ sym (number-low (a .k) (p .0) (p .1) (a .part .now) ∙ ap (λ (k : ℕ). lowFirst (getD sizes k 0) (a .part .now)) (c .before .before .before .before .before .if1 .taken))
+    c .low-first .ensures ∙ four (a .part .now) ∙ sym
+    (number-low (a .k) (p .0) (p .1) (a .part .now) ∙ ap (λ (k : ℕ). lowFirst (getD sizes k 0) (a .part .now)) (c .before .before .before .before .before .if1 .taken))
 
 shared-slice-read-result : tie.Need-shared-slice-read-result
-shared-slice-read-result c = let p = c .before .before .before .pre in omega (arith, p .1, size-of (c .before .before .before .args .k) (p .0 .0) (p .0 .1), size-one (c .before .before .before .args .k) (p .0 .0) (p .0 .1) (c .before .if1 .left))
+shared-slice-read-result c =
+    let p = c .before .before .before .pre in omega
+    (arith, p .1, size-of (c .before .before .before .args .k) (p .0 .0) (p .0 .1), size-one (c .before .before .before .args .k) (p .0 .0) (p .0 .1) (c .before .if1 .left))
 
 cast-result : tie.Need-cast-result
 cast-result c = omega (arith, c .before .before .shared-slice-known .given 0)

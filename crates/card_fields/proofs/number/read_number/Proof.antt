@@ -42,7 +42,9 @@ array-read-if2 : tie.Need-array-read-if2
 array-read-if2 c = omega arith
 
 returns-2 : tie.Need-returns-2
-returns-2 c = refused-as (c .before .before .before .before .args .k) (c .before .before .before .before .args .part .now) _ 2 (c .before .before .before .before .pre) (c .before .number-at .ensures) (λ e. absurd (omega arith))
+returns-2 c =
+    refused-as (c .before .before .before .before .args .k) (c .before .before .before .before .args .part .now) _ 2 (c .before .before .before .before .pre)
+    (c .before .number-at .ensures) (λ e. absurd (omega arith))
     (simp (le-ltb _ _ (c .before .before .if1 .left), lt-leb _ _ (c .if2 .taken)))
 
 mul-if3 : tie.Need-mul-if3
@@ -52,7 +54,9 @@ array-read-if3 : tie.Need-array-read-if3
 array-read-if3 c = omega arith
 
 returns-3 : tie.Need-returns-3
-returns-3 c = refused-as (c .before .before .before .before .before .args .k) (c .before .before .before .before .before .args .part .now) _ 2 (c .before .before .before .before .before .pre) (c .before .before .number-at .ensures) (λ e. absurd (omega arith))
+returns-3 c =
+    refused-as (c .before .before .before .before .before .args .k) (c .before .before .before .before .before .args .part .now) _ 2
+    (c .before .before .before .before .before .pre) (c .before .before .number-at .ensures) (λ e. absurd (omega arith))
     (simp (le-ltb _ _ (c .before .before .before .if1 .left), le-leb _ _ (c .before .if2 .left), lt-leb _ _ (c .if3 .taken)))
 
 mul-if4 : tie.Need-mul-if4
@@ -62,11 +66,15 @@ array-read-if4 : tie.Need-array-read-if4
 array-read-if4 c = omega arith
 
 returns-4 : tie.Need-returns-4
-returns-4 c = refused-as (c .before .before .before .before .before .before .args .k) (c .before .before .before .before .before .before .args .part .now) _ 3 (c .before .before .before .before .before .before .pre) (c .before .before .before .number-at .ensures) (λ e. absurd (omega arith))
+returns-4 c =
+    refused-as (c .before .before .before .before .before .before .args .k) (c .before .before .before .before .before .before .args .part .now) _ 3
+    (c .before .before .before .before .before .before .pre) (c .before .before .before .number-at .ensures) (λ e. absurd (omega arith))
     (simp (le-ltb _ _ (c .before .before .before .before .if1 .left), le-leb _ _ (c .before .before .if2 .left), le-leb _ _ (c .before .if3 .left), eq-eqb _ _ (c .if4 .taken)))
 
 returns-5 : tie.Need-returns-5
-returns-5 c = value-as (c .before .before .before .before .before .before .args .k) (c .before .before .before .before .before .before .args .part .now) _ (c .before .before .before .before .before .before .pre) (c .before .before .before .number-at .ensures)
+returns-5 c =
+    value-as (c .before .before .before .before .before .before .args .k) (c .before .before .before .before .before .before .args .part .now) _
+    (c .before .before .before .before .before .before .pre) (c .before .before .before .number-at .ensures)
     (simp (le-ltb _ _ (c .before .before .before .before .if1 .left), le-leb _ _ (c .before .before .if2 .left), le-leb _ _ (c .before .if3 .left), ne-eqb _ _ (c .if4 .left)))
 
 pub read-number-spec : {M : Type 1} → statement M

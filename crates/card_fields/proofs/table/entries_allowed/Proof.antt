@@ -29,7 +29,8 @@ wide-requires c κs = omega arith
 returns : tie.Need-returns Inv-loop μ-loop
 returns c =
     let e = c .before .before .before .loop .inv .1 in
-    sym (entry-not-allowed (c .before .before .before .before .before .args .m) (c .before .before .before .before .before .args .t1) (c .before .before .before .loop .i) (omega (arith, e)) (omega (arith, e)) (omega (arith, e, c .before .wide .ensures)))
+    sym (entry-not-allowed (c .before .before .before .before .before .args .m) (c .before .before .before .before .before .args .t1) (c .before .before .before .loop .i)
+    (omega (arith, e)) (omega (arith, e)) (omega (arith, e, c .before .wide .ensures)))
 
 add-i : tie.Need-add-i Inv-loop μ-loop
 add-i c = omega arith
@@ -43,7 +44,8 @@ loop-again c = (omega arith, c .before .before .before .loop .inv .1, omega arit
 returns-2 : tie.Need-returns-2 Inv-loop μ-loop
 returns-2 c =
     let e = c .before .loop .inv .1 in
-    sym (entries-allowed (c .before .before .before .args .m) (c .before .before .before .args .t1) (omega (arith, e)) (λ i l. omega (arith, e, c .before .loop .inv .3 i (omega (arith, e)))))
+    sym (entries-allowed (c .before .before .before .args .m) (c .before .before .before .args .t1) (omega (arith, e))
+    (λ i l. omega (arith, e, c .before .loop .inv .3 i (omega (arith, e)))))
 
 pub entries-allowed-spec : {M : Type 1} → statement M
 entries-allowed-spec =

@@ -41,7 +41,8 @@ returns-2 : tie.Need-returns-2 Inv-loop μ-loop
 returns-2 c =
     let t = c .before .before .before .before .args .t1 in
     let z : length t ≡ 16 = search needs in
-    rw (whole t (c .before .before .before .before .args .m) z (c .before .before .loop .inv .0)) (sym (same-not t tsc1Table (λ e. c .if2 .taken (ap (λ (l : List ℕ). getD l (c .before .before .loop .i) 0) e))))
+    rw (whole t (c .before .before .before .before .args .m) z (c .before .before .loop .inv .0))
+    (sym (same-not t tsc1Table (λ e. c .if2 .taken (ap (λ (l : List ℕ). getD l (c .before .before .loop .i) 0) e))))
 
 add-i : tie.Need-add-i Inv-loop μ-loop
 add-i c = omega arith

@@ -24,7 +24,8 @@ array-read-if1 : tie.Need-array-read-if1 Inv-loop μ-loop
 array-read-if1 c = omega arith
 
 returns : tie.Need-returns Inv-loop μ-loop
-returns c = sym (unused-not-clear (c .before .before .before .before .args .m) (c .before .before .before .before .args .t1) (c .before .before .loop .i) (omega arith) (omega arith) (c .if1 .taken))
+returns c =
+    sym (unused-not-clear (c .before .before .before .before .args .m) (c .before .before .before .before .args .t1) (c .before .before .loop .i) (omega arith) (omega arith) (c .if1 .taken))
 
 add-i : tie.Need-add-i Inv-loop μ-loop
 add-i c = omega arith
@@ -33,7 +34,12 @@ loop-less : tie.Need-loop-less Inv-loop μ-loop
 loop-less c = omega arith
 
 loop-again : tie.Need-loop-again Inv-loop μ-loop
-loop-again c = (omega arith, omega arith, extend (λ (j : ℕ). 2 ^ c .before .before .before .before .args .m ≤ j → getD (c .before .before .before .before .args .t1) j 0 ≡ 0) _ (c .before .before .loop .inv .2) (λ h. c .if1 .left))
+loop-again c = (
+  omega arith,
+  omega arith,
+  extend (λ (j : ℕ). 2 ^ c .before .before .before .before .args .m ≤ j → getD (c .before .before .before .before .args .t1) j 0 ≡ 0) _
+      (c .before .before .loop .inv .2) (λ h. c .if1 .left),
+)
 
 returns-2 : tie.Need-returns-2 Inv-loop μ-loop
 returns-2 c = sym (unused-clear (c .before .before .before .args .m) (c .before .before .before .args .t1) (λ i l h. c .before .loop .inv .2 i (omega arith) h))
