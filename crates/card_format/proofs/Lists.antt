@@ -27,6 +27,9 @@ over-suc s d i hs hd =
     ∙ paste-suc d 0 s i 0 (omega arith) hs
     ∙ ap₂ (λ (j k : ℕ). take j s ++ drop k d) (sym (add-one i)) (zero-add (suc i) ∙ sym (add-one i))
 
+pub over-all : (s d : List ℕ) (n : ℕ) → length s ≡ n → length d ≡ n → over s d n ≡ s
+over-all s d n hs hd = ap₂ (λ (x y : List ℕ). x ++ y) (take-all n s (le-of-eq hs)) (drop-of-length-le d (le-of-eq hd)) ∙ append-nil s
+
 -- a front written over keeps the length
 pub length-front : (w d : List ℕ) (at : ℕ) → length w ≡ at → at ≤ length d → length (w ++ drop at d) ≡ length d
 length-front w d at e h = omega (arith, length-append w (drop at d), length-drop at d)
@@ -38,6 +41,17 @@ pub drop-replicate : (n i a : ℕ) → drop i (replicate n a) ≡ replicate (n -
 drop-replicate zero i a = drop-nil i ∙ ap (λ (k : ℕ). replicate k a) (sym (zero-sub i))
 drop-replicate (suc n) zero a = ap (λ (k : ℕ). replicate k a) (sym (sub-zero (suc n)))
 drop-replicate (suc n) (suc i) a = drop-replicate n i a ∙ ap (λ (k : ℕ). replicate k a) (sym (suc-sub-suc n i))
+
+-- where entries past the end count as a, more of a at the end changes no entry
+pub getD-filler : (n k a : ℕ) → getD (replicate n a) k a ≡ a
+getD-filler zero k a = refl
+getD-filler (suc n) zero a = refl
+getD-filler (suc n) (suc k) a = getD-filler n k a
+
+pub getD-filled : (xs : List ℕ) (n k a : ℕ) → getD (xs ++ replicate n a) k a ≡ getD xs k a
+getD-filled [] n k a = getD-filler n k a
+getD-filled (x ∷ xs) n zero a = refl
+getD-filled (x ∷ xs) n (suc k) a = getD-filled xs n k a
 
 -- an entry set to itself
 pub set-own : (l : List ℕ) (i : ℕ) → set l i (getD l i 0) ≡ l

@@ -1,0 +1,3 @@
+-- Laws that the functions' proofs and the callers cite.
+pub mod Placed
+pub mod Powers

@@ -1,0 +1,77 @@
+-- A table of powers, filled in along the cycle.
+use mathlib.Core.Path.{_≡_, sym, ap, _∙_, subst}
+use mathlib.Core.Bool.{Bool, true, false, cond}
+use mathlib.Core.List.{List}
+use Prim.Native.Nat.{ℕ, suc, _+_, _^_, _<_, _≤_}
+use native.Mathlib.Nat.{lt-of-lt-of-le}
+use native.Mathlib.Decide.{ℕ-discrete, decLt}
+use native.Mathlib.Omega.{arith}
+use borrow.Author.Tests.{lt-ltb, le-ltb}
+use lib.Dec.{ltb}
+use lib.ListN.{length, getD, set, replicate, length-set, length-replicate}
+use lib.Pow.{pow-pos, pow-mono}
+use lib.Seq.{getD-set-same, getD-set-other}
+use Rattle.cycle.specs.Notation.{iterate}
+use Rattle.cycle.specs.Cycle.{SingleCycle}
+use Rattle.cycle.proofs.Iterate.{iterate-below}
+use Rattle.card_format.proofs.Lists.{extend, getD-filler}
+use Rattle.tsc.specs.declared.Card.{Card}
+use Rattle.tsc.specs.Constants.{mostWords}
+use Rattle.tsc.specs.Coverage.{WellFormed}
+use Rattle.tsc.specs.Step.{entry}
+use Rattle.columns.specs.Replace.{IsPower}
+
+-- the entry that stands j places from 0
+abbrev pub stands : Card → ℕ → ℕ
+stands card j = iterate (entry card) j 0
+
+pub stands-lt : (card : Card) → WellFormed card → (j : ℕ) → stands card j < 2 ^ card .words
+stands-lt card wf j = iterate-below (2 ^ card .words) (entry card) (wf .entries) j 0 (pow-pos (card .words))
+
+pub stands-few : (card : Card) → WellFormed card → card .words ≤ mostWords → (j : ℕ) → stands card j < 2 ^ mostWords
+stands-few card wf few j = lt-of-lt-of-le (stands-lt card wf j) (pow-mono few)
+
+-- t has where the first j entries of the cycle go in k applications, and 0 past the table's entries
+pub record Filled (card : Card) (k j : ℕ) (t : List ℕ) : Type 0 where
+  pub size : length t ≡ 2 ^ mostWords
+  pub done : (i : ℕ) → i < j → getD t (stands card i) 0 ≡ iterate (entry card) k (stands card i)
+  pub unused : (x : ℕ) → 2 ^ card .words ≤ x → getD t x 0 ≡ 0
+
+pub filled-none : (card : Card) (k : ℕ) → Filled card k 0 (replicate (2 ^ mostWords) 0)
+filled-none card k =
+    record {
+      size = length-replicate {A = ℕ} (2 ^ mostWords) 0;
+      done = λ i l. absurd (omega arith);
+      unused = λ x l. getD-filler (2 ^ mostWords) x 0;
+    }
+
+-- the entry that stands at place j gets its image
+pub filled-next : (card : Card) → WellFormed card → card .words ≤ mostWords → (k j : ℕ) (t : List ℕ) → Filled card k j t
+    → Filled card k (j + 1) (set t (stands card j) (iterate (entry card) k (stands card j)))
+filled-next card wf few k j t f =
+    record {
+      size = length-set t (stands card j) _ ∙ f .size;
+      done = extend (λ i. getD (set t (stands card j) v) (stands card i) 0 ≡ iterate (entry card) k (stands card i)) j
+          (λ i l. go i l (ℕ-discrete (stands card i) (stands card j))) here;
+      unused = λ x l. getD-set-other t (stands card j) x v 0 (λ e. omega (arith, stands-lt card wf j)) ∙ f .unused x l;
+    }
+  where
+    v : ℕ
+    v = iterate (entry card) k (stands card j)
+
+    here : getD (set t (stands card j) v) (stands card j) 0 ≡ v
+    here = getD-set-same t (stands card j) v 0 (omega (arith, f .size, stands-few card wf few j))
+
+    go : (i : ℕ) → i < j → Dec (stands card i ≡ stands card j) → getD (set t (stands card j) v) (stands card i) 0 ≡ iterate (entry card) k (stands card i)
+    go i l (yes e) = rw e here
+    go i l (no ne) = getD-set-other t (stands card j) (stands card i) v 0 ne ∙ f .done i l
+
+-- one round fills in every entry
+pub filled-power : (card : Card) (k : ℕ) (t : List ℕ) → SingleCycle (2 ^ card .words) (entry card) 0 → Filled card k (2 ^ card .words) t → IsPower card k t
+filled-power card k t c f x = go (decLt x (2 ^ card .words))
+  where
+    go : Dec (x < 2 ^ card .words) → getD t x 0 ≡ cond (ltb x (2 ^ card .words)) (iterate (entry card) k x) 0
+    go (yes l) =
+        let r = c .reaches x l in
+        simp (lt-ltb x (2 ^ card .words) l) (subst (λ (y : ℕ). getD t y 0 ≡ iterate (entry card) k y) (r .2) (f .done (r .0) (r .1)))
+    go (no g) = simp (le-ltb x (2 ^ card .words) (omega arith)) (f .unused x (omega arith))

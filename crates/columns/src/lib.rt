@@ -1,0 +1,4 @@
+// Columns of a state (document 002, 2), and powers of the table that they are put through (12).
+pub mod column;
+pub mod power;
+pub mod replace;

@@ -1,0 +1,32 @@
+// A column put through a power of the table.
+ghost use mathlib.Core.Path.{_≡_};
+ghost use Prim.Native.Nat.{ℕ, _^_, _<_};
+ghost use lib.ListN.{getD};
+ghost use Rattle.cycle.specs.Notation.{bit};
+ghost use Rattle.tsc.specs.Constants.{mostWords, widestWidth};
+ghost use Rattle.tsc.specs.Columns.{column};
+ghost use Rattle.columns.specs.Replace.{withColumn, imageOf};
+use super::column;
+use super::power::Powers;
+use tsc::State;
+
+// Where column c goes, by the selector's bit.
+fn image(p: Powers, selected: u32, c: u32) -> u32
+    requires { ⌜ c < 2 ^ mostWords ⌝ }
+    ensures { λ r. ⌜ r ≡ imageOf p selected c ⌝ }
+{
+    if selected == 1 {
+        return p.odd[c as usize] as u32;
+    }
+    p.even[c as usize] as u32
+}
+
+// Column i of s, put through the table, as column i of a state that has the columns below it.
+pub fn replace_column(p: Powers, s: State, selector: u32, i: u32, below: State) -> State
+    requires { ⌜ i < widestWidth ⌝ }
+    requires { ⌜ ((k : ℕ) → k < mostWords → getD (below .words) k 0 < 2 ^ i) ⌝ }
+    ensures { λ r. ⌜ r .words ≡ withColumn i (imageOf p (bit i selector) (column i (s .words))) (below .words) ⌝ }
+{
+    let c = image(p, column::bit_of(selector, i), column::column_of(s, i));
+    column::with_column(below, i, c)
+}

@@ -1,0 +1,28 @@
+-- Numbers of n bits held in w bits, for every n and w.
+use mathlib.Core.Path.{_≡_, sym, ap, _∙_, subst}
+use Prim.Native.Nat.{ℕ, _+_, _/_, _%_, _-_, _^_, _<_, _≤_}
+use native.Mathlib.Nat.{mod-lt, sub-add-cancel}
+use native.Mathlib.Omega.{arith}
+use lib.Pow.{mod-mod-pow, high, low, ones-lt, ones-split, pow-pos}
+use Rattle.tsc.specs.Word.{_⊞_}
+
+-- the lowest n bits of the lowest w bits
+pub narrow : (x n w : ℕ) → n ≤ w → x % 2 ^ w % 2 ^ n ≡ x % 2 ^ n
+narrow x n w h = subst (λ (m : ℕ). x % 2 ^ m % 2 ^ n ≡ x % 2 ^ n) (sub-add-cancel h) (mod-mod-pow x (w - n) n)
+
+-- n ones, as `all >> (w - n)` makes them
+pub ones-shifted : (n w : ℕ) → n ≤ w → (2 ^ w - 1) / 2 ^ (w - n) ≡ 2 ^ n - 1
+ones-shifted n w h =
+    let e : n + (w - n) ≡ w = omega arith in
+    ap (λ (m : ℕ). (2 ^ m - 1) / 2 ^ (w - n)) (sym e) ∙ ap (λ (m : ℕ). m / 2 ^ (w - n)) (ones-split n (w - n)) ∙ high (2 ^ n - 1) (w - n) (ones-lt (w - n))
+
+-- w ones, reduced to n
+pub ones-reduced : (n w : ℕ) → n ≤ w → (2 ^ w - 1) % 2 ^ n ≡ 2 ^ n - 1
+ones-reduced n w h =
+    let e : (w - n) + n ≡ w = omega arith in
+    ap (λ (m : ℕ). (2 ^ m - 1) % 2 ^ n) (sym e) ∙ ap (λ (m : ℕ). m % 2 ^ n) (ones-split (w - n) n) ∙ low (2 ^ (w - n) - 1) n (ones-lt n)
+
+-- a sum modulo 2^n has n bits
+pub sum-lt : (n x y r : ℕ) → r ≡ _⊞_ n x y → r < 2 ^ n
+unfolding _⊞_
+sum-lt n x y r e = rw e (mod-lt (x + y) (pow-pos n))

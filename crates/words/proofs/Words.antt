@@ -1,0 +1,21 @@
+-- For loops that go over the first m words from the last to the first: what is left from word k on.
+use mathlib.Core.Path.{_≡_, refl, ap, _∙_}
+use mathlib.Core.List.{List, [], _∷_}
+use Prim.Native.Nat.{ℕ, zero, suc, _<_, _≤_}
+use native.Mathlib.Nat.{le-of-eq}
+use native.Mathlib.Omega.{arith}
+use lib.ListN.{length, getD, take, drop, drop-of-length-le}
+use lib.Seq.{length-take-le}
+
+-- the words from k on, of the first m
+abbrev pub wordsFrom : ℕ → ℕ → List ℕ → List ℕ
+wordsFrom k m xs = drop k (take m xs)
+
+pub words-none : (m : ℕ) (xs : List ℕ) → m ≤ length xs → wordsFrom m m xs ≡ []
+words-none m xs h = drop-of-length-le (take m xs) (le-of-eq (length-take-le m xs h))
+
+pub words-next : (k m : ℕ) (xs : List ℕ) → k < m → m ≤ length xs → wordsFrom k m xs ≡ getD xs k 0 ∷ wordsFrom (suc k) m xs
+words-next k zero xs l h = absurd (omega arith)
+words-next k (suc m) [] l h = absurd (omega arith)
+words-next zero (suc m) (x ∷ xs) l h = refl
+words-next (suc k) (suc m) (x ∷ xs) l h = words-next k m xs (omega arith) (omega arith)
