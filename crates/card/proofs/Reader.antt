@@ -14,12 +14,13 @@ use lib.Count.{trailingZeros, trailing-le}
 use lib.Dec.{eqb, leb, ltb}
 use lib.ListN.{length, getD, set, drop, length-drop}
 use lib.Seq.{getD-set-other}
+use Rattle.tsc.specs.declared.Card.{Card}
 use Rattle.tsc.specs.Constants.{mostWords, tsc1Table}
 use Rattle.cycle.specs.Notation.{sum}
 use Rattle.card.specs.declared.read.Values.{Values}
 use Rattle.card_format.specs.Refusals.{Check, firstOf, NoneApplies}
 use Rattle.card_format.specs.Fields.{Field, field, fields, tableBit, numbers}
-use Rattle.card_format.specs.Reading.{reading, present, offset, valuesAt, wordsOf, values, value, padded, cardFrom, cardOf, partChecks, fieldChecks, checksTo, formChecks, SoundForm}
+use Rattle.card_format.specs.Reading.{reading, answering, present, offset, valuesAt, wordsOf, values, value, padded, cardFrom, cardOf, partChecks, fieldChecks, checksTo, formChecks, SoundForm}
 use Rattle.card.specs.Steps.{fieldRead, missing, refusedWith}
 use Rattle.card_format.proofs.Lists.{set-own}
 use Rattle.card_format.proofs.Refusals.{none-first, first-append, first-left, none-append}
@@ -290,9 +291,12 @@ pub card-read : (bytes : List ℕ) (at : ℕ) (v : Values) → Reached bytes 8 a
 unfolding cardOf numbersTo tableTo
 card-read bytes at v h = rw (h .numbers, h .table) refl
 
+pub answering-refused : (card : Card) (r : ℕ) → r ≢ 0 → refusedWith r ≡ answering r card
+answering-refused card r ne = simp (ne-eqb r 0 ne)
+
 pub reading-refused : (bytes : List ℕ) (r : ℕ) → r ≢ 0 → firstOf (formChecks bytes) ≡ r → refusedWith r ≡ reading bytes
 unfolding reading
-reading-refused bytes r ne e = rw e (simp (ne-eqb r 0 ne))
+reading-refused bytes r ne e = answering-refused (cardOf bytes) r ne ∙ ap (λ (n : ℕ). answering n (cardOf bytes)) (sym e)
 
 pub reading-accepted : (bytes : List ℕ) → firstOf (formChecks bytes) ≡ 0 → record { refusal = 0; card = cardOf bytes } ≡ reading bytes
 unfolding reading

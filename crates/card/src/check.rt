@@ -7,9 +7,10 @@ ghost use Rattle.tsc.specs.Constants.{mostWords};
 ghost use Rattle.tsc.specs.Coverage.{IsState, Covers, WellFormed};
 ghost use Rattle.card_format.specs.Refusals.{firstOf};
 ghost use Rattle.card_format.specs.Reading.{cardOf, SoundForm};
-ghost use Rattle.card_format.specs.Verdict.{periodChecks, verdict};
+ghost use Rattle.card_format.specs.Verdict.{periodChecks, verdict, accepting};
 use super::read;
 use card_fields::table;
+use card_format::Reading;
 use card_format::refusal;
 use tsc::Card;
 
@@ -35,16 +36,28 @@ pub fn period_refusal(card: Card) -> u8
     0
 }
 
+// Any bytes as an accepted card: 0 and the eight values, or the first of refusals 1 to 9 that applies. Each call that works by a card begins with it.
+pub fn accept(card: &[u8]) -> Reading
+    ensures { λ r. ⌜ r ≡ accepting (now (card .entry)) ⌝ }
+{
+    let found = read::read(card);
+    if found.refusal != 0 {
+        return found;
+    }
+    let values = found.card;
+    let number = period_refusal(values);
+    if number != 0 {
+        return read::refused(number);
+    }
+    found
+}
+
 // The verdict on any bytes: 0 for an accepted card, else its refusal, 1 to 9. DEMAND 3: for a card of sound form and any start it is 0 exactly where the
 // orbit passes every state once and then returns.
 pub fn check(card: &[u8]) -> u8
     ensures told { λ r. ⌜ r ≡ verdict (now (card .entry)) ⌝ }
     ensures covers { λ r. ⌜ (SoundForm (now (card .entry)) → (start : List ℕ) → IsState (cardOf (now (card .entry))) start → (r ≡ 0) ↔ Covers (cardOf (now (card .entry))) start) ⌝ }
 {
-    let found = read::read(card);
-    if found.refusal != 0 {
-        return found.refusal;
-    }
-    let values = found.card;
-    period_refusal(values)
+    let found = accept(card);
+    found.refusal
 }

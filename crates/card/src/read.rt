@@ -94,7 +94,7 @@ fn table_missing(next: usize, k: usize, m: u32) -> bool
 }
 
 // A refusal, with the card that goes with it.
-fn refused(number: u8) -> Reading
+pub fn refused(number: u8) -> Reading
     ensures { λ r. ⌜ r ≡ refusedWith number ⌝ }
 {
     Reading {

@@ -95,8 +95,10 @@ SoundForm bytes = NoneApplies (formChecks bytes)
 abbrev pub noCard : Card
 noCard = cardFrom (λ k. 0) (padded [])
 
+-- a refusal alone, or, where it is 0, the card
+abbrev pub answering : ℕ → Card → Reading
+answering r card = record { refusal = r; card = cond (eqb r 0) card noCard }
+
 -- what the reader answers: 0 and the eight values, or the first of refusals 1 to 6
 unfoldable pub reading : List ℕ → Reading
-reading bytes =
-    let r = firstOf (formChecks bytes) in
-    record { refusal = r; card = cond (eqb r 0) (cardOf bytes) noCard }
+reading bytes = answering (firstOf (formChecks bytes)) (cardOf bytes)

@@ -6,8 +6,9 @@ use lib.Dec.{eqb}
 use Rattle.cycle.specs.Cycle.{firstReturn}
 use Rattle.tsc.specs.declared.Card.{Card}
 use Rattle.tsc.specs.Step.{entry}
+use Rattle.card_format.specs.declared.Reading.{Reading}
 use Rattle.card_format.specs.Refusals.{Check, check, firstOf, notSingleCycle, evenConstant, powerParity}
-use Rattle.card_format.specs.Reading.{cardOf, formChecks}
+use Rattle.card_format.specs.Reading.{cardOf, formChecks, answering}
 
 -- conditions 7 to 9, on a card's values: from 0 the table does not first return to 0 after all 2^m entries; C is even; a is even or b is odd
 unfoldable pub periodChecks : Card → List Check
@@ -17,6 +18,14 @@ periodChecks card =
     ∷ check powerParity (eqb (card .«odd_power» % 2) 0 || eqb (card .«even_power» % 2) 1)
     ∷ []
 
+-- conditions 1 to 9
+abbrev pub cardChecks : List ℕ → List Check
+cardChecks bytes = formChecks bytes ++ periodChecks (cardOf bytes)
+
 -- 0 for an accepted card, else the number of its refusal, 1 to 9
 unfoldable pub verdict : List ℕ → ℕ
-verdict bytes = firstOf (formChecks bytes ++ periodChecks (cardOf bytes))
+verdict bytes = firstOf (cardChecks bytes)
+
+-- what the calls answer that need an accepted card: 0 and the eight values, or the first of refusals 1 to 9
+unfoldable pub accepting : List ℕ → Reading
+accepting bytes = answering (verdict bytes) (cardOf bytes)

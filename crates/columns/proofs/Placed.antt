@@ -1,5 +1,5 @@
 -- A bit put above a word's i bits, and a column of few words.
-use mathlib.Core.Path.{_≡_, ap, _∙_}
+use mathlib.Core.Path.{_≡_, sym, ap, ap₂, _∙_}
 use mathlib.Core.List.{List}
 use Prim.Native.Nat.{ℕ, _+_, _*_, _%_, _^_, _<_, _≤_}
 use native.Mathlib.Nat.{pow-suc, mul-le-mul-right, le-of-suc-le-suc, one-mul, lt-of-lt-of-le}
@@ -7,12 +7,13 @@ use native.Mathlib.Numerals.{add-one}
 use native.Mathlib.Omega.{arith}
 use lib.ListN.{length, getD, take, drop, length-drop}
 use lib.Pow.{shl-exact, pow-mono}
-use lib.Seq.{length-take-le}
+use lib.Seq.{length-take-le, take-all}
 use Rattle.cycle.specs.Notation.{bit}
-use Rattle.cycle.proofs.Digits.{length-tabulate}
+use Rattle.cycle.proofs.Digits.{length-tabulate, tabulate-ext, tabulate-getD}
 use Rattle.tsc.specs.Constants.{mostWords}
 use Rattle.tsc.specs.Columns.{column}
 use Rattle.tsc.proofs.Columns.{column-lt}
+use Rattle.tsc.proofs.LowWords.{lowWords, length-lowWords, getD-lowWords, bit-column, mod-bit}
 use Rattle.words.proofs.Words.{wordsFrom}
 use Rattle.columns.specs.Replace.{withColumn}
 
@@ -35,3 +36,12 @@ column-few i k ws e =
 pub length-withColumn : (i c : ℕ) (ws : List ℕ) → length (withColumn i c ws) ≡ mostWords
 unfolding withColumn
 length-withColumn i c ws = length-tabulate mostWords (λ k. getD ws k 0 + bit k c * 2 ^ i)
+
+-- column i of a state on top of the columns below it: the columns up to i
+pub withColumn-low : (i : ℕ) (ws : List ℕ) → length ws ≡ mostWords → withColumn i (column i ws) (lowWords i ws) ≡ lowWords (i + 1) ws
+unfolding withColumn
+withColumn-low i ws e =
+    let size : length (lowWords (i + 1) ws) ≡ mostWords = length-lowWords (i + 1) ws ∙ e in
+    tabulate-ext mostWords (λ k. getD (lowWords i ws) k 0 + bit k (column i ws) * 2 ^ i) (λ k. getD (lowWords (i + 1) ws) k 0) (λ k l.
+    ap₂ (λ (x b : ℕ). x + b * 2 ^ i) (getD-lowWords i ws k) (bit-column i ws k) ∙ sym (mod-bit (getD ws k 0) i) ∙ sym (getD-lowWords (i + 1) ws k))
+    ∙ tabulate-getD mostWords (lowWords (i + 1) ws) (omega arith) ∙ take-all mostWords (lowWords (i + 1) ws) (omega arith)

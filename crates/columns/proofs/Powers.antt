@@ -7,7 +7,7 @@ use native.Mathlib.Nat.{lt-of-lt-of-le}
 use native.Mathlib.Decide.{ℕ-discrete, decLt}
 use native.Mathlib.Omega.{arith}
 use borrow.Author.Tests.{lt-ltb, le-ltb}
-use lib.Dec.{ltb}
+use lib.Dec.{eqb, ltb}
 use lib.ListN.{length, getD, set, replicate, length-set, length-replicate}
 use lib.Pow.{pow-pos, pow-mono}
 use lib.Seq.{getD-set-same, getD-set-other}
@@ -19,7 +19,8 @@ use Rattle.tsc.specs.declared.Card.{Card}
 use Rattle.tsc.specs.Constants.{mostWords}
 use Rattle.tsc.specs.Coverage.{WellFormed}
 use Rattle.tsc.specs.Step.{entry}
-use Rattle.columns.specs.Replace.{IsPower}
+use Rattle.columns.specs.declared.power.Powers.{Powers}
+use Rattle.columns.specs.Replace.{IsPower, imageOf}
 
 -- the entry that stands j places from 0
 abbrev pub stands : Card → ℕ → ℕ
@@ -75,3 +76,12 @@ filled-power card k t c f x = go (decLt x (2 ^ card .words))
         let r = c .reaches x l in
         simp (lt-ltb x (2 ^ card .words) l) (subst (λ (y : ℕ). getD t y 0 ≡ iterate (entry card) k y) (r .2) (f .done (r .0) (r .1)))
     go (no g) = simp (le-ltb x (2 ^ card .words) (omega arith)) (f .unused x (omega arith))
+
+-- where a column goes, by the power that its selector bit picks
+pub image-power : (card : Card) (p : Powers) (a b s c : ℕ) → IsPower card a (p .odd) → IsPower card b (p .even) → c < 2 ^ card .words
+    → imageOf p s c ≡ iterate (entry card) (cond (eqb s 1) a b) c
+image-power card p a b s c odd even l = go (eqb s 1)
+  where
+    go : (t : Bool) → getD (cond t (p .odd) (p .even)) c 0 ≡ iterate (entry card) (cond t a b) c
+    go true = odd c ∙ simp (lt-ltb c (2 ^ card .words) l)
+    go false = even c ∙ simp (lt-ltb c (2 ^ card .words) l)

@@ -1,7 +1,7 @@
 -- Single cycles: what makes a map one, each number comes once a round, and the start is free.
 use mathlib.Core.Path.{_≡_, sym, ap, _∙_}
-use Prim.Native.Nat.{ℕ, suc, pred, _+_, _-_, _*_, _%_, _≤_, _<_}
-use native.Mathlib.Nat.{mul-suc, add-comm, add-left-comm, mod-lt, suc-pred-eq-of-pos}
+use Prim.Native.Nat.{ℕ, suc, pred, _+_, _-_, _*_, _/_, _%_, _≤_, _<_}
+use native.Mathlib.Nat.{mul-suc, suc-mul, add-comm, add-left-comm, mod-lt, mod-add-div', suc-pred-eq-of-pos}
 use native.Mathlib.Decide.{decLt}
 use native.Mathlib.Omega.{arith}
 use Rattle.cycle.specs.Notation.{sum, iterate}
@@ -85,6 +85,12 @@ module _ (N : ℕ) (f : ℕ → ℕ) (z : ℕ) (pos : 0 < N) (c : SingleCycle N 
       cycle-of-return N f w pos (λ x lx.
       let r = c .reaches x lx in
       (r .0 + k * pred N, iterate-add f (r .0) (k * pred N) w ∙ ap (iterate f (r .0)) zw ∙ r .2)) back
+
+  -- k applications are undone by so many more that whole rounds are made
+  pub cycle-undo : (k x : ℕ) → x < N → iterate f (N - k % N) (iterate f k x) ≡ x
+  cycle-undo k x l =
+      let rounds : N - k % N + k ≡ suc (k / N) * N = omega (arith, mod-add-div' k N, mod-lt k pos, suc-mul (k / N) N) in
+      sym (iterate-add f (N - k % N) k x) ∙ ap (λ (t : ℕ). iterate f t x) rounds ∙ iterate-rounds f N x (cycle-from x l .returns) (suc (k / N))
 
   -- a sum along one round is the sum over all numbers below N
   pub sum-around : MapsBelow N f → z < N → (h : ℕ → ℕ) → sum N (λ k. h (iterate f k z)) ≡ sum N h

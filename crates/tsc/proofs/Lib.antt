@@ -6,5 +6,6 @@ pub mod Selector
 pub mod Step
 pub mod Table
 pub mod Coverage
-pub mod Preimage
+pub mod StepBack
+pub mod LowWords
 pub mod Word

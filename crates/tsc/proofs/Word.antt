@@ -1,5 +1,5 @@
 -- Rotation within n bits: it stays within n bits, and moves bit i to bit (i + k) modulo n. A word is below 2^n.
-use mathlib.Core.Path.{_≡_, sym, ap, ap₂, _∙_, subst}
+use mathlib.Core.Path.{_≡_, sym, ap, ap₂, _∙_, subst, fun-ext}
 use mathlib.Core.Bool.{Bool, true, false, cond}
 use mathlib.Core.List.{List}
 use Prim.Native.Nat.{ℕ, _+_, _-_, _*_, _/_, _%_, _^_, _<_}
@@ -73,3 +73,8 @@ word-lt card xs = go (eqb (card .filter) 2)
     go : (b : Bool) → cond b (filter2 (card .width) (λ k. getD xs k 0)) (filter1 (card .width) (λ k. getD xs k 0)) < 2 ^ card .width
     go true = mod-lt _ (pow-pos (card .width))
     go false = mod-lt _ (pow-pos (card .width))
+
+-- a word depends on the state's words alone; absent ones count as 0
+pub word-ext : (card : Card) (xs ys : List ℕ) → ((k : ℕ) → getD xs k 0 ≡ getD ys k 0) → word card xs ≡ word card ys
+unfolding word
+word-ext card xs ys h = ap (λ (x : ℕ → ℕ). cond (eqb (card .filter) 2) (filter2 (card .width) x) (filter1 (card .width) x)) (fun-ext h)

@@ -1,7 +1,7 @@
--- What it is that an orbit brings up every state once and then returns (document 01, Step, word and pick), and when that is so.
+-- What it is that an orbit brings up every state once and then returns, when that is so, and the step back (document 01, Step, word and pick).
 use mathlib.Core.Path.{_≡_}
 use mathlib.Core.List.{List}
-use Prim.Native.Nat.{ℕ, _*_, _%_, _^_, _≤_, _<_}
+use Prim.Native.Nat.{ℕ, _-_, _*_, _%_, _^_, _≤_, _<_}
 use Rattle.cycle.specs.Cycle.{SingleCycle}
 use Rattle.tsc.specs.declared.Card.{Card}
 use Rattle.tsc.specs.Constants.{fewestWords, narrowestWidth}
@@ -15,6 +15,10 @@ IsState card xs = InRange (card .words) (card .width) xs
 -- N, the count of states
 abbrev pub states : Card → ℕ
 states card = 2 ^ (card .words * card .width)
+
+-- the step back: the last state of the orbit before it returns, number N - 1. For an accepted card it is the one state whose step is the given state
+unfoldable pub stepBack : Card → List ℕ → List ℕ
+stepBack card xs = orbit card xs (states card - 1)
 
 -- xs stands exactly once among numbers 0 to N - 1 of a sequence
 abbrev pub StandsOnce : List ℕ → (ℕ → List ℕ) → ℕ → Type 0

@@ -1,0 +1,43 @@
+-- A state by value has the columns and the word of the words that it holds.
+use mathlib.Core.Path.{_≡_, sym, ap, ap₂, _∙_}
+use mathlib.Core.List.{List, _++_}
+use Prim.Native.Nat.{ℕ, _-_, _+_, _^_, _≤_, _<_}
+use native.Mathlib.Nat.{le-refl}
+use native.Mathlib.Decide.{decLt}
+use native.Mathlib.Omega.{arith}
+use lib.ListN.{length, getD, take, replicate, length-append, length-replicate, List·getD-eq-default}
+use lib.Pow.{pow-pos}
+use lib.Seq.{take-append-seam, take-all}
+use Rattle.card_format.proofs.Lists.{getD-filled, over, drop-replicate}
+use Rattle.tsc.specs.declared.Card.{Card}
+use Rattle.tsc.specs.Constants.{mostWords}
+use Rattle.tsc.specs.Columns.{InRange, column}
+use Rattle.tsc.specs.Word.{word}
+use Rattle.tsc.proofs.LowWords.{column-filled}
+use Rattle.tsc.proofs.Word.{word-ext}
+use Rattle.generator.specs.State.{holding}
+
+pub length-holding : (xs : List ℕ) → length xs ≤ mostWords → length (holding xs .words) ≡ mostWords
+length-holding xs h =
+    omega (arith, length-append xs (replicate (mostWords - length xs) 0), length-replicate {A = ℕ} (mostWords - length xs) 0)
+
+pub take-holding : (m : ℕ) (xs : List ℕ) → length xs ≡ m → take m (holding xs .words) ≡ xs
+take-holding m xs e = ap (λ (k : ℕ). take k (holding xs .words)) (sym e) ∙ take-append-seam xs _
+
+pub column-holding : (i : ℕ) (xs : List ℕ) → column i (holding xs .words) ≡ column i xs
+column-holding i xs = column-filled i xs (mostWords - length xs)
+
+pub word-holding : (card : Card) (xs : List ℕ) → word card (holding xs .words) ≡ word card xs
+word-holding card xs = word-ext card (holding xs .words) xs (λ k. getD-filled xs (mostWords - length xs) k 0)
+
+-- words of n bits, and zeros past them
+pub holding-lt : (m n : ℕ) (xs : List ℕ) → InRange m n xs → (k : ℕ) → getD (holding xs .words) k 0 < 2 ^ n
+holding-lt m n xs h k = rw (getD-filled xs (mostWords - length xs) k 0) (go (decLt k m))
+  where
+    go : Dec (k < m) → getD xs k 0 < 2 ^ n
+    go (yes l) = h .1 k l
+    go (no g) = rw (List·getD-eq-default xs 0 {n = k} (omega (arith, h .0))) (pow-pos n)
+
+-- zeros overwritten by words
+pub over-holding : (xs : List ℕ) → over xs (replicate mostWords 0) (length xs) ≡ holding xs .words
+over-holding xs = ap₂ (λ (x y : List ℕ). x ++ y) (take-all (length xs) xs (le-refl (length xs))) (drop-replicate mostWords (length xs) 0)

@@ -1,0 +1,107 @@
+-- What the checks of a call come to: a refusal, or an accepted card and a state of its size.
+use mathlib.Core.Path.{_≡_, refl, sym, ap, _∙_}
+use mathlib.Core.Logic.{_≢_}
+use mathlib.Core.Bool.{cond}
+use mathlib.Core.List.{List, _++_}
+use Prim.Native.Nat.{ℕ, _^_, _≤_}
+use native.Mathlib.Decide.{ℕ-discrete}
+use native.Mathlib.Omega.{arith}
+use borrow.Author.Tests.{eq-eqb, ne-eqb, eqb-true, ltb-true, not-false}
+use lib.Dec.{eqb, ltb}
+use lib.ListN.{length, getD}
+use Rattle.cycle.specs.Notation.{every}
+use Rattle.cycle.proofs.Every.{every-at}
+use Rattle.tsc.specs.declared.Card.{Card}
+use Rattle.tsc.specs.declared.State.{State}
+use Rattle.tsc.specs.Constants.{mostWords}
+use Rattle.tsc.specs.Coverage.{IsState}
+use Rattle.card_format.specs.declared.Reading.{Reading}
+use Rattle.card_format.specs.Refusals.{firstOf, NoneApplies}
+use Rattle.card_format.specs.Fields.{field, fields}
+use Rattle.card_format.specs.Reading.{cardOf, formChecks}
+use Rattle.card_format.specs.Verdict.{cardChecks, periodChecks, verdict, accepting}
+use Rattle.card_format.proofs.Refusals.{first-none, none-first, first-append, first-left, none-left, none-right}
+use Rattle.card_format.proofs.Sound.{sound-value, sound-card}
+use Rattle.card_format.proofs.Verdict.{period-none, words-sound}
+use Rattle.generator.specs.declared.call.Opened.{Opened}
+use Rattle.generator.specs.State.{Accepted, used, Holds, holding}
+use Rattle.generator.specs.Calls.{stateChecks, refusalFor, unlessRefused, opened, refusedWith, opening}
+use Rattle.generator.proofs.Holding.{take-holding}
+
+-- the values of an accepted card
+pub accepted-card : (bytes : List ℕ) → verdict bytes ≡ 0 → Accepted (cardOf bytes)
+unfolding verdict cardOf field fields
+accepted-card bytes z =
+    let none = none-first (cardChecks bytes) z in
+    let sound = none-left (formChecks bytes) (periodChecks (cardOf bytes)) none in
+    let formed = sound-card bytes sound in
+    record {
+      formed = formed;
+      period = period-none (cardOf bytes) formed .0 (none-right (formChecks bytes) (periodChecks (cardOf bytes)) none);
+      few = words-sound bytes sound;
+      narrow = sound-value bytes sound 1 (omega arith) refl .1;
+    }
+
+-- the check's answer on an accepted card
+pub accepting-passed : (bytes : List ℕ) (r : Reading) → r ≡ accepting bytes → r .refusal ≡ 0 → (verdict bytes ≡ 0) × (r .card ≡ cardOf bytes)
+unfolding accepting
+accepting-passed bytes r e z =
+    let v : verdict bytes ≡ 0 = sym (ap (λ (r : Reading). r .refusal) e) ∙ z in
+    (v, ap (λ (r : Reading). r .card) e ∙ rw v refl)
+
+module _ (bytes xs : List ℕ) where
+  pub refusal-card : verdict bytes ≢ 0 → verdict bytes ≡ refusalFor bytes xs
+  unfolding verdict refusalFor
+  refusal-card ne = sym (first-left (cardChecks bytes) (stateChecks (cardOf bytes) xs) ne)
+
+  pub refusal-state : verdict bytes ≡ 0 → firstOf (stateChecks (cardOf bytes) xs) ≡ refusalFor bytes xs
+  unfolding verdict refusalFor
+  refusal-state z = sym (first-append (cardChecks bytes) (stateChecks (cardOf bytes) xs) (none-first (cardChecks bytes) z))
+
+  -- no refusal: the card is accepted and the words are a state of its size
+  pub passed : refusalFor bytes xs ≡ 0 → (verdict bytes ≡ 0) × IsState (cardOf bytes) xs
+  unfolding verdict refusalFor stateChecks NoneApplies
+  passed z =
+      let n : ℕ = cardOf bytes .width in
+      let none = none-first (cardChecks bytes ++ stateChecks (cardOf bytes) xs) z in
+      let state = none-right (cardChecks bytes) (stateChecks (cardOf bytes) xs) none in
+      let size : length xs ≡ cardOf bytes .words = eqb-true (length xs) (cardOf bytes .words) (not-false _ (state .0)) in (
+        first-none (cardChecks bytes) (none-left (cardChecks bytes) (stateChecks (cardOf bytes) xs) none),
+        (size, λ k l. ltb-true (getD xs k 0) (2 ^ n) (every-at (length xs) (λ k. ltb (getD xs k 0) (2 ^ n)) (not-false _ (state .1 .0)) k (omega arith))),
+      )
+
+  pub opening-refused : (r : ℕ) → r ≢ 0 → r ≡ refusalFor bytes xs → refusedWith r ≡ opening bytes xs
+  unfolding opening
+  opening-refused r ne e = rw (sym e) (simp (ne-eqb r 0 ne))
+
+  pub opening-passed : refusalFor bytes xs ≡ 0 → opened (cardOf bytes) xs ≡ opening bytes xs
+  unfolding opening
+  opening-passed z = rw z refl
+
+  -- what a call begins with tells whether it is refused
+  pub begun-refused : (o : Opened) → o ≡ opening bytes xs → o .refusal ≢ 0 → (o .refusal ≡ refusalFor bytes xs) × (refusalFor bytes xs ≢ 0)
+  begun-refused o e ne = go (ℕ-discrete (refusalFor bytes xs) 0)
+    where
+      go : Dec (refusalFor bytes xs ≡ 0) → (o .refusal ≡ refusalFor bytes xs) × (refusalFor bytes xs ≢ 0)
+      go (yes z) = absurd (ne (ap (λ (o : Opened). o .refusal) (e ∙ sym (opening-passed z))))
+      go (no n) = (ap (λ (o : Opened). o .refusal) (e ∙ sym (opening-refused (refusalFor bytes xs) n refl)), n)
+
+  pub begun : (o : Opened) → o ≡ opening bytes xs → o .refusal ≡ 0 → (refusalFor bytes xs ≡ 0) × (o .card ≡ cardOf bytes) × (o .state ≡ holding xs)
+  begun o e z = go (ℕ-discrete (refusalFor bytes xs) 0)
+    where
+      go : Dec (refusalFor bytes xs ≡ 0) → (refusalFor bytes xs ≡ 0) × (o .card ≡ cardOf bytes) × (o .state ≡ holding xs)
+      go (yes p) = let f = e ∙ sym (opening-passed p) in (p, ap (λ (o : Opened). o .card) f, ap (λ (o : Opened). o .state) f)
+      go (no n) = absurd (n (sym (ap (λ (o : Opened). o .refusal) (e ∙ sym (opening-refused (refusalFor bytes xs) n refl))) ∙ z))
+
+  pub unless-refused : (ys : List ℕ) → refusalFor bytes xs ≢ 0 → xs ≡ unlessRefused bytes xs ys
+  unless-refused ys ne = simp (ne-eqb (refusalFor bytes xs) 0 ne)
+
+  pub unless-passed : (ys : List ℕ) → refusalFor bytes xs ≡ 0 → ys ≡ unlessRefused bytes xs ys
+  unless-passed ys z = simp (eq-eqb (refusalFor bytes xs) 0 z)
+
+-- a state of the card's size by value
+pub held : (card : Card) (xs : List ℕ) → IsState card xs → used card (holding xs) ≡ xs
+held card xs sx = take-holding (card .words) xs (sx .0)
+
+pub holds : (card : Card) (xs : List ℕ) → IsState card xs → Holds card (holding xs)
+holds card xs sx = rw (held card xs sx) (sx, refl)

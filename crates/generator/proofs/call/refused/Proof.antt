@@ -1,0 +1,24 @@
+use Rattle.generator.specs.declared.call.Opened.{Opened}
+use Rattle.generator.specs.State.{holding}
+use mathlib.Core.List.{[]}
+use mathlib.Core.Path.{ap}
+use native.Mathlib.Omega.{arith}
+use Rattle.tsc.specs.declared.Card.{Card}
+use Rattle.card_format.specs.declared.Reading.{Reading}
+use borrow.Author.Needs.{needs}
+use Rattle.generator.proofs.call.refused.Statement.{statement}
+use Rattle.generator.proofs.call.refused.Tie as tie
+use Rattle.generator.proofs.call.refused.Reads as reads
+use Rattle.generator.proofs.call.refused.Lts as lts
+use Rattle.card.proofs.read.refused.Reads as refused-reads
+
+-- src/call.rt:29:9
+refused-requires : tie.Need-refused-requires
+refused-requires c κs = search needs
+
+-- src/call.rt:26:1
+returns : tie.Need-returns
+returns c = ap {B = Opened} (λ (k : Card). record { refusal = c .before .before .args .number; card = k; state = holding [] }) (ap (λ (r : Reading). r .card) (c .before .refused .ensures))
+
+pub refused-spec : {M : Type 1} → statement M
+refused-spec = tie.close (tie.spec refused-requires returns)

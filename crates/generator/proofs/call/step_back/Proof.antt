@@ -1,0 +1,78 @@
+use mathlib.Core.Path.{_≡_, sym, ap, _∙_, subst}
+use native.Mathlib.Omega.{arith}
+use Rattle.tsc.specs.Coverage.{IsState, stepBack}
+use Rattle.card_format.specs.Reading.{cardOf}
+use Rattle.generator.proofs.Opening.{unless-passed}
+use Rattle.tsc.specs.Step.{step}
+use Rattle.tsc.proofs.StepBack.{step-back-in-range, step-of-back, back-only}
+use Rattle.generator.specs.Calls.{steppedBack}
+use Rattle.generator.proofs.Called.{call-refused, none, accepted, in-range, few, ready, moved, stored}
+use borrow.Author.Needs.{needs}
+use Rattle.generator.proofs.call.step_back.Statement.{statement}
+use Rattle.generator.proofs.call.step_back.Tie as tie
+use Rattle.generator.proofs.call.step_back.Reads as reads
+use Rattle.generator.proofs.call.step_back.Lts as lts
+use Rattle.generator.proofs.call.open.Reads as open-reads
+use Rattle.generator.proofs.lent.store.Reads as store-reads
+use Rattle.generator.proofs.state.previous_state.Reads as previous-state-reads
+
+-- src/call.rt:81:9
+open-requires : tie.Need-open-requires
+open-requires c κs = search needs
+
+-- src/call.rt:83:9
+same-length : tie.Need-same-length
+same-length c = search needs
+
+-- src/call.rt:83:9
+returns : tie.Need-returns
+unfolding steppedBack
+returns c = let a = c .before .before .before .before .before .before .args in call-refused (a .card .now) (a .state .now) (stepBack (cardOf (a .card .now)) (a .state .now)) _ _ (c .before .before .«open» .ensures) (c .if1 .taken)
+
+-- src/call.rt:87:9
+previous-state-requires : tie.Need-previous-state-requires
+previous-state-requires c κs = let a = c .before .before .before .before .before .before .before .before .args in ready (a .card .now) (a .state .now) _ (c .before .before .before .before .«open» .ensures) (c .before .before .if1 .left)
+
+-- src/call.rt:88:5
+store-requires : tie.Need-store-requires
+store-requires c κs = let a = c .before .before .before .before .before .before .before .before .before .before .args in few (a .card .now) (a .state .now) _ (c .before .before .before .before .before .before .«open» .ensures) (c .before .before .before .before .if1 .left)
+
+-- src/call.rt:76:1
+same-length-2 : tie.Need-same-length-2
+same-length-2 c = search needs
+
+-- src/call.rt:76:1
+returns-2 : tie.Need-returns-2
+unfolding steppedBack
+returns-2 c =
+    let bytes = c .before .before .before .before .before .before .before .before .before .before .before .before .before .args .card .now in
+    let xs = c .before .before .before .before .before .before .before .before .before .before .before .before .before .args .state .now in
+    let card = cardOf bytes in
+    let e = c .before .before .before .before .before .before .before .before .before .«open» .ensures in
+    let z = c .before .before .before .before .before .before .before .if1 .left in
+    let held = in-range bytes xs _ e z in
+    let state = step-back-in-range card xs held in
+    let exit = c .before .before .store .ensures ∙ stored bytes xs _ e z (stepBack card xs) _ state (moved bytes xs _ e z stepBack _ (c .before .before .before .before .previous-state .ensures)) in
+    let ok = accepted bytes xs _ e z in (
+      sym (none bytes xs _ e z),
+      (
+        exit ∙ unless-passed bytes xs (stepBack card xs) (none bytes xs _ e z),
+        λ _. (
+          subst (IsState card) (sym exit) state,
+          ap (step card) exit ∙ step-of-back card (ok .formed) (ok .period) xs held,
+          λ zs sz h. back-only card (ok .formed) (ok .period) zs xs sz held h ∙ sym exit,
+        ),
+      ),
+    )
+
+pub step-back-spec : {M : Type 1} → statement M
+step-back-spec =
+    tie.close
+    (tie.spec
+    open-requires
+    same-length
+    returns
+    previous-state-requires
+    store-requires
+    same-length-2
+    returns-2)

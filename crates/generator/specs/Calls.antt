@@ -1,0 +1,57 @@
+-- What the calls answer and what the lent state words are after them (document 01, Refusal table, and Step, word and pick), for any bytes and any words.
+use mathlib.Core.Path.{_≡_}
+use mathlib.Core.Bool.{cond, not}
+use mathlib.Core.List.{List, [], _∷_, _++_}
+use Prim.Native.Nat.{ℕ, _^_}
+use lib.Dec.{eqb, ltb}
+use lib.ListN.{length, getD}
+use Rattle.cycle.specs.Notation.{every}
+use Rattle.tsc.specs.declared.Card.{Card}
+use Rattle.tsc.specs.Coverage.{IsState, stepBack}
+use Rattle.tsc.specs.Step.{step}
+use Rattle.tsc.specs.Word.{word}
+use Rattle.card_format.specs.Refusals.{Check, check, firstOf, wordCount, wordTooWide}
+use Rattle.card_format.specs.Reading.{cardOf, noCard}
+use Rattle.card_format.specs.Verdict.{cardChecks}
+use Rattle.generator.specs.declared.call.Opened.{Opened}
+use Rattle.generator.specs.declared.Draw.{Draw}
+use Rattle.generator.specs.declared.Draw.the-variants.{Word, Refused}
+use Rattle.generator.specs.State.{holding}
+
+-- conditions 10 and 11: the state has not m words; a word is 2^n or more
+unfoldable pub stateChecks : Card → List ℕ → List Check
+stateChecks card xs =
+    check wordCount (not (eqb (length xs) (card .words))) ∷ check wordTooWide (not (every (length xs) (λ k. ltb (getD xs k 0) (2 ^ card .width)))) ∷ []
+
+-- the refusal that a step, a step back and a draw tell of a card's bytes and a state: 1 to 9, then 10 and 11; 0 where none applies
+unfoldable pub refusalFor : List ℕ → List ℕ → ℕ
+refusalFor bytes xs = firstOf (cardChecks bytes ++ stateChecks (cardOf bytes) xs)
+
+-- the state words after a call: ys, or as lent where it refuses
+abbrev pub unlessRefused : List ℕ → List ℕ → List ℕ → List ℕ
+unlessRefused bytes xs ys = cond (eqb (refusalFor bytes xs) 0) ys xs
+
+-- after a step, and after a draw
+unfoldable pub stepped : List ℕ → List ℕ → List ℕ
+stepped bytes xs = unlessRefused bytes xs (step (cardOf bytes) xs)
+
+unfoldable pub steppedBack : List ℕ → List ℕ → List ℕ
+steppedBack bytes xs = unlessRefused bytes xs (stepBack (cardOf bytes) xs)
+
+-- xs is the one state whose step is ys
+abbrev pub OnlyBefore : Card → List ℕ → List ℕ → Type 0
+OnlyBefore card xs ys = IsState card xs × (step card xs ≡ ys) × ((zs : List ℕ) → IsState card zs → step card zs ≡ ys → zs ≡ xs)
+
+-- what a draw answers: the word of the state after the step, or the refusal
+unfoldable pub drawing : List ℕ → List ℕ → Draw
+drawing bytes xs = cond (eqb (refusalFor bytes xs) 0) (Word (word (cardOf bytes) (step (cardOf bytes) xs))) (Refused (refusalFor bytes xs))
+
+-- what the calls begin with: the card's values and the state, or a refusal with neither
+abbrev pub opened : Card → List ℕ → Opened
+opened card xs = record { refusal = 0; card = card; state = holding xs }
+
+abbrev pub refusedWith : ℕ → Opened
+refusedWith r = record { refusal = r; card = noCard; state = holding [] }
+
+unfoldable pub opening : List ℕ → List ℕ → Opened
+opening bytes xs = cond (eqb (refusalFor bytes xs) 0) (opened (cardOf bytes) xs) (refusedWith (refusalFor bytes xs))

@@ -1,0 +1,56 @@
+// Lent state words: refused, loaded, and stored.
+ghost use mathlib.Core.Path.{_≡_};
+ghost use Prim.Native.Nat.{_≤_};
+ghost use lib.ListN.{length, take};
+ghost use Rattle.tsc.specs.Constants.{mostWords};
+ghost use Rattle.card_format.specs.Refusals.{firstOf};
+ghost use Rattle.generator.specs.State.{holding};
+ghost use Rattle.generator.specs.Calls.{stateChecks};
+use card_fields::field;
+use card_format::refusal;
+use tsc::Card;
+use tsc::MOST_WORDS;
+use tsc::State;
+
+// The first of refusals 10 and 11 that applies, or 0.
+pub fn state_refusal(card: Card, state: &[u32]) -> u8
+    ensures { λ r. ⌜ r ≡ firstOf (stateChecks card (now (state .entry))) ⌝ }
+{
+    if state.len() != card.words as usize {
+        return refusal::WORD_COUNT;
+    }
+    let mut k = 0;
+    while k < state.len() {
+        if field::exceeds(state[k], card.width as u32) {
+            return refusal::WORD_TOO_WIDE;
+        }
+        k += 1;
+    }
+    0
+}
+
+// A state of the lent words, and zeros past them. Callers have found no more words than a state has.
+pub fn load(state: &[u32]) -> State
+    requires { ⌜ length (now state) ≤ mostWords ⌝ }
+    ensures { λ r. ⌜ r ≡ holding (now (state .entry)) ⌝ }
+{
+    let mut s = State { words: [0; MOST_WORDS] };
+    let mut k = 0;
+    while k < state.len() {
+        s.words[k] = state[k];
+        k += 1;
+    }
+    s
+}
+
+// As many of a state's first words as are lent.
+pub fn store(s: State, state: &mut [u32])
+    requires { ⌜ length (now state) ≤ mostWords ⌝ }
+    ensures { λ _. ⌜ now (state .exit) ≡ take (length (now (state .entry))) (s .words) ⌝ }
+{
+    let mut k = 0;
+    while k < state.len() {
+        state[k] = s.words[k];
+        k += 1;
+    }
+}
