@@ -19,9 +19,9 @@ use Rattle.card_format.specs.Reading.{cardOf}
 use Rattle.generator.specs.declared.call.Opened.{Opened}
 use Rattle.generator.specs.declared.Draw.{Draw}
 use Rattle.generator.specs.declared.Draw.the-variants.{Word, Refused}
-use Rattle.generator.specs.State.{Accepted, used, Holds, holding}
+use Rattle.stepping.specs.State.{Accepted, used, Holds, holding}
 use Rattle.generator.specs.Calls.{refusalFor, unlessRefused, opening, drawing}
-use Rattle.generator.proofs.Holding.{take-holding, word-holding}
+use Rattle.stepping.proofs.Holding.{take-holding, word-holding}
 use Rattle.generator.proofs.Opening.{accepted-card, passed, begun, begun-refused, unless-refused, held, holds}
 
 -- a call that is refused, whatever else it promises of an answer 0

@@ -1,5 +1,4 @@
--- Laws of states by value, of states built column by column, and of the calls.
-pub mod Holding
-pub mod Built
+-- Laws of the calls.
 pub mod Opening
 pub mod Called
+pub mod Draws

@@ -6,11 +6,11 @@ use mathlib.Core.List.{List, _++_}
 use Prim.Native.Nat.{ℕ, _^_, _≤_}
 use native.Mathlib.Decide.{ℕ-discrete}
 use native.Mathlib.Omega.{arith}
-use borrow.Author.Tests.{eq-eqb, ne-eqb, eqb-true, ltb-true, not-false}
+use borrow.Author.Tests.{eq-eqb, ne-eqb, eqb-true, lt-ltb, ltb-true, not-false}
 use lib.Dec.{eqb, ltb}
 use lib.ListN.{length, getD}
 use Rattle.cycle.specs.Notation.{every}
-use Rattle.cycle.proofs.Every.{every-at}
+use Rattle.cycle.proofs.Every.{every-at, every-of}
 use Rattle.tsc.specs.declared.Card.{Card}
 use Rattle.tsc.specs.declared.State.{State}
 use Rattle.tsc.specs.Constants.{mostWords}
@@ -24,9 +24,9 @@ use Rattle.card_format.proofs.Refusals.{first-none, none-first, first-append, f
 use Rattle.card_format.proofs.Sound.{sound-value, sound-card}
 use Rattle.card_format.proofs.Verdict.{period-none, words-sound}
 use Rattle.generator.specs.declared.call.Opened.{Opened}
-use Rattle.generator.specs.State.{Accepted, used, Holds, holding}
+use Rattle.stepping.specs.State.{Accepted, used, Holds, holding}
 use Rattle.generator.specs.Calls.{stateChecks, refusalFor, unlessRefused, opened, refusedWith, opening}
-use Rattle.generator.proofs.Holding.{take-holding}
+use Rattle.stepping.proofs.Holding.{take-holding}
 
 -- the values of an accepted card
 pub accepted-card : (bytes : List ℕ) → verdict bytes ≡ 0 → Accepted (cardOf bytes)
@@ -68,6 +68,17 @@ module _ (bytes xs : List ℕ) where
       let size : length xs ≡ cardOf bytes .words = eqb-true (length xs) (cardOf bytes .words) (not-false _ (state .0)) in (
         first-none (cardChecks bytes) (none-left (cardChecks bytes) (stateChecks (cardOf bytes) xs) none),
         (size, λ k l. ltb-true (getD xs k 0) (2 ^ n) (every-at (length xs) (λ k. ltb (getD xs k 0) (2 ^ n)) (not-false _ (state .1 .0)) k (omega arith))),
+      )
+
+  -- and the other way round
+  pub passes : verdict bytes ≡ 0 → IsState (cardOf bytes) xs → refusalFor bytes xs ≡ 0
+  unfolding stateChecks NoneApplies
+  passes z sx =
+      let n : ℕ = cardOf bytes .width in
+      sym (refusal-state z)
+      ∙ first-none (stateChecks (cardOf bytes) xs) (
+        simp (eq-eqb (length xs) (cardOf bytes .words) (sx .0)),
+        (simp (every-of (length xs) (λ k. ltb (getD xs k 0) (2 ^ n)) (λ k l. lt-ltb (getD xs k 0) (2 ^ n) (sx .1 k (omega (arith, sx .0))))), tt),
       )
 
   pub opening-refused : (r : ℕ) → r ≢ 0 → r ≡ refusalFor bytes xs → refusedWith r ≡ opening bytes xs

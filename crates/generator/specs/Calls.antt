@@ -16,7 +16,7 @@ use Rattle.card_format.specs.Verdict.{cardChecks}
 use Rattle.generator.specs.declared.call.Opened.{Opened}
 use Rattle.generator.specs.declared.Draw.{Draw}
 use Rattle.generator.specs.declared.Draw.the-variants.{Word, Refused}
-use Rattle.generator.specs.State.{holding}
+use Rattle.stepping.specs.State.{holding}
 
 -- conditions 10 and 11: the state has not m words; a word is 2^n or more
 unfoldable pub stateChecks : Card → List ℕ → List Check

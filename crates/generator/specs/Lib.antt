@@ -1,3 +1,2 @@
--- States by value, and what the calls on lent slices answer and leave.
-pub mod State
+-- What the calls on lent slices answer and leave.
 pub mod Calls

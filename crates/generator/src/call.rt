@@ -7,9 +7,10 @@ ghost use Rattle.generator.specs.declared.Draw.the-variants.{Word};
 ghost use Rattle.generator.specs.Calls.{refusalFor, refusedWith, opening, stepped, steppedBack, drawing, OnlyBefore};
 use super::Draw;
 use super::lent;
-use super::state;
 use card::check;
 use card::read;
+use stepping::back;
+use stepping::step;
 use tsc::Card;
 use tsc::MOST_WORDS;
 use tsc::State;
@@ -67,7 +68,7 @@ pub fn step(card: &[u8], state: &mut [u32]) -> u8
     }
     let values = begun.card;
     let held = begun.state;
-    let next = state::next_state(values, state::forward(values), held);
+    let next = step::next_state(values, step::forward(values), held);
     lent::store(next, state);
     0
 }
@@ -84,7 +85,7 @@ pub fn step_back(card: &[u8], state: &mut [u32]) -> u8
     }
     let values = begun.card;
     let held = begun.state;
-    let previous = state::previous_state(values, held);
+    let previous = back::previous_state(values, held);
     lent::store(previous, state);
     0
 }
@@ -101,7 +102,7 @@ pub fn draw(card: &[u8], state: &mut [u32]) -> Draw
     }
     let values = begun.card;
     let held = begun.state;
-    let next = state::next_state(values, state::forward(values), held);
+    let next = step::next_state(values, step::forward(values), held);
     lent::store(next, state);
     Draw::Word(filter::word_of(values, next))
 }

@@ -4,7 +4,7 @@ ghost use Prim.Native.Nat.{_≤_};
 ghost use lib.ListN.{length, take};
 ghost use Rattle.tsc.specs.Constants.{mostWords};
 ghost use Rattle.card_format.specs.Refusals.{firstOf};
-ghost use Rattle.generator.specs.State.{holding};
+ghost use Rattle.stepping.specs.State.{holding};
 ghost use Rattle.generator.specs.Calls.{stateChecks};
 use card_fields::field;
 use card_format::refusal;

@@ -5,9 +5,9 @@ use Rattle.card_format.specs.Reading.{cardOf}
 use Rattle.generator.proofs.Opening.{unless-passed}
 use Rattle.tsc.specs.Step.{step}
 use Rattle.tsc.proofs.Step.{step-in-range}
-use Rattle.generator.specs.State.{used}
+use Rattle.stepping.specs.State.{used}
 use Rattle.generator.specs.Calls.{stepped}
-use Rattle.generator.proofs.Holding.{holding-lt}
+use Rattle.stepping.proofs.Holding.{holding-lt}
 use Rattle.generator.proofs.Called.{call-refused, none, accepted, few, ready, moved, stored, word-of-next, narrow-word, narrow-refused, drawing-refused, drawing-word}
 use borrow.Author.Needs.{needs}
 use Rattle.generator.proofs.call.draw.Statement.{statement}
@@ -16,8 +16,8 @@ use Rattle.generator.proofs.call.draw.Reads as reads
 use Rattle.generator.proofs.call.draw.Lts as lts
 use Rattle.generator.proofs.call.open.Reads as open-reads
 use Rattle.generator.proofs.lent.store.Reads as store-reads
-use Rattle.generator.proofs.state.forward.Reads as forward-reads
-use Rattle.generator.proofs.state.next_state.Reads as next-state-reads
+use Rattle.stepping.proofs.step.forward.Reads as forward-reads
+use Rattle.stepping.proofs.step.next_state.Reads as next-state-reads
 use Rattle.words.proofs.filter.word_of.Reads as word-of-reads
 
 -- src/call.rt:98:9

@@ -1,5 +1,5 @@
 use Rattle.generator.specs.declared.call.Opened.{Opened}
-use Rattle.generator.specs.State.{holding}
+use Rattle.stepping.specs.State.{holding}
 use mathlib.Core.List.{[]}
 use mathlib.Core.Path.{ap}
 use native.Mathlib.Omega.{arith}

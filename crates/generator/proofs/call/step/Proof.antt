@@ -15,8 +15,8 @@ use Rattle.generator.proofs.call.step.Reads as reads
 use Rattle.generator.proofs.call.step.Lts as lts
 use Rattle.generator.proofs.call.open.Reads as open-reads
 use Rattle.generator.proofs.lent.store.Reads as store-reads
-use Rattle.generator.proofs.state.forward.Reads as forward-reads
-use Rattle.generator.proofs.state.next_state.Reads as next-state-reads
+use Rattle.stepping.proofs.step.forward.Reads as forward-reads
+use Rattle.stepping.proofs.step.next_state.Reads as next-state-reads
 
 -- src/call.rt:64:9
 open-requires : tie.Need-open-requires

@@ -14,7 +14,7 @@ use Rattle.generator.proofs.call.step_back.Reads as reads
 use Rattle.generator.proofs.call.step_back.Lts as lts
 use Rattle.generator.proofs.call.open.Reads as open-reads
 use Rattle.generator.proofs.lent.store.Reads as store-reads
-use Rattle.generator.proofs.state.previous_state.Reads as previous-state-reads
+use Rattle.stepping.proofs.back.previous_state.Reads as previous-state-reads
 
 -- src/call.rt:81:9
 open-requires : tie.Need-open-requires

@@ -7,7 +7,7 @@ use lib.Seq.{take-all}
 use Rattle.tsc.specs.declared.State.{State}
 use Rattle.tsc.specs.Constants.{mostWords}
 use Rattle.card_format.proofs.Lists.{over, over-suc}
-use Rattle.generator.proofs.Holding.{over-holding}
+use Rattle.stepping.proofs.Holding.{over-holding}
 use Rattle.generator.proofs.lent.load.Statement.{statement}
 use Rattle.generator.proofs.lent.load.Tie as tie
 use Rattle.generator.proofs.lent.load.Reads as reads

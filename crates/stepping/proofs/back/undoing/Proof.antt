@@ -5,10 +5,10 @@ use native.Mathlib.Omega.{arith}
 use lib.Pow.{pow-pos, pow-mono}
 use Rattle.tsc.specs.Constants.{mostWords}
 use borrow.Author.Needs.{needs}
-use Rattle.generator.proofs.state.undoing.Statement.{statement}
-use Rattle.generator.proofs.state.undoing.Tie as tie
-use Rattle.generator.proofs.state.undoing.Reads as reads
-use Rattle.generator.proofs.state.undoing.Lts as lts
+use Rattle.stepping.proofs.back.undoing.Statement.{statement}
+use Rattle.stepping.proofs.back.undoing.Tie as tie
+use Rattle.stepping.proofs.back.undoing.Reads as reads
+use Rattle.stepping.proofs.back.undoing.Lts as lts
 use Rattle.card_fields.proofs.table.entries.Reads as entries-reads
 use Rattle.words.proofs.arithmetic.reduce.Reads as reduce-reads
 

@@ -9,12 +9,12 @@ use Rattle.tsc.specs.Columns.{column}
 use Rattle.columns.specs.Replace.{imageOf}
 use Rattle.tsc.specs.Step.{step}
 use Rattle.tsc.proofs.Step.{step-in-range}
-use Rattle.generator.specs.State.{used}
-use Rattle.generator.proofs.Built.{Built, built-none, built-next, built-lt, built-all, column-used, step-column}
-use Rattle.generator.proofs.state.next_state.Statement.{statement}
-use Rattle.generator.proofs.state.next_state.Tie as tie
-use Rattle.generator.proofs.state.next_state.Reads as reads
-use Rattle.generator.proofs.state.next_state.Lts as lts
+use Rattle.stepping.specs.State.{used}
+use Rattle.stepping.proofs.Built.{Built, built-none, built-next, built-lt, built-all, column-used, step-column}
+use Rattle.stepping.proofs.step.next_state.Statement.{statement}
+use Rattle.stepping.proofs.step.next_state.Tie as tie
+use Rattle.stepping.proofs.step.next_state.Reads as reads
+use Rattle.stepping.proofs.step.next_state.Lts as lts
 use Rattle.columns.proofs.replace.replace_column.Reads as replace-column-reads
 use Rattle.words.proofs.selector.selector_of.Reads as selector-of-reads
 

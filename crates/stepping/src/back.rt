@@ -1,43 +1,16 @@
-// Step and step back of a state by value, for a card that is accepted. The calls on lent slices establish the conditions.
+// The step back of a state by value, for an accepted card. The calls on lent slices establish the conditions.
 ghost use mathlib.Core.Path.{_≡_};
 ghost use Prim.Native.Nat.{_-_, _%_, _^_};
-ghost use Rattle.tsc.specs.Step.{step};
 ghost use Rattle.tsc.specs.Coverage.{stepBack};
-ghost use Rattle.columns.specs.Replace.{IsPower};
-ghost use Rattle.generator.specs.State.{Accepted, used, Holds, holding};
+ghost use Rattle.stepping.specs.State.{Accepted, used, Holds, holding};
 use card_fields::table;
 use columns::power;
-use columns::power::Powers;
 use columns::replace;
 use tsc::Card;
 use tsc::MOST_WORDS;
 use tsc::State;
 use words::arithmetic;
 use words::selector;
-
-// The table's powers for a step, worked out once for all columns and all the steps of a call.
-pub fn forward(card: Card) -> Powers
-    requires { ⌜ Accepted card ⌝ }
-    ensures { λ r. ⌜ IsPower card (card .«odd_power») (r .odd) × IsPower card (card .«even_power») (r .even) ⌝ }
-{
-    power::powers_of(card, card.odd_power as u32, card.even_power as u32)
-}
-
-// The step of a state.
-pub fn next_state(card: Card, p: Powers, s: State) -> State
-    requires { ⌜ Accepted card × Holds card s ⌝ }
-    requires { ⌜ IsPower card (card .«odd_power») (p .odd) × IsPower card (card .«even_power») (p .even) ⌝ }
-    ensures { λ r. ⌜ r ≡ holding (step card (used card s)) ⌝ }
-{
-    let select = selector::selector_of(card, s);
-    let mut out = State { words: [0; MOST_WORDS] };
-    let mut i = 0;
-    while i < card.width as u32 {
-        out = replace::replace_column(p, s, select, i, out);
-        i += 1;
-    }
-    out
-}
 
 // How often the table is applied to undo so many applications: whole rounds of the cycle are made.
 fn undoing(card: Card, times: u8) -> u32

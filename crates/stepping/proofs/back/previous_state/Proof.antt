@@ -12,15 +12,15 @@ use Rattle.tsc.specs.Selector.{selector}
 use Rattle.tsc.proofs.StepBack.{step-back-in-range}
 use Rattle.columns.specs.declared.power.Powers.{Powers}
 use Rattle.columns.specs.Replace.{IsPower}
-use Rattle.generator.specs.State.{used}
-use Rattle.generator.proofs.Built.{Built, built-none, built-next, built-lt, built-all, column-used, back-column}
-use Rattle.generator.proofs.state.previous_state.Statement.{statement}
-use Rattle.generator.proofs.state.previous_state.Tie as tie
-use Rattle.generator.proofs.state.previous_state.Reads as reads
-use Rattle.generator.proofs.state.previous_state.Lts as lts
+use Rattle.stepping.specs.State.{used}
+use Rattle.stepping.proofs.Built.{Built, built-none, built-next, built-lt, built-all, column-used, back-column}
+use Rattle.stepping.proofs.back.previous_state.Statement.{statement}
+use Rattle.stepping.proofs.back.previous_state.Tie as tie
+use Rattle.stepping.proofs.back.previous_state.Reads as reads
+use Rattle.stepping.proofs.back.previous_state.Lts as lts
 use Rattle.columns.proofs.power.powers_of.Reads as powers-of-reads
 use Rattle.columns.proofs.replace.replace_column.Reads as replace-column-reads
-use Rattle.generator.proofs.state.undoing.Reads as undoing-reads
+use Rattle.stepping.proofs.back.undoing.Reads as undoing-reads
 use Rattle.words.proofs.selector.selector_of.Reads as selector-of-reads
 
 abbrev Inv-loop : tie.InvT-loop

@@ -27,8 +27,8 @@ use Rattle.columns.specs.declared.power.Powers.{Powers}
 use Rattle.columns.specs.Replace.{withColumn, IsPower, imageOf}
 use Rattle.columns.proofs.Placed.{withColumn-low}
 use Rattle.columns.proofs.Powers.{image-power}
-use Rattle.generator.specs.State.{Accepted, used, Holds, holding}
-use Rattle.generator.proofs.Holding.{length-holding, take-holding, column-holding, holding-lt}
+use Rattle.stepping.specs.State.{Accepted, used, Holds, holding}
+use Rattle.stepping.proofs.Holding.{length-holding, take-holding, column-holding, holding-lt}
 
 abbrev pub Built : List ℕ → ℕ → State → Type 0
 Built xs i s = s .words ≡ lowWords i (holding xs .words)

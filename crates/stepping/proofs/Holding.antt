@@ -15,7 +15,7 @@ use Rattle.tsc.specs.Columns.{InRange, column}
 use Rattle.tsc.specs.Word.{word}
 use Rattle.tsc.proofs.LowWords.{column-filled}
 use Rattle.tsc.proofs.Word.{word-ext}
-use Rattle.generator.specs.State.{holding}
+use Rattle.stepping.specs.State.{holding}
 
 pub length-holding : (xs : List ℕ) → length xs ≤ mostWords → length (holding xs .words) ≡ mostWords
 length-holding xs h =

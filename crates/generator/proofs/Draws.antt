@@ -1,0 +1,32 @@
+-- Draws one after the other. From a start that a draw does not refuse: no later draw is refused, t draws leave state number t of the orbit, and the next
+-- answers the word of state number t + 1. So a module that steps truly once and then stands is ruled out, from every state.
+use mathlib.Core.Path.{_≡_, refl, sym, ap, _∙_}
+use mathlib.Core.List.{List}
+use Prim.Native.Nat.{ℕ, zero, suc}
+use Rattle.cycle.specs.Notation.{iterate}
+use Rattle.tsc.specs.declared.Card.{Card}
+use Rattle.tsc.specs.Coverage.{IsState}
+use Rattle.tsc.specs.Step.{step, orbit}
+use Rattle.tsc.specs.Word.{word}
+use Rattle.tsc.proofs.Step.{orbit-in-range}
+use Rattle.card_format.specs.Reading.{cardOf}
+use Rattle.generator.specs.declared.Draw.the-variants.{Word}
+use Rattle.generator.specs.Calls.{refusalFor, stepped, drawing}
+use Rattle.generator.proofs.Opening.{passed, passes, unless-passed}
+use Rattle.generator.proofs.Called.{drawing-word}
+
+module _ (bytes start : List ℕ) (z : refusalFor bytes start ≡ 0) where
+  pub never-refused : (t : ℕ) → refusalFor bytes (orbit (cardOf bytes) start t) ≡ 0
+  never-refused t =
+      let p = passed bytes start z in
+      passes bytes (orbit (cardOf bytes) start t) (p .0) (orbit-in-range (cardOf bytes) start (p .1) t)
+
+  pub draws-state : (t : ℕ) → iterate (stepped bytes) t start ≡ orbit (cardOf bytes) start t
+  unfolding iterate stepped
+  draws-state zero = refl
+  draws-state (suc t) = ap (stepped bytes) (draws-state t) ∙ sym (unless-passed bytes (orbit (cardOf bytes) start t) (orbit (cardOf bytes) start (suc t)) (never-refused t))
+
+  pub draws-word : (t : ℕ) → drawing bytes (iterate (stepped bytes) t start) ≡ Word (word (cardOf bytes) (orbit (cardOf bytes) start (suc t)))
+  unfolding iterate
+  draws-word t =
+      ap (drawing bytes) (draws-state t) ∙ sym (drawing-word bytes (orbit (cardOf bytes) start t) _ refl (never-refused t))

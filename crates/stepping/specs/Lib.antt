@@ -1,0 +1,2 @@
+-- States by value.
+pub mod State
