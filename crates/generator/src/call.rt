@@ -32,7 +32,9 @@ fn refused(number: u8) -> Opened
     Opened {
         refusal: number,
         card: card,
-        state: State { words: [0; MOST_WORDS] },
+        state: State {
+            words: [0; MOST_WORDS],
+        },
     }
 }
 

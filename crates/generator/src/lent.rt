@@ -34,7 +34,9 @@ pub fn load(state: &[u32]) -> State
     requires { ⌜ length (now state) ≤ mostWords ⌝ }
     ensures { λ r. ⌜ r ≡ holding (now (state .entry)) ⌝ }
 {
-    let mut s = State { words: [0; MOST_WORDS] };
+    let mut s = State {
+        words: [0; MOST_WORDS],
+    };
     let mut k = 0;
     while k < state.len() {
         s.words[k] = state[k];

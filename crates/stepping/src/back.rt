@@ -26,8 +26,14 @@ pub fn previous_state(card: Card, s: State) -> State
     requires { ⌜ Accepted card × Holds card s ⌝ }
     ensures { λ r. ⌜ r ≡ holding (stepBack card (used card s)) ⌝ }
 {
-    let p = power::powers_of(card, undoing(card, card.odd_power), undoing(card, card.even_power));
-    let mut found = State { words: [0; MOST_WORDS] };
+    let p = power::powers_of(
+        card,
+        undoing(card, card.odd_power),
+        undoing(card, card.even_power),
+    );
+    let mut found = State {
+        words: [0; MOST_WORDS],
+    };
     let mut i = 0;
     while i < card.width as u32 {
         let select = selector::selector_of(card, found);

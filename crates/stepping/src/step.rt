@@ -26,7 +26,9 @@ pub fn next_state(card: Card, p: Powers, s: State) -> State
     ensures { λ r. ⌜ r ≡ holding (step card (used card s)) ⌝ }
 {
     let select = selector::selector_of(card, s);
-    let mut out = State { words: [0; MOST_WORDS] };
+    let mut out = State {
+        words: [0; MOST_WORDS],
+    };
     let mut i = 0;
     while i < card.width as u32 {
         out = replace::replace_column(p, s, select, i, out);
