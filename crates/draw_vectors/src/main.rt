@@ -1,4 +1,5 @@
 // Draws, states and step-backs, run: prints what the second program prints, which reference/src/bin/vectors.rs describes. Its output is the file stdout.
+ghost use Prim.Native.Nat.{_≤_};
 use card_format::Written;
 use generator::Draw;
 use generator::call;
@@ -15,10 +16,18 @@ const EVEN_POWERS: [u8; 7] = [2, 254, 0, 16, 100, 4, 30];
 
 // ---- printing
 
+fn byte(x: u8) -> u64 {
+    x as u64
+}
+
+fn word(x: u32) -> u64 {
+    x as u64
+}
+
 fn print_bytes(bytes: &[u8]) {
     for i in 0..bytes.len() {
         io::write_all(1, b" ");
-        io::print_hex(1, bytes[i] as u64, 2);
+        io::print_hex(1, byte(bytes[i]), 2);
     }
     io::write_all(1, b"\n");
 }
@@ -26,7 +35,7 @@ fn print_bytes(bytes: &[u8]) {
 fn print_words(words: &[u32]) {
     for i in 0..words.len() {
         io::write_all(1, b" ");
-        io::print_hex(1, words[i] as u64, 8);
+        io::print_hex(1, word(words[i]), 8);
     }
     io::write_all(1, b"\n");
 }
@@ -47,7 +56,7 @@ fn print_draw(drawn: Draw) {
 // Eight words.
 fn draw_line(card: &[u8], state: &mut [u32]) {
     print_draw(call::draw(card, state));
-    for _ in 1..8 {
+    for _ in 1..8usize {
         io::write_all(1, b" ");
         print_draw(call::draw(card, state));
     }
@@ -70,28 +79,40 @@ fn back_lines(name: &[u8], card: &[u8], state: &mut [u32], times: usize) {
     }
 }
 
-// The first m words as a state.
-fn print_run(card: &[u8], m: usize, start: [u32; 4], lines: usize) {
-    if 4 < m {
-        return;
+// So many draws undone.
+fn undo(card: &[u8], state: &mut [u32], times: usize) {
+    for _ in 0..times {
+        call::step_back(card, state);
     }
-    let mut first = start;
-    let mut later = start;
+}
+
+// The start, 8 draws a line, the end, three step-backs; then the way back to the start, and two steps before it.
+fn print_run(card: &[u8], state: &mut [u32], lines: usize)
+    requires { ⌜ (1 ≤ lines) × (lines ≤ 125) ⌝ }
+{
     io::write_all(1, b"card");
     print_bytes(card);
     io::write_all(1, b"start");
-    print_words(&first[..m]);
-    draw_lines(card, &mut later[..m], lines);
-    back_lines(b"back", card, &mut later[..m], 3);
-    back_lines(b"before", card, &mut first[..m], 2);
+    print_words(state);
+    draw_lines(card, state, lines);
+    back_lines(b"back", card, state, 3);
+    undo(card, state, 8 * lines - 3);
+    back_lines(b"before", card, state, 2);
 }
 
-fn print_case(card: Card, start: [u32; 4], lines: usize) {
+// The card as the writer writes it, and the first m words of the start.
+fn print_case(card: Card, start: [u32; 4], lines: usize)
+    requires { ⌜ (1 ≤ lines) × (lines ≤ 125) ⌝ }
+{
     let mut page = [0u8; 32];
+    let mut words = start;
+    let m = card.words as usize;
     match card::write::write(card, &mut page) {
         Written::Length(length) => {
             if length <= 32 {
-                print_run(&page[..length], card.words as usize, start, lines);
+                if m <= 4 {
+                    print_run(&page[..length], &mut words[..m], lines);
+                }
             }
         }
         Written::Refused(r) => {
@@ -149,19 +170,36 @@ fn next(x: u32) -> u32 {
     b ^ (b << 5)
 }
 
-// A single cycle of 2^m entries, from three random numbers.
-fn cycle_table(m: u32, a: u32, b: u32, c: u32) -> [u8; 16] {
-    let mut table = [0u8; 16];
-    if 4 < m {
-        return table;
+// 2^m
+fn size_of(m: usize) -> u32
+    ensures { λ r. ⌜ (4 ≤ r) × (r ≤ 16) ⌝ }
+{
+    if m == 2 {
+        return 4;
     }
-    let size: u32 = 1 << m;
+    if m == 3 {
+        return 8;
+    }
+    16
+}
+
+// Entry t of a single cycle.
+fn entry(size: u32, a: u32, b: u32, c: u32, t: u32) -> u8
+    requires { ⌜ 4 ≤ size ⌝ }
+{
     let u = a % size;
     let f = 1 + 4 * (b % 4);
-    let d = c % size - c % size % 2 + 1;
+    let d = c % size - c % size % 2;
+    (((((t ^ u) % 16) * f + (d % 16 + 1)) % size ^ u) % 256) as u8
+}
+
+// A single cycle of 2^m entries, from three random numbers.
+fn cycle_table(m: usize, a: u32, b: u32, c: u32) -> [u8; 16] {
+    let mut table = [0u8; 16];
+    let size = size_of(m);
     let mut t: u32 = 0;
     while t < size {
-        table[t as usize] = ((((t ^ u) % 16 * f + d) % size ^ u) % 256) as u8;
+        table[t as usize] = entry(size, a, b, c, t);
         t += 1;
     }
     table
@@ -211,7 +249,7 @@ fn numbered(number: usize, x: u32) -> u32 {
         Card {
             words: m as u8,
             width: n as u8,
-            table: cycle_table(m as u32, a, b, c),
+            table: cycle_table(m, a, b, c),
             odd_power: ODD_POWERS[number % 5],
             even_power: EVEN_POWERS[number % 7],
             constant: low_bits(n as u32, d) | 1,
@@ -232,14 +270,6 @@ fn every_size() {
 }
 
 // ---- section 3: refusals
-
-fn lent(state: &[u32]) -> [u32; 8] {
-    let mut copy = [0; 8];
-    for k in 0..state.len() {
-        copy[k % 8] = state[k];
-    }
-    copy
-}
 
 fn step_line(card: &[u8], state: &mut [u32]) {
     io::write_all(1, b"step ");
@@ -267,35 +297,30 @@ fn word_line(card: &[u8], state: &mut [u32]) {
     print_words(state);
 }
 
-// Each call from the given state anew.
-fn calls(card: &[u8], state: &[u32]) {
-    let words = state.len();
-    if 8 < words {
-        return;
-    }
-    let mut a = lent(state);
-    let mut b = lent(state);
-    let mut c = lent(state);
-    step_line(card, &mut a[..words]);
-    back_line(card, &mut b[..words]);
-    word_line(card, &mut c[..words]);
+// Each call from the given state: a step is undone by a step back, and a step back by a step. A refusal leaves the state as it was.
+fn calls(card: &[u8], state: &mut [u32]) {
+    step_line(card, state);
+    call::step_back(card, state);
+    back_line(card, state);
+    call::step(card, state);
+    word_line(card, state);
 }
 
 fn refusals() {
-    calls(b"", &[0, 0, 0, 0]);
-    calls(b"\x02\x1c", &[0, 0, 0, 0]);
-    calls(b"\x05\x02\x00\x01\x02\x03", &[0, 0]);
-    calls(b"\x20\x22\x84\x48\x12", &[0, 0, 0, 0]);
-    calls(b"\x08\x02", &[0, 0, 0, 0]);
-    calls(b"\x08\x02", &[1, 2, 3]);
-    calls(b"\x00", &[1, 2, 3]);
-    calls(b"\x00", &[1, 2, 3, 4, 5]);
-    calls(b"\x00", &[]);
-    calls(b"\x02\x1d", &[0, 0, 0, 0x2000_0000]);
-    calls(b"\x02\x1d", &[0x2000_0000, 0, 0]);
+    calls(b"", &mut [0, 0, 0, 0]);
+    calls(b"\x02\x1c", &mut [0, 0, 0, 0]);
+    calls(b"\x05\x02\x00\x01\x02\x03", &mut [0, 0]);
+    calls(b"\x20\x22\x84\x48\x12", &mut [0, 0, 0, 0]);
+    calls(b"\x08\x02", &mut [0, 0, 0, 0]);
+    calls(b"\x08\x02", &mut [1, 2, 3]);
+    calls(b"\x00", &mut [1, 2, 3]);
+    calls(b"\x00", &mut [1, 2, 3, 4, 5]);
+    calls(b"\x00", &mut []);
+    calls(b"\x02\x1d", &mut [0, 0, 0, 0x2000_0000]);
+    calls(b"\x02\x1d", &mut [0x2000_0000, 0, 0]);
     calls(
         b"\x02\x1d",
-        &[0x1fff_ffff, 0x1fff_ffff, 0x1fff_ffff, 0x1fff_ffff],
+        &mut [0x1fff_ffff, 0x1fff_ffff, 0x1fff_ffff, 0x1fff_ffff],
     );
 }
 

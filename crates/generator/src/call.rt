@@ -87,7 +87,7 @@ pub fn step_back(card: &[u8], state: &mut [u32]) -> u8
     }
     let values = begun.card;
     let held = begun.state;
-    let previous = back::previous_state(values, held);
+    let previous = back::previous_state(values, back::backward(values), held);
     lent::store(previous, state);
     0
 }
@@ -104,7 +104,8 @@ pub fn draw(card: &[u8], state: &mut [u32]) -> Draw
     }
     let values = begun.card;
     let held = begun.state;
-    let next = step::next_state(values, step::forward(values), held);
-    lent::store(next, state);
-    Draw::Word(filter::word_of(values, next))
+    let after = step::next_state(values, step::forward(values), held);
+    lent::store(after, state);
+    let word = filter::word_of(values, after);
+    Draw::Word(word)
 }

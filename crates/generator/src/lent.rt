@@ -19,9 +19,10 @@ pub fn state_refusal(card: Card, state: &[u32]) -> u8
     if state.len() != card.words as usize {
         return refusal::WORD_COUNT;
     }
+    let n = card.width as u32;
     let mut k = 0;
     while k < state.len() {
-        if field::exceeds(state[k], card.width as u32) {
+        if field::exceeds(state[k], n) {
             return refusal::WORD_TOO_WIDE;
         }
         k += 1;

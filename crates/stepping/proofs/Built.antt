@@ -27,7 +27,7 @@ use Rattle.columns.specs.declared.power.Powers.{Powers}
 use Rattle.columns.specs.Replace.{withColumn, IsPower, imageOf}
 use Rattle.columns.proofs.Placed.{withColumn-low}
 use Rattle.columns.proofs.Powers.{image-power}
-use Rattle.stepping.specs.State.{Accepted, used, Holds, holding}
+use Rattle.stepping.specs.State.{Accepted, used, Holds, holding, undone}
 use Rattle.stepping.proofs.Holding.{length-holding, take-holding, column-holding, holding-lt}
 
 abbrev pub Built : List ℕ → ℕ → State → Type 0
@@ -55,10 +55,6 @@ module _ (card : Card) (ok : Accepted card) (p : Powers) (xs : List ℕ) (sx : I
   column-few : (ys : List ℕ) → IsState card ys → column i ys < 2 ^ card .words
   column-few ys sy = columns (card .words) ys (sy .0) (card .width) i l
 
-  -- so many more applications make whole rounds of the cycle
-  abbrev undone : ℕ → ℕ
-  undone k = 2 ^ card .words - k % 2 ^ card .words
-
   -- column i of the step
   pub step-column : IsPower card (card .«odd_power») (p .odd) → IsPower card (card .«even_power») (p .even)
       → imageOf p (bit i (selector card xs)) (column i xs) ≡ column i (step card xs)
@@ -67,7 +63,7 @@ module _ (card : Card) (ok : Accepted card) (p : Powers) (xs : List ℕ) (sx : I
       ∙ sym (column-step card (ok .formed) xs (sx .0) i l)
 
   -- column i of the step back, once the columns below it are found: they are all that the selector bit depends on
-  pub back-column : IsPower card (undone (card .«odd_power»)) (p .odd) → IsPower card (undone (card .«even_power»)) (p .even) → (s : State) → Built (stepBack card xs) i s
+  pub back-column : IsPower card (undone card (card .«odd_power»)) (p .odd) → IsPower card (undone card (card .«even_power»)) (p .even) → (s : State) → Built (stepBack card xs) i s
       → imageOf p (bit i (selector card (take (card .words) (s .words)))) (column i xs) ≡ column i (stepBack card xs)
   back-column odd even s b =
       let m : ℕ = card .words in
@@ -81,11 +77,11 @@ module _ (card : Card) (ok : Accepted card) (p : Powers) (xs : List ℕ) (sx : I
       let moved : column i xs ≡ iterate (entry card) (power card z) (column i ys) =
       ap (column i) (sym (step-of-back card (ok .formed) (ok .period) xs sx)) ∙ column-step card (ok .formed) ys (sy .0) i l in
       ap (λ (a : ℕ). imageOf p a (column i xs)) same
-      ∙ image-power card p (undone (card .«odd_power»)) (undone (card .«even_power»)) z (column i xs) odd even (column-few xs sx)
-      ∙ ap (iterate (entry card) (cond (eqb z 1) (undone (card .«odd_power»)) (undone (card .«even_power»)))) moved
+      ∙ image-power card p (undone card (card .«odd_power»)) (undone card (card .«even_power»)) z (column i xs) odd even (column-few xs sx)
+      ∙ ap (iterate (entry card) (cond (eqb z 1) (undone card (card .«odd_power»)) (undone card (card .«even_power»)))) moved
       ∙ back (eqb z 1) (column i ys) (column-few ys sy)
     where
-      back : (t : Bool) (c : ℕ) → c < 2 ^ card .words → iterate (entry card) (cond t (undone (card .«odd_power»)) (undone (card .«even_power»)))
+      back : (t : Bool) (c : ℕ) → c < 2 ^ card .words → iterate (entry card) (cond t (undone card (card .«odd_power»)) (undone card (card .«even_power»)))
           (iterate (entry card) (cond t (card .«odd_power») (card .«even_power»)) c) ≡ c
       back true c h = cycle-undo (2 ^ card .words) (entry card) 0 (pow-pos (card .words)) (ok .period .cycle) (card .«odd_power») c h
       back false c h = cycle-undo (2 ^ card .words) (entry card) 0 (pow-pos (card .words)) (ok .period .cycle) (card .«even_power») c h

@@ -1,10 +1,11 @@
 // The step back of a state by value, for an accepted card. The calls on lent slices establish the conditions.
 ghost use mathlib.Core.Path.{_≡_};
-ghost use Prim.Native.Nat.{_-_, _%_, _^_};
 ghost use Rattle.tsc.specs.Coverage.{stepBack};
-ghost use Rattle.stepping.specs.State.{Accepted, used, Holds, holding};
+ghost use Rattle.columns.specs.Replace.{IsPower};
+ghost use Rattle.stepping.specs.State.{Accepted, used, Holds, holding, undone};
 use card_fields::table;
 use columns::power;
+use columns::power::Powers;
 use columns::replace;
 use tsc::Card;
 use tsc::MOST_WORDS;
@@ -12,25 +13,33 @@ use tsc::State;
 use words::arithmetic;
 use words::selector;
 
-// How often the table is applied to undo so many applications: whole rounds of the cycle are made.
-fn undoing(card: Card, times: u8) -> u32
+// How often the table is applied to undo so many applications.
+fn undoing(card: Card, times: u32) -> u32
     requires { ⌜ Accepted card ⌝ }
-    ensures { λ r. ⌜ r ≡ 2 ^ card .words - times % 2 ^ card .words ⌝ }
+    ensures { λ r. ⌜ r ≡ undone card times ⌝ }
 {
     let m = card.words as u32;
-    table::entries(m) as u32 - arithmetic::reduce(m, times as u32)
+    table::entries(m) as u32 - arithmetic::reduce(m, times)
+}
+
+// The table's powers for a step back: they undo those for a step.
+pub fn backward(card: Card) -> Powers
+    requires { ⌜ Accepted card ⌝ }
+    ensures { λ r. ⌜ IsPower card (undone card (card .«odd_power»)) (r .odd) × IsPower card (undone card (card .«even_power»)) (r .even) ⌝ }
+{
+    let odd = card.odd_power as u32;
+    let even = card.even_power as u32;
+    let odd_undone = undoing(card, odd);
+    let even_undone = undoing(card, even);
+    power::powers_of(card, odd_undone, even_undone)
 }
 
 // The step back of a state, from the lowest column up: the columns found so far are all that the next selector bit depends on.
-pub fn previous_state(card: Card, s: State) -> State
+pub fn previous_state(card: Card, p: Powers, s: State) -> State
     requires { ⌜ Accepted card × Holds card s ⌝ }
+    requires { ⌜ IsPower card (undone card (card .«odd_power»)) (p .odd) × IsPower card (undone card (card .«even_power»)) (p .even) ⌝ }
     ensures { λ r. ⌜ r ≡ holding (stepBack card (used card s)) ⌝ }
 {
-    let p = power::powers_of(
-        card,
-        undoing(card, card.odd_power),
-        undoing(card, card.even_power),
-    );
     let mut found = State {
         words: [0; MOST_WORDS],
     };

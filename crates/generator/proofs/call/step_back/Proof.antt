@@ -15,41 +15,39 @@ use Rattle.generator.proofs.call.step_back.Lts as lts
 use Rattle.generator.proofs.call.open.Reads as open-reads
 use Rattle.generator.proofs.lent.store.Reads as store-reads
 use Rattle.stepping.proofs.back.previous_state.Reads as previous-state-reads
+use Rattle.stepping.proofs.back.backward.Reads as backward-reads
 
--- src/call.rt:81:9
 open-requires : tie.Need-open-requires
-open-requires c κs = search needs
+open-requires c κs = omega arith
 
--- src/call.rt:83:9
 same-length : tie.Need-same-length
 same-length c = search needs
 
--- src/call.rt:83:9
 returns : tie.Need-returns
 unfolding steppedBack
-returns c = let a = c .before .before .before .before .before .before .args in call-refused (a .card .now) (a .state .now) (stepBack (cardOf (a .card .now)) (a .state .now)) _ _ (c .before .before .«open» .ensures) (c .if1 .taken)
+returns c = let a = c .before .before .before .before .before .before .args in
+    call-refused (a .card .now) (a .state .now) (stepBack (cardOf (a .card .now)) (a .state .now)) _ _ (c .before .before .«open» .ensures) (c .if1 .taken)
 
--- src/call.rt:87:9
+backward-requires : tie.Need-backward-requires
+backward-requires c κs = let a = c .before .before .before .before .before .before .before .before .args in ready (a .card .now) (a .state .now) _ (c .before .before .before .before .«open» .ensures) (c .before .before .if1 .left) .0
+
 previous-state-requires : tie.Need-previous-state-requires
-previous-state-requires c κs = let a = c .before .before .before .before .before .before .before .before .args in ready (a .card .now) (a .state .now) _ (c .before .before .before .before .«open» .ensures) (c .before .before .if1 .left)
+previous-state-requires c κs = let a = c .before .before .before .before .before .before .before .before .before .args in (ready (a .card .now) (a .state .now) _ (c .before .before .before .before .before .«open» .ensures) (c .before .before .before .if1 .left), c .backward .ensures)
 
--- src/call.rt:88:5
 store-requires : tie.Need-store-requires
-store-requires c κs = let a = c .before .before .before .before .before .before .before .before .before .before .args in few (a .card .now) (a .state .now) _ (c .before .before .before .before .before .before .«open» .ensures) (c .before .before .before .before .if1 .left)
+store-requires c κs = let a = c .before .before .before .before .before .before .before .before .before .before .before .args in few (a .card .now) (a .state .now) _ (c .before .before .before .before .before .before .before .«open» .ensures) (c .before .before .before .before .before .if1 .left)
 
--- src/call.rt:76:1
 same-length-2 : tie.Need-same-length-2
 same-length-2 c = search needs
 
--- src/call.rt:76:1
 returns-2 : tie.Need-returns-2
 unfolding steppedBack
 returns-2 c =
-    let bytes = c .before .before .before .before .before .before .before .before .before .before .before .before .before .args .card .now in
-    let xs = c .before .before .before .before .before .before .before .before .before .before .before .before .before .args .state .now in
+    let bytes = c .before .before .before .before .before .before .before .before .before .before .before .before .before .before .args .card .now in
+    let xs = c .before .before .before .before .before .before .before .before .before .before .before .before .before .before .args .state .now in
     let card = cardOf bytes in
-    let e = c .before .before .before .before .before .before .before .before .before .«open» .ensures in
-    let z = c .before .before .before .before .before .before .before .if1 .left in
+    let e = c .before .before .before .before .before .before .before .before .before .before .«open» .ensures in
+    let z = c .before .before .before .before .before .before .before .before .if1 .left in
     let held = in-range bytes xs _ e z in
     let state = step-back-in-range card xs held in
     let exit = c .before .before .store .ensures ∙ stored bytes xs _ e z (stepBack card xs) _ state (moved bytes xs _ e z stepBack _ (c .before .before .before .before .previous-state .ensures)) in
@@ -72,6 +70,7 @@ step-back-spec =
     open-requires
     same-length
     returns
+    backward-requires
     previous-state-requires
     store-requires
     same-length-2

@@ -1,90 +1,62 @@
 use mathlib.Core.Path.{_≡_, refl, sym, ap, ap₂, _∙_, subst}
 use mathlib.Core.List.{List}
-use Prim.Native.Nat.{ℕ, _-_, _%_, _^_, _≤_}
+use Prim.Native.Nat.{ℕ, _-_, _≤_}
 use native.Mathlib.Omega.{arith}
 use lib.ListN.{length}
 use Rattle.cycle.specs.Notation.{bit}
 use Rattle.tsc.specs.Constants.{mostWords}
-use Rattle.tsc.specs.Columns.{column}
-use Rattle.columns.specs.Replace.{imageOf}
 use Rattle.tsc.specs.Coverage.{stepBack}
-use Rattle.tsc.specs.Selector.{selector}
 use Rattle.tsc.proofs.StepBack.{step-back-in-range}
-use Rattle.columns.specs.declared.power.Powers.{Powers}
-use Rattle.columns.specs.Replace.{IsPower}
+use Rattle.columns.specs.Replace.{imageOf}
 use Rattle.stepping.specs.State.{used}
 use Rattle.stepping.proofs.Built.{Built, built-none, built-next, built-lt, built-all, column-used, back-column}
 use Rattle.stepping.proofs.back.previous_state.Statement.{statement}
 use Rattle.stepping.proofs.back.previous_state.Tie as tie
 use Rattle.stepping.proofs.back.previous_state.Reads as reads
 use Rattle.stepping.proofs.back.previous_state.Lts as lts
-use Rattle.columns.proofs.power.powers_of.Reads as powers-of-reads
 use Rattle.columns.proofs.replace.replace_column.Reads as replace-column-reads
-use Rattle.stepping.proofs.back.undoing.Reads as undoing-reads
 use Rattle.words.proofs.selector.selector_of.Reads as selector-of-reads
 
 abbrev Inv-loop : tie.InvT-loop
-Inv-loop card s p found₀ i₀ found i = (i ≤ card .width) × Built (stepBack card (used card s)) i found
+Inv-loop card p s found₀ i₀ found i = (i ≤ card .width) × Built (stepBack card (used card s)) i found
 
 abbrev μ-loop : tie.MeasureT-loop
-μ-loop card s p found₀ i₀ found i = card .width - i
-
--- src/state.rt:56:36
-undoing-requires : tie.Need-undoing-requires Inv-loop μ-loop
-undoing-requires c κs = c .pre .0
-
--- src/state.rt:56:67
-undoing-requires-2 : tie.Need-undoing-requires-2 Inv-loop μ-loop
-undoing-requires-2 c κs = c .before .pre .0
-
--- src/state.rt:56:9
-powers-of-requires : tie.Need-powers-of-requires Inv-loop μ-loop
-powers-of-requires c κs = let ok = c .before .before .pre .0 in (ok .formed, ok .few, ok .period .cycle)
+μ-loop card p s found₀ i₀ found i = card .width - i
 
 size : (c : tie.Start Inv-loop μ-loop) → length (stepBack (c .args .card) (used (c .args .card) (c .args .s))) ≤ mostWords
-size c = omega (arith, step-back-in-range (c .args .card) (used (c .args .card) (c .args .s)) (c .pre .1 .0) .0, c .pre .0 .few)
+size c = omega (arith, step-back-in-range (c .args .card) (used (c .args .card) (c .args .s)) (c .pre .0 .1 .0) .0, c .pre .0 .0 .few)
 
--- the powers that undo the step's
-powers : (c : tie.After-powers-of Inv-loop μ-loop) → let card = c .before .before .before .args .card in let p = c .powers-of .result in
-    IsPower card (2 ^ card .words - card .«odd_power» % 2 ^ card .words) (p .odd) × IsPower card (2 ^ card .words - card .«even_power» % 2 ^ card .words) (p .even)
-powers c =
-    let card = c .before .before .before .args .card in
-    let p = c .powers-of .result in (
-      subst (λ (k : ℕ). IsPower card k (p .odd)) (c .before .before .undoing .ensures) (c .powers-of .ensures .0),
-      subst (λ (k : ℕ). IsPower card k (p .even)) (c .before .undoing2 .ensures) (c .powers-of .ensures .1),
-    )
-
--- src/state.rt:59:5
+-- src/back.rt:47:5
 loop-holds : tie.Need-loop-holds Inv-loop μ-loop
-loop-holds c = let a = c .before .before .before .args in (omega arith, built-none (stepBack (a .card) (used (a .card) (a .s))) (size (c .before .before .before)) _ refl)
+loop-holds c = let a = c .args in (omega arith, built-none (stepBack (a .card) (used (a .card) (a .s))) (size c) _ refl)
 
--- src/state.rt:59:15
+-- src/back.rt:47:15
 cast-if1 : tie.Need-cast-if1 Inv-loop μ-loop
 cast-if1 c = omega arith
 
--- src/state.rt:60:13
+-- src/back.rt:48:13
 selector-of-requires : tie.Need-selector-of-requires Inv-loop μ-loop
-selector-of-requires c κs = let ok = c .before .before .before .before .before .before .pre .0 in (omega (arith, ok .formed .width), ok .narrow, ok .few)
+selector-of-requires c κs = let ok = c .before .before .before .pre .0 .0 in (omega (arith, ok .formed .width), ok .narrow, ok .few)
 
--- src/state.rt:61:9
+-- src/back.rt:49:9
 replace-column-requires : tie.Need-replace-column-requires Inv-loop μ-loop
-replace-column-requires c κs = let a = c .before .before .before .before .before .before .before .args in let l = c .before .before .before .loop in (omega (arith, c .before .before .before .before .before .before .before .pre .0 .narrow), built-lt (stepBack (a .card) (used (a .card) (a .s))) (l .i) (l .found) (l .inv .1))
+replace-column-requires c κs = let a = c .before .before .before .before .args in let l = c .before .before .before .loop in (omega (arith, c .before .before .before .before .pre .0 .0 .narrow), built-lt (stepBack (a .card) (used (a .card) (a .s))) (l .i) (l .found) (l .inv .1))
 
--- src/state.rt:62:9
+-- src/back.rt:50:9
 add-i : tie.Need-add-i Inv-loop μ-loop
 add-i c = omega arith
 
--- src/state.rt:59:5
+-- src/back.rt:47:5
 loop-less : tie.Need-loop-less Inv-loop μ-loop
 loop-less c = omega arith
 
--- src/state.rt:59:5
+-- src/back.rt:47:5
 loop-again : tie.Need-loop-again Inv-loop μ-loop
-loop-again c = let a = c .before .before .before .before .before .before .before .before .args in let l = c .before .before .before .before .loop in let pre = c .before .before .before .before .before .before .before .before .pre in let q = powers (c .before .before .before .before .before) in (omega arith, built-next _ (size (c .before .before .before .before .before .before .before .before)) (l .i) _ (l .found) _ (l .inv .1) (c .replace-column .ensures) (ap₂ (λ (z d : ℕ). imageOf (c .before .before .before .before .before .powers-of .result) (bit (l .i) z) d) (c .before .selector-of .ensures) (column-used (a .card) (a .s) (pre .1) (l .i)) ∙ back-column (a .card) (pre .0) (c .before .before .before .before .before .powers-of .result) (used (a .card) (a .s)) (pre .1 .0) (l .i) (c .before .before .if1 .taken) (q .0) (q .1) (l .found) (l .inv .1)))
+loop-again c = let a = c .before .before .before .before .before .args in let l = c .before .before .before .before .loop in let pre = c .before .before .before .before .before .pre in (omega arith, built-next _ (size (c .before .before .before .before .before)) (l .i) _ (l .found) _ (l .inv .1) (c .replace-column .ensures) (ap₂ (λ (z d : ℕ). imageOf (a .p) (bit (l .i) z) d) (c .before .selector-of .ensures) (column-used (a .card) (a .s) (pre .0 .1) (l .i)) ∙ back-column (a .card) (pre .0 .0) (a .p) (used (a .card) (a .s)) (pre .0 .1 .0) (l .i) (c .before .before .if1 .taken) (pre .1 .0) (pre .1 .1) (l .found) (l .inv .1)))
 
--- src/state.rt:52:1
+-- src/back.rt:38:1
 returns : tie.Need-returns Inv-loop μ-loop
-returns c = let a = c .before .before .before .before .before .before .args in let l = c .before .before .loop in let e : l .i ≡ a .card .width = omega arith in let before = stepBack (a .card) (used (a .card) (a .s)) in built-all _ _ before (l .found) (step-back-in-range (a .card) (used (a .card) (a .s)) (c .before .before .before .before .before .before .pre .1 .0)) (subst (λ (i : ℕ). Built before i (l .found)) e (l .inv .1))
+returns c = let a = c .before .before .before .args in let l = c .before .before .loop in let e : l .i ≡ a .card .width = omega arith in let before = stepBack (a .card) (used (a .card) (a .s)) in built-all _ _ before (l .found) (step-back-in-range (a .card) (used (a .card) (a .s)) (c .before .before .before .pre .0 .1 .0)) (subst (λ (i : ℕ). Built before i (l .found)) e (l .inv .1))
 
 pub previous-state-spec : {M : Type 1} → statement M
 previous-state-spec =
@@ -92,9 +64,6 @@ previous-state-spec =
     (tie.spec
     Inv-loop
     μ-loop
-    undoing-requires
-    undoing-requires-2
-    powers-of-requires
     loop-holds
     cast-if1
     selector-of-requires

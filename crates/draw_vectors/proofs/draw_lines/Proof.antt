@@ -1,0 +1,65 @@
+use mathlib.Core.Path.{_≡_}
+use Prim.Native.Nat.{_+_, _-_, _%_, _≤_, _<_}
+use native.Mathlib.Omega.{arith}
+use borrow.Author.Needs.{needs}
+use lib.ListN.{length}
+use Rattle.draw_vectors.proofs.draw_lines.Statement.{statement}
+use Rattle.draw_vectors.proofs.draw_lines.Tie as tie
+use Rattle.draw_vectors.proofs.draw_lines.Reads as reads
+use Rattle.draw_vectors.proofs.draw_lines.Lts as lts
+use Rattle.draw_vectors.proofs.draw_line.Reads as draw-line-reads
+use Rattle.draw_vectors.proofs.print_words.Reads as print-words-reads
+use Rattle.io.proofs.write_all.Reads as write-all-reads
+
+abbrev Inv-loop : tie.InvT-loop
+Inv-loop card state₀ lines t4 counter₀ state counter = (counter ≤ lines) × (length state ≡ length state₀)
+
+abbrev μ-loop : tie.MeasureT-loop
+μ-loop card state₀ lines t4 counter₀ state counter = lines - counter
+
+loop-holds : tie.Need-loop-holds Inv-loop μ-loop
+loop-holds c = omega arith
+
+draw-line-requires : tie.Need-draw-line-requires Inv-loop μ-loop
+draw-line-requires c κs = search needs
+
+add-counter : tie.Need-add-counter Inv-loop μ-loop
+add-counter c = omega arith
+
+loop-less : tie.Need-loop-less Inv-loop μ-loop
+loop-less c = omega arith
+
+loop-again : tie.Need-loop-again Inv-loop μ-loop
+loop-again c = omega arith
+
+slice-aggregate-write-all : tie.Need-slice-aggregate-write-all Inv-loop μ-loop
+slice-aggregate-write-all c = search needs
+
+write-all-requires : tie.Need-write-all-requires Inv-loop μ-loop
+write-all-requires c κs = search needs
+
+print-words-requires : tie.Need-print-words-requires Inv-loop μ-loop
+print-words-requires c κs = search needs
+
+same-length : tie.Need-same-length Inv-loop μ-loop
+same-length c = search needs
+
+returns : tie.Need-returns Inv-loop μ-loop
+returns c = search needs
+
+pub draw-lines-spec : {M : Type 1} → statement M
+draw-lines-spec =
+    tie.close
+    (tie.spec
+    Inv-loop
+    μ-loop
+    loop-holds
+    draw-line-requires
+    add-counter
+    loop-less
+    loop-again
+    slice-aggregate-write-all
+    write-all-requires
+    print-words-requires
+    same-length
+    returns)

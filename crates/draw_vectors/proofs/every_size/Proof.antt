@@ -1,0 +1,39 @@
+use mathlib.Core.Path.{_≡_}
+use Prim.Native.Nat.{_+_, _-_, _%_, _≤_, _<_}
+use native.Mathlib.Omega.{arith}
+use borrow.Author.Needs.{needs}
+use lib.ListN.{length}
+use Rattle.draw_vectors.proofs.every_size.Statement.{statement}
+use Rattle.draw_vectors.proofs.every_size.Tie as tie
+use Rattle.draw_vectors.proofs.every_size.Reads as reads
+use Rattle.draw_vectors.proofs.every_size.Lts as lts
+use Rattle.draw_vectors.proofs.numbered.Reads as numbered-reads
+
+abbrev Inv-loop : tie.InvT-loop
+Inv-loop x₀ number₀ x number = number ≤ 372
+
+abbrev μ-loop : tie.MeasureT-loop
+μ-loop x₀ number₀ x number = 372 - number
+
+loop-holds : tie.Need-loop-holds Inv-loop μ-loop
+loop-holds c = omega arith
+
+numbered-requires : tie.Need-numbered-requires Inv-loop μ-loop
+numbered-requires c κs = search needs
+
+add-number : tie.Need-add-number Inv-loop μ-loop
+add-number c = omega arith
+
+loop-less : tie.Need-loop-less Inv-loop μ-loop
+loop-less c = omega arith
+
+loop-again : tie.Need-loop-again Inv-loop μ-loop
+loop-again c = omega arith
+
+returns : tie.Need-returns Inv-loop μ-loop
+returns c = search needs
+
+pub every-size-spec : {M : Type 1} → statement M
+every-size-spec =
+    tie.close
+    (tie.spec Inv-loop μ-loop loop-holds numbered-requires add-number loop-less loop-again returns)

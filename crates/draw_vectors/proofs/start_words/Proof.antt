@@ -1,0 +1,60 @@
+use mathlib.Core.Path.{_≡_}
+use Prim.Native.Nat.{_+_, _-_, _%_, _≤_, _<_}
+use native.Mathlib.Omega.{arith}
+use borrow.Author.Needs.{needs}
+use lib.ListN.{length}
+use Rattle.draw_vectors.proofs.start_words.Statement.{statement}
+use Rattle.draw_vectors.proofs.start_words.Tie as tie
+use Rattle.draw_vectors.proofs.start_words.Reads as reads
+use Rattle.draw_vectors.proofs.start_words.Lts as lts
+use Rattle.draw_vectors.proofs.low_bits.Reads as low-bits-reads
+use Rattle.draw_vectors.proofs.next.Reads as next-reads
+
+abbrev Inv-loop : tie.InvT-loop
+Inv-loop m n x start₀ k₀ start k = k ≤ m
+
+abbrev μ-loop : tie.MeasureT-loop
+μ-loop m n x start₀ k₀ start k = m - k
+
+loop-holds : tie.Need-loop-holds Inv-loop μ-loop
+loop-holds c = omega arith
+
+next-requires : tie.Need-next-requires Inv-loop μ-loop
+next-requires c κs = search needs
+
+low-bits-requires : tie.Need-low-bits-requires Inv-loop μ-loop
+low-bits-requires c κs = search needs
+
+mul-start : tie.Need-mul-start Inv-loop μ-loop
+mul-start c = omega arith
+
+element-write-start : tie.Need-element-write-start Inv-loop μ-loop
+element-write-start c = omega arith
+
+add-k : tie.Need-add-k Inv-loop μ-loop
+add-k c = omega arith
+
+loop-less : tie.Need-loop-less Inv-loop μ-loop
+loop-less c = omega arith
+
+loop-again : tie.Need-loop-again Inv-loop μ-loop
+loop-again c = omega arith
+
+returns : tie.Need-returns Inv-loop μ-loop
+returns c = search needs
+
+pub start-words-spec : {M : Type 1} → statement M
+start-words-spec =
+    tie.close
+    (tie.spec
+    Inv-loop
+    μ-loop
+    loop-holds
+    next-requires
+    low-bits-requires
+    mul-start
+    element-write-start
+    add-k
+    loop-less
+    loop-again
+    returns)
