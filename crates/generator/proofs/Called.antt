@@ -5,7 +5,7 @@ use mathlib.Core.List.{List}
 use Prim.Native.Nat.{ℕ, _^_, _≤_, _<_}
 use native.Mathlib.Omega.{arith}
 use borrow.Author.Tests.{eq-eqb, ne-eqb}
-use lib.ListN.{length, getD, take}
+use lib.ListN.{length, take}
 use lib.Pow.{pow-pos}
 use Rattle.tsc.specs.declared.Card.{Card}
 use Rattle.tsc.specs.declared.State.{State}
@@ -13,7 +13,6 @@ use Rattle.tsc.specs.Constants.{mostWords}
 use Rattle.tsc.specs.Coverage.{IsState}
 use Rattle.tsc.specs.Step.{step}
 use Rattle.tsc.specs.Word.{word}
-use Rattle.tsc.proofs.Step.{step-in-range}
 use Rattle.tsc.proofs.Word.{word-lt}
 use Rattle.card_format.specs.Reading.{cardOf}
 use Rattle.generator.specs.declared.call.Opened.{Opened}

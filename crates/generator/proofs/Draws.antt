@@ -4,9 +4,7 @@ use mathlib.Core.Path.{_≡_, refl, sym, ap, _∙_}
 use mathlib.Core.List.{List}
 use Prim.Native.Nat.{ℕ, zero, suc}
 use Rattle.cycle.specs.Notation.{iterate}
-use Rattle.tsc.specs.declared.Card.{Card}
-use Rattle.tsc.specs.Coverage.{IsState}
-use Rattle.tsc.specs.Step.{step, orbit}
+use Rattle.tsc.specs.Step.{orbit}
 use Rattle.tsc.specs.Word.{word}
 use Rattle.tsc.proofs.Step.{orbit-in-range}
 use Rattle.card_format.specs.Reading.{cardOf}

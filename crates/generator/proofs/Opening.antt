@@ -1,19 +1,15 @@
 -- What the checks of a call come to: a refusal, or an accepted card and a state of its size.
 use mathlib.Core.Path.{_≡_, refl, sym, ap, _∙_}
 use mathlib.Core.Logic.{_≢_}
-use mathlib.Core.Bool.{cond}
 use mathlib.Core.List.{List, _++_}
-use Prim.Native.Nat.{ℕ, _^_, _≤_}
+use Prim.Native.Nat.{ℕ, _^_}
 use native.Mathlib.Decide.{ℕ-discrete}
 use native.Mathlib.Omega.{arith}
 use borrow.Author.Tests.{eq-eqb, ne-eqb, eqb-true, lt-ltb, ltb-true, not-false}
-use lib.Dec.{eqb, ltb}
+use lib.Dec.{ltb}
 use lib.ListN.{length, getD}
-use Rattle.cycle.specs.Notation.{every}
 use Rattle.cycle.proofs.Every.{every-at, every-of}
 use Rattle.tsc.specs.declared.Card.{Card}
-use Rattle.tsc.specs.declared.State.{State}
-use Rattle.tsc.specs.Constants.{mostWords}
 use Rattle.tsc.specs.Coverage.{IsState}
 use Rattle.card_format.specs.declared.Reading.{Reading}
 use Rattle.card_format.specs.Refusals.{firstOf, NoneApplies}

@@ -8,7 +8,7 @@ use lib.ListN.{length, getD, replicate, take}
 use lib.Pow.{mod-pow-add}
 use Rattle.cycle.specs.Notation.{bit}
 use Rattle.cycle.proofs.Bits.{bit-lt, bit-suc, bit-mod}
-use Rattle.tsc.specs.Columns.{InRange, column}
+use Rattle.tsc.specs.Columns.{column}
 
 unfoldable pub lowWords : ℕ → List ℕ → List ℕ
 lowWords i [] = []

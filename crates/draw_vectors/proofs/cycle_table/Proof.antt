@@ -1,9 +1,6 @@
-
-use mathlib.Core.Path.{_≡_}
-use Prim.Native.Nat.{_+_, _-_, _%_, _≤_, _<_}
+use Prim.Native.Nat.{_-_, _≤_}
 use native.Mathlib.Omega.{arith}
 use borrow.Author.Needs.{needs}
-use lib.ListN.{length}
 use Rattle.draw_vectors.proofs.cycle_table.Statement.{statement}
 use Rattle.draw_vectors.proofs.cycle_table.Tie as tie
 use Rattle.draw_vectors.proofs.cycle_table.Reads as reads
@@ -18,13 +15,13 @@ abbrev μ-loop : tie.MeasureT-loop
 μ-loop m a b c table₀ size t₀ table t = size - t
 
 size-of-requires : tie.Need-size-of-requires Inv-loop μ-loop
-size-of-requires c κs = search needs
+size-of-requires c κs = omega arith
 
 loop-holds : tie.Need-loop-holds Inv-loop μ-loop
 loop-holds c = omega arith
 
 entry-requires : tie.Need-entry-requires Inv-loop μ-loop
-entry-requires c κs = search needs
+entry-requires c κs = omega arith
 
 cast-table : tie.Need-cast-table Inv-loop μ-loop
 cast-table c = omega arith
@@ -42,7 +39,7 @@ loop-again : tie.Need-loop-again Inv-loop μ-loop
 loop-again c = omega arith
 
 returns : tie.Need-returns Inv-loop μ-loop
-returns c = search needs
+returns c = omega arith
 
 pub cycle-table-spec : {M : Type 1} → statement M
 cycle-table-spec =

@@ -1,6 +1,5 @@
-
 use mathlib.Core.Path.{_≡_}
-use Prim.Native.Nat.{_+_, _-_, _%_, _≤_, _<_}
+use Prim.Native.Nat.{_-_, _≤_}
 use native.Mathlib.Omega.{arith}
 use borrow.Author.Needs.{needs}
 use lib.ListN.{length}
@@ -19,25 +18,25 @@ abbrev μ-loop : tie.MeasureT-loop
 μ-loop card state₀ t3 t4 counter₀ state counter = 8 - counter
 
 draw-requires : tie.Need-draw-requires Inv-loop μ-loop
-draw-requires c κs = search needs
+draw-requires c κs = omega arith
 
 print-draw-requires : tie.Need-print-draw-requires Inv-loop μ-loop
-print-draw-requires c κs = search needs
+print-draw-requires c κs = omega arith
 
 loop-holds : tie.Need-loop-holds Inv-loop μ-loop
 loop-holds c = omega arith
 
 slice-aggregate-write-all : tie.Need-slice-aggregate-write-all Inv-loop μ-loop
-slice-aggregate-write-all c = search needs
+slice-aggregate-write-all c = omega arith
 
 write-all-requires : tie.Need-write-all-requires Inv-loop μ-loop
-write-all-requires c κs = search needs
+write-all-requires c κs = omega arith
 
 draw-requires-2 : tie.Need-draw-requires-2 Inv-loop μ-loop
-draw-requires-2 c κs = search needs
+draw-requires-2 c κs = omega arith
 
 print-draw-requires-2 : tie.Need-print-draw-requires-2 Inv-loop μ-loop
-print-draw-requires-2 c κs = search needs
+print-draw-requires-2 c κs = omega arith
 
 add-counter : tie.Need-add-counter Inv-loop μ-loop
 add-counter c = omega arith
@@ -49,16 +48,16 @@ loop-again : tie.Need-loop-again Inv-loop μ-loop
 loop-again c = omega arith
 
 slice-aggregate-write-all-2 : tie.Need-slice-aggregate-write-all-2 Inv-loop μ-loop
-slice-aggregate-write-all-2 c = search needs
+slice-aggregate-write-all-2 c = omega arith
 
 write-all-requires-2 : tie.Need-write-all-requires-2 Inv-loop μ-loop
-write-all-requires-2 c κs = search needs
+write-all-requires-2 c κs = omega arith
 
 same-length : tie.Need-same-length Inv-loop μ-loop
-same-length c = search needs
+same-length c = omega arith
 
 returns : tie.Need-returns Inv-loop μ-loop
-returns c = search needs
+returns c = omega arith
 
 pub draw-line-spec : {M : Type 1} → statement M
 draw-line-spec =

@@ -1,5 +1,5 @@
 use Prim.Native.Nat.{_+_, _*_, _%_, _≤_, _<_}
-use native.Mathlib.Nat.{mul-le-mul-right, mod-lt}
+use native.Mathlib.Nat.{mul-le-mul-right}
 use native.Mathlib.Omega.{arith}
 use lib.Bits.{bitXor}
 use borrow.Author.Needs.{needs}
@@ -9,22 +9,22 @@ use Rattle.draw_vectors.proofs.entry.Reads as reads
 use Rattle.draw_vectors.proofs.entry.Lts as lts
 
 rem-u : tie.Need-rem-u
-rem-u c = search needs
+rem-u c = omega arith
 
 mul-f : tie.Need-mul-f
-mul-f c = search needs
+mul-f c = omega arith
 
 add-f : tie.Need-add-f
-add-f c = search needs
+add-f c = omega arith
 
 rem-d : tie.Need-rem-d
-rem-d c = search needs
+rem-d c = omega arith
 
 rem-d-2 : tie.Need-rem-d-2
-rem-d-2 c = search needs
+rem-d-2 c = omega arith
 
 sub-d : tie.Need-sub-d
-sub-d c = search needs
+sub-d c = omega arith
 
 -- a product of small numbers
 small : (c : tie.Start) → let a = c .args in bitXor (a .t) (a .a % a .size) % 16 * (1 + 4 * (a .b % 4)) < 256
@@ -38,19 +38,19 @@ mul-result : tie.Need-mul-result
 mul-result c = omega (arith, small c)
 
 add-result : tie.Need-add-result
-add-result c = search needs
+add-result c = omega arith
 
 add-result-2 : tie.Need-add-result-2
 add-result-2 c = omega (arith, small c)
 
 rem-result : tie.Need-rem-result
-rem-result c = search needs
+rem-result c = omega arith
 
 cast-result : tie.Need-cast-result
-cast-result c = search needs
+cast-result c = omega arith
 
 returns : tie.Need-returns
-returns c = search needs
+returns c = omega arith
 
 pub entry-spec : {M : Type 1} → statement M
 entry-spec =

@@ -1,8 +1,6 @@
-use mathlib.Core.Path.{_≡_}
-use Prim.Native.Nat.{_+_, _-_, _%_, _≤_, _<_}
+use Prim.Native.Nat.{_-_, _≤_}
 use native.Mathlib.Omega.{arith}
 use borrow.Author.Needs.{needs}
-use lib.ListN.{length}
 use Rattle.draw_vectors.proofs.every_size.Statement.{statement}
 use Rattle.draw_vectors.proofs.every_size.Tie as tie
 use Rattle.draw_vectors.proofs.every_size.Reads as reads
@@ -19,7 +17,7 @@ loop-holds : tie.Need-loop-holds Inv-loop μ-loop
 loop-holds c = omega arith
 
 numbered-requires : tie.Need-numbered-requires Inv-loop μ-loop
-numbered-requires c κs = search needs
+numbered-requires c κs = omega arith
 
 add-number : tie.Need-add-number Inv-loop μ-loop
 add-number c = omega arith
@@ -31,7 +29,7 @@ loop-again : tie.Need-loop-again Inv-loop μ-loop
 loop-again c = omega arith
 
 returns : tie.Need-returns Inv-loop μ-loop
-returns c = search needs
+returns c = omega arith
 
 pub every-size-spec : {M : Type 1} → statement M
 every-size-spec =

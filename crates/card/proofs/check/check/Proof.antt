@@ -1,4 +1,3 @@
-use native.Mathlib.Omega.{arith}
 use mathlib.Core.Path.{ap}
 use Rattle.card_format.specs.declared.Reading.{Reading}
 use Rattle.card_format.specs.Verdict.{accepting}

@@ -1,10 +1,9 @@
-use mathlib.Core.Path.{_≡_, refl, sym, ap, ap₂, _∙_}
+use mathlib.Core.Path.{_≡_, sym, ap, ap₂, _∙_}
 use Prim.Native.Nat.{ℕ, suc, _+_, _-_, _*_, _≤_, _<_}
 use native.Mathlib.Omega.{arith}
 use borrow.Author.Needs.{needs}
-use lib.ListN.{length, getD}
+use lib.ListN.{length}
 use lib.Seq.{take-all}
-use Rattle.cycle.specs.Notation.{bit}
 use Rattle.cycle.proofs.Bits.{bit-lt}
 use Rattle.tsc.specs.Constants.{mostWords, widestWidth}
 use Rattle.tsc.specs.Columns.{column}
@@ -22,24 +21,19 @@ Inv-loop i s c₀ k₀ c k = (k ≤ mostWords) × (i < widestWidth) × (length (
 abbrev μ-loop : tie.MeasureT-loop
 μ-loop i s c₀ k₀ c k = k
 
--- src/column.rt:27:5
 loop-holds : tie.Need-loop-holds Inv-loop μ-loop
 unfolding column
 loop-holds c = let a = c .args in let four : length (a .t1 .words) ≡ mostWords = search needs in (omega arith, omega arith, four, ap (column (a .i)) (sym (words-none mostWords (a .t1 .words) (omega arith))))
 
--- src/column.rt:28:9
 sub-k : tie.Need-sub-k Inv-loop μ-loop
 sub-k c = omega arith
 
--- src/column.rt:29:20
 mul-bit-of : tie.Need-mul-bit-of Inv-loop μ-loop
 mul-bit-of c = omega arith
 
--- src/column.rt:29:20
 element-copy-out-bit-of : tie.Need-element-copy-out-bit-of Inv-loop μ-loop
 element-copy-out-bit-of c = omega arith
 
--- src/column.rt:29:13
 bit-of-requires : tie.Need-bit-of-requires Inv-loop μ-loop
 bit-of-requires c κs = omega arith
 
@@ -53,24 +47,19 @@ few c =
 one : (c : tie.After-bit-of Inv-loop μ-loop) → c .bit-of .result < 2
 one c = rw (c .bit-of .ensures) (bit-lt (c .before .before .before .before .args .i) _)
 
--- src/column.rt:29:37
 mul-c : tie.Need-mul-c Inv-loop μ-loop
 mul-c c = omega (arith, few c)
 
--- src/column.rt:29:13
 add-c : tie.Need-add-c Inv-loop μ-loop
 add-c c = omega (arith, few c, one c)
 
--- src/column.rt:27:5
 loop-less : tie.Need-loop-less Inv-loop μ-loop
 loop-less c = omega arith
 
--- src/column.rt:27:5
 loop-again : tie.Need-loop-again Inv-loop μ-loop
 unfolding column
 loop-again c = let a = c .before .before .before .before .args in let l = c .before .before .before .loop in let e : suc (l .k - 1) ≡ l .k = omega arith in (omega arith, omega arith, l .inv .2, ap₂ (λ (b d : ℕ). b + 2 * d) (c .bit-of .ensures) (l .inv .3 ∙ ap (λ (k : ℕ). column (a .i) (wordsFrom k mostWords (a .t1 .words))) (sym e)) ∙ ap (column (a .i)) (sym (words-next (l .k - 1) mostWords (a .t1 .words) (omega arith) (omega arith))))
 
--- src/column.rt:21:1
 returns : tie.Need-returns Inv-loop μ-loop
 returns c = let a = c .before .before .args in let l = c .before .loop in let e : l .k ≡ 0 = omega arith in l .inv .3 ∙ ap (λ (k : ℕ). column (a .i) (wordsFrom k mostWords (a .t1 .words))) e ∙ ap (column (a .i)) (take-all mostWords (a .t1 .words) (omega arith))
 

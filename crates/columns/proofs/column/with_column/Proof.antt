@@ -1,6 +1,6 @@
 use mathlib.Core.Path.{_≡_, refl, sym, ap, ap₂, _∙_}
 use mathlib.Core.List.{List}
-use Prim.Native.Nat.{ℕ, _+_, _-_, _*_, _%_, _^_, _≤_, _<_}
+use Prim.Native.Nat.{ℕ, _+_, _-_, _*_, _%_, _^_, _≤_}
 use native.Mathlib.Omega.{arith}
 use borrow.Author.Needs.{needs}
 use lib.ListN.{length, getD, set}
@@ -8,7 +8,7 @@ use lib.Pow.{pow-mono}
 use Rattle.cycle.specs.Notation.{bit}
 use Rattle.cycle.proofs.Bits.{bit-lt}
 use Rattle.cycle.proofs.Digits.{getD-tabulate}
-use Rattle.tsc.specs.Constants.{mostWords, widestWidth}
+use Rattle.tsc.specs.Constants.{mostWords}
 use Rattle.card_format.proofs.Lists.{over, over-suc, over-all}
 use Rattle.columns.specs.Replace.{withColumn}
 use Rattle.columns.proofs.Placed.{placed, above-lt, length-withColumn}
@@ -24,27 +24,21 @@ Inv-loop i c s out₀ k₀ out k = (k ≤ mostWords) × (length (s .words) ≡ m
 abbrev μ-loop : tie.MeasureT-loop
 μ-loop i c s out₀ k₀ out k = mostWords - k
 
--- src/column.rt:42:5
 loop-holds : tie.Need-loop-holds Inv-loop μ-loop
 loop-holds c = (omega arith, search needs, refl)
 
--- src/column.rt:43:24
 mul-out : tie.Need-mul-out Inv-loop μ-loop
 mul-out c = omega arith
 
--- src/column.rt:43:24
 element-copy-out-out : tie.Need-element-copy-out-out Inv-loop μ-loop
 element-copy-out-out c = omega arith
 
--- src/column.rt:43:48
 cast-bit-of : tie.Need-cast-bit-of Inv-loop μ-loop
 cast-bit-of c = omega arith
 
--- src/column.rt:43:38
 bit-of-requires : tie.Need-bit-of-requires Inv-loop μ-loop
 bit-of-requires c κs = omega arith
 
--- src/column.rt:43:38
 shl-out : tie.Need-shl-out Inv-loop μ-loop
 shl-out c = c .before .before .before .before .pre .0
 
@@ -56,32 +50,25 @@ here c =
     let k = c .before .before .before .loop .k in
     ap (λ (b : ℕ). b * 2 ^ a .i % 2 ^ 32) (c .bit-of .ensures) ∙ placed (bit k (a .c)) (a .i) 32 (bit-lt k (a .c)) (c .before .before .before .before .pre .0)
 
--- src/column.rt:43:24
 add-out : tie.Need-add-out Inv-loop μ-loop
 add-out c = let a = c .before .before .before .before .args in let l = c .before .before .before .loop in omega (arith, here c, above-lt (getD (a .t1 .words) (l .k) 0) (bit (l .k) (a .c)) (a .i) (c .before .before .before .before .pre .1 (l .k) (omega arith)) (bit-lt (l .k) (a .c)), pow-mono {i = a .i + 1} {j = 32} (omega (arith, c .before .before .before .before .pre .0)))
 
--- src/column.rt:43:9
 mul-out-2 : tie.Need-mul-out-2 Inv-loop μ-loop
 mul-out-2 c = omega arith
 
--- src/column.rt:43:9
 element-write-out : tie.Need-element-write-out Inv-loop μ-loop
 element-write-out c = omega arith
 
--- src/column.rt:44:9
 add-k : tie.Need-add-k Inv-loop μ-loop
 add-k c = omega arith
 
--- src/column.rt:42:5
 loop-less : tie.Need-loop-less Inv-loop μ-loop
 loop-less c = omega arith
 
--- src/column.rt:42:5
 loop-again : tie.Need-loop-again Inv-loop μ-loop
 unfolding withColumn
 loop-again c = let a = c .before .before .before .before .args in let l = c .before .before .before .loop in let w = withColumn (a .i) (a .c) (a .t1 .words) in (omega arith, l .inv .1, ap₂ (λ (t : List ℕ) (v : ℕ). set t (l .k) v) (l .inv .2) (ap (λ (v : ℕ). getD (a .t1 .words) (l .k) 0 + v) (here c) ∙ sym (getD-tabulate mostWords _ (l .k) (omega arith))) ∙ over-suc w (a .t1 .words) (l .k) (omega (arith, length-withColumn (a .i) (a .c) (a .t1 .words))) (omega arith))
 
--- src/column.rt:35:1
 returns : tie.Need-returns Inv-loop μ-loop
 returns c = let a = c .before .before .args in let l = c .before .loop in let e : l .k ≡ mostWords = omega arith in l .inv .2 ∙ ap (over (withColumn (a .i) (a .c) (a .t1 .words)) (a .t1 .words)) e ∙ over-all (withColumn (a .i) (a .c) (a .t1 .words)) (a .t1 .words) mostWords (length-withColumn (a .i) (a .c) (a .t1 .words)) (l .inv .1)
 

@@ -1,5 +1,5 @@
 use mathlib.Core.Path.{_≡_, refl, sym, ap, _∙_}
-use Prim.Native.Nat.{ℕ, suc, _-_, _<_, _≤_}
+use Prim.Native.Nat.{_-_, _<_, _≤_}
 use native.Mathlib.Numerals.{add-one}
 use native.Mathlib.Omega.{arith}
 use Rattle.cycle.specs.Notation.{iterate}
@@ -7,8 +7,6 @@ use Rattle.tsc.specs.Step.{entry}
 use Rattle.columns.proofs.Powers.{stands, stands-few}
 use Rattle.columns.proofs.power.place.Statement.{statement}
 use Rattle.columns.proofs.power.place.Tie as tie
-use Rattle.columns.proofs.power.place.Reads as reads
-use Rattle.columns.proofs.power.place.Lts as lts
 
 abbrev Inv-loop : tie.InvT-loop
 Inv-loop places card y₀ counter₀ y counter = (counter ≤ places) × (y ≡ stands card counter)
@@ -16,7 +14,6 @@ Inv-loop places card y₀ counter₀ y counter = (counter ≤ places) × (y ≡ 
 abbrev μ-loop : tie.MeasureT-loop
 μ-loop places card y₀ counter₀ y counter = places - counter
 
--- src/power.rt:28:5
 loop-holds : tie.Need-loop-holds Inv-loop μ-loop
 unfolding iterate
 loop-holds c = (omega arith, refl)
@@ -24,28 +21,22 @@ loop-holds c = (omega arith, refl)
 few : (c : tie.In-loop Inv-loop μ-loop) → c .before .loop .y < 16
 few c = rw (c .before .loop .inv .1) (stands-few (c .before .before .args .t1) (c .before .before .pre .0) (c .before .before .pre .1) (c .before .loop .counter))
 
--- src/power.rt:29:24
 cast-y : tie.Need-cast-y Inv-loop μ-loop
 cast-y c = omega (arith, few c)
 
--- src/power.rt:29:13
 element-copy-out-y : tie.Need-element-copy-out-y Inv-loop μ-loop
 element-copy-out-y c = few c
 
--- src/power.rt:28:9
 add-counter : tie.Need-add-counter Inv-loop μ-loop
 add-counter c = omega arith
 
--- src/power.rt:28:5
 loop-less : tie.Need-loop-less Inv-loop μ-loop
 loop-less c = omega arith
 
--- src/power.rt:28:5
 loop-again : tie.Need-loop-again Inv-loop μ-loop
 unfolding iterate
 loop-again c = let a = c .before .before .before .args in let l = c .before .before .loop in (omega arith, ap (entry (a .t1)) (l .inv .1) ∙ ap (stands (a .t1)) (sym (add-one (l .counter))))
 
--- src/power.rt:23:1
 returns : tie.Need-returns Inv-loop μ-loop
 returns c = let a = c .before .before .args in let l = c .before .loop in let e : l .counter ≡ a .places = omega arith in l .inv .1 ∙ ap (stands (a .t1)) e
 

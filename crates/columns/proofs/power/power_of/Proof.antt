@@ -1,6 +1,5 @@
 use mathlib.Core.Path.{_≡_, refl, sym, ap, ap₂, _∙_, subst}
-use mathlib.Core.List.{List}
-use Prim.Native.Nat.{ℕ, suc, _+_, _-_, _%_, _^_, _<_, _≤_}
+use Prim.Native.Nat.{ℕ, suc, _+_, _-_, _^_, _<_, _≤_}
 use native.Mathlib.Numerals.{add-one}
 use native.Mathlib.Nat.{add-zero}
 use native.Mathlib.Omega.{arith}
@@ -11,11 +10,6 @@ use Rattle.tsc.specs.Step.{entry}
 use Rattle.columns.proofs.Powers.{stands, stands-few, Filled, filled-none, filled-next, filled-power}
 use Rattle.columns.proofs.power.power_of.Statement.{statement}
 use Rattle.columns.proofs.power.power_of.Tie as tie
-use Rattle.columns.proofs.power.power_of.Reads as reads
-use Rattle.columns.proofs.power.power_of.Lts as lts
-use Rattle.card_fields.proofs.table.entries.Reads as entries-reads
-use Rattle.columns.proofs.power.place.Reads as place-reads
-use Rattle.words.proofs.arithmetic.reduce.Reads as reduce-reads
 
 abbrev Inv-loop : tie.InvT-loop
 Inv-loop times card m power₀ x₀ y₀ counter₀ end power x y counter = (end ≡ 2 ^ card .words) × (counter ≤ end) × (x ≡ stands card counter) × (y ≡ stands card (times + counter)) × Filled card times counter power
@@ -23,23 +17,18 @@ Inv-loop times card m power₀ x₀ y₀ counter₀ end power x y counter = (end
 abbrev μ-loop : tie.MeasureT-loop
 μ-loop times card m power₀ x₀ y₀ counter₀ end power x y counter = end - counter
 
--- src/power.rt:39:13
 cast-m : tie.Need-cast-m Inv-loop μ-loop
 cast-m c = omega arith
 
--- src/power.rt:42:29
 reduce-requires : tie.Need-reduce-requires Inv-loop μ-loop
 reduce-requires c κs = (omega (arith, c .pre .0 .words), omega (arith, c .pre .1))
 
--- src/power.rt:42:9
 place-requires : tie.Need-place-requires Inv-loop μ-loop
 place-requires c κs = (c .before .pre .0, c .before .pre .1)
 
--- src/power.rt:43:17
 entries-requires : tie.Need-entries-requires Inv-loop μ-loop
 entries-requires c κs = c .before .before .pre .1
 
--- src/power.rt:43:5
 loop-holds : tie.Need-loop-holds Inv-loop μ-loop
 unfolding iterate
 loop-holds c = let a = c .before .before .before .args in let k = a .times in (c .entries .ensures, omega arith, refl, c .before .place .ensures ∙ ap (stands (a .t1)) (c .before .before .reduce .ensures) ∙ iterate-mod (entry (a .t1)) (2 ^ a .t1 .words) 0 (c .before .before .before .pre .2 .returns) k ∙ ap (stands (a .t1)) (sym (add-zero k)), filled-none (a .t1) k)
@@ -50,44 +39,34 @@ few-x c = let s = c .before .before .before .before .before in rw (c .before .lo
 few-y : (c : tie.In-loop Inv-loop μ-loop) → c .before .loop .y < 16
 few-y c = let s = c .before .before .before .before .before in rw (c .before .loop .inv .3) (stands-few (s .args .t1) (s .pre .0) (s .pre .1) (s .args .times + c .before .loop .counter))
 
--- src/power.rt:44:15
 cast-power : tie.Need-cast-power Inv-loop μ-loop
 cast-power c = omega (arith, few-x c)
 
--- src/power.rt:44:9
 array-write-power : tie.Need-array-write-power Inv-loop μ-loop
 array-write-power c = few-x c
 
--- src/power.rt:45:24
 cast-x : tie.Need-cast-x Inv-loop μ-loop
 cast-x c = omega (arith, few-x c)
 
--- src/power.rt:45:13
 element-copy-out-x : tie.Need-element-copy-out-x Inv-loop μ-loop
 element-copy-out-x c = few-x c
 
--- src/power.rt:46:24
 cast-y : tie.Need-cast-y Inv-loop μ-loop
 cast-y c = omega (arith, few-y (c .before))
 
--- src/power.rt:46:13
 element-copy-out-y : tie.Need-element-copy-out-y Inv-loop μ-loop
 element-copy-out-y c = few-y (c .before)
 
--- src/power.rt:43:9
 add-counter : tie.Need-add-counter Inv-loop μ-loop
 add-counter c = omega arith
 
--- src/power.rt:43:5
 loop-less : tie.Need-loop-less Inv-loop μ-loop
 loop-less c = omega arith
 
--- src/power.rt:43:5
 loop-again : tie.Need-loop-again Inv-loop μ-loop
 unfolding iterate
 loop-again c = let a = c .before .before .before .before .before .before .before .args in let l = c .before .before .before .loop in let p = c .before .before .before .before .before .before .before .pre in let e : suc (a .times + l .counter) ≡ a .times + (l .counter + 1) = omega arith in (l .inv .0, omega arith, ap (entry (a .t1)) (l .inv .2) ∙ ap (stands (a .t1)) (sym (add-one (l .counter))), ap (entry (a .t1)) (l .inv .3) ∙ ap (stands (a .t1)) e, subst (Filled (a .t1) (a .times) (l .counter + 1)) (sym (ap₂ (set (l .power)) (l .inv .2) (l .inv .3 ∙ iterate-add (entry (a .t1)) (a .times) (l .counter) 0))) (filled-next (a .t1) (p .0) (p .1) (a .times) (l .counter) (l .power) (l .inv .4)))
 
--- src/power.rt:35:1
 returns : tie.Need-returns Inv-loop μ-loop
 returns c = let a = c .before .before .before .before .before .args in let l = c .before .loop in let e : l .counter ≡ 2 ^ a .t1 .words = omega arith in filled-power (a .t1) (a .times) (l .power) (c .before .before .before .before .before .pre .2) (subst (λ (j : ℕ). Filled (a .t1) (a .times) j (l .power)) e (l .inv .4))
 

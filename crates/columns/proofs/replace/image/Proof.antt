@@ -7,27 +7,21 @@ use Rattle.columns.proofs.replace.image.Tie as tie
 use Rattle.columns.proofs.replace.image.Reads as reads
 use Rattle.columns.proofs.replace.image.Lts as lts
 
--- src/replace.rt:19:16
 element-copy-out-result : tie.Need-element-copy-out-result
-element-copy-out-result c = search needs
+element-copy-out-result c = omega arith
 
--- src/replace.rt:19:16
 cast-result : tie.Need-cast-result
 cast-result c = search needs
 
--- src/replace.rt:19:9
 returns : tie.Need-returns
 returns c = rw (eq-eqb _ _ (c .before .if1 .taken)) refl
 
--- src/replace.rt:21:5
 element-copy-out-result-2 : tie.Need-element-copy-out-result-2
-element-copy-out-result-2 c = search needs
+element-copy-out-result-2 c = omega arith
 
--- src/replace.rt:21:5
 cast-result-2 : tie.Need-cast-result-2
 cast-result-2 c = search needs
 
--- src/replace.rt:14:1
 returns-2 : tie.Need-returns-2
 returns-2 c = rw (ne-eqb _ _ (c .before .if1 .left)) refl
 

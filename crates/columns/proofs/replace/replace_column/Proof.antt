@@ -16,23 +16,18 @@ use Rattle.columns.proofs.column.column_of.Reads as column-of-reads
 use Rattle.columns.proofs.column.with_column.Reads as with-column-reads
 use Rattle.columns.proofs.replace.image.Reads as image-reads
 
--- src/replace.rt:30:22
 bit-of-requires : tie.Need-bit-of-requires
-bit-of-requires c κs = search needs
+bit-of-requires c κs = omega arith
 
--- src/replace.rt:30:51
 column-of-requires : tie.Need-column-of-requires
-column-of-requires c κs = search needs
+column-of-requires c κs = omega arith
 
--- src/replace.rt:30:9
 image-requires : tie.Need-image-requires
 image-requires c κs = let a = c .before .before .args in let four : length (a .s .words) ≡ mostWords = search needs in rw (c .column-of .ensures) (subst (λ (k : ℕ). column (a .i) (a .s .words) < 2 ^ k) four (column-lt (a .i) (a .s .words)))
 
--- src/replace.rt:31:5
 with-column-requires : tie.Need-with-column-requires
 with-column-requires c κs = search needs
 
--- src/replace.rt:25:1
 returns : tie.Need-returns
 returns c = let a = c .before .before .before .before .args in c .with-column .ensures ∙ ap (λ (v : ℕ). withColumn (a .i) v (a .below .words)) (c .before .image .ensures ∙ ap₂ (imageOf (a .p)) (c .before .before .before .bit-of .ensures) (c .before .before .column-of .ensures))
 

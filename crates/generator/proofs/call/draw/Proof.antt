@@ -1,6 +1,5 @@
-use mathlib.Core.Path.{_≡_, sym, ap, _∙_, subst}
+use mathlib.Core.Path.{_∙_}
 use native.Mathlib.Omega.{arith}
-use Rattle.tsc.specs.Coverage.{IsState, stepBack}
 use Rattle.card_format.specs.Reading.{cardOf}
 use Rattle.generator.proofs.Opening.{unless-passed}
 use Rattle.tsc.specs.Step.{step}
@@ -8,27 +7,16 @@ use Rattle.tsc.proofs.Step.{step-in-range}
 use Rattle.stepping.specs.State.{used}
 use Rattle.generator.specs.Calls.{stepped}
 use Rattle.stepping.proofs.Holding.{holding-lt}
-use Rattle.generator.proofs.Called.{call-refused, none, accepted, few, ready, moved, stored, word-of-next, narrow-word, narrow-refused, drawing-refused, drawing-word}
-use borrow.Author.Needs.{needs}
+use Rattle.generator.proofs.Called.{call-refused, none, few, ready, moved, stored, word-of-next, narrow-word, narrow-refused, drawing-refused, drawing-word}
 use Rattle.generator.proofs.call.draw.Statement.{statement}
 use Rattle.generator.proofs.call.draw.Tie as tie
-use Rattle.generator.proofs.call.draw.Reads as reads
-use Rattle.generator.proofs.call.draw.Lts as lts
-use Rattle.generator.proofs.call.open.Reads as open-reads
-use Rattle.generator.proofs.lent.store.Reads as store-reads
-use Rattle.stepping.proofs.step.forward.Reads as forward-reads
-use Rattle.stepping.proofs.step.next_state.Reads as next-state-reads
-use Rattle.words.proofs.filter.word_of.Reads as word-of-reads
 
--- src/call.rt:98:9
 open-requires : tie.Need-open-requires
-open-requires c κs = search needs
+open-requires c κs = omega arith
 
--- src/call.rt:100:9
 same-length : tie.Need-same-length
-same-length c = search needs
+same-length c = omega arith
 
--- src/call.rt:100:9
 returns : tie.Need-returns
 unfolding stepped
 returns c =
@@ -37,19 +25,15 @@ returns c =
     let r = call-refused bytes xs (step (cardOf bytes) xs) (Unit {0}) _ (c .before .before .«open» .ensures) (c .if1 .taken) in
     (drawing-refused bytes xs _ (r .0) (λ z. c .if1 .taken (r .0 ∙ z)), (r .1 .0, narrow-refused _ _))
 
--- src/call.rt:104:42
 forward-requires : tie.Need-forward-requires
 forward-requires c κs = let a = c .before .before .before .before .before .before .before .before .args in ready (a .card .now) (a .state .now) _ (c .before .before .before .before .«open» .ensures) (c .before .before .if1 .left) .0
 
--- src/call.rt:104:9
 next-state-requires : tie.Need-next-state-requires
 next-state-requires c κs = let a = c .before .before .before .before .before .before .before .before .before .args in (ready (a .card .now) (a .state .now) _ (c .before .before .before .before .before .«open» .ensures) (c .before .before .before .if1 .left), c .forward .ensures)
 
--- src/call.rt:105:5
 store-requires : tie.Need-store-requires
 store-requires c κs = let a = c .before .before .before .before .before .before .before .before .before .before .before .args in few (a .card .now) (a .state .now) _ (c .before .before .before .before .before .before .before .«open» .ensures) (c .before .before .before .before .before .if1 .left)
 
--- src/call.rt:106:16
 word-of-requires : tie.Need-word-of-requires
 word-of-requires c κs =
     let bytes = c .before .before .before .before .before .before .before .before .before .before .before .before .before .before .args .card .now in
@@ -59,11 +43,9 @@ word-of-requires c κs =
     let card = o .card in
     ((omega (arith, ok .formed .width), ok .narrow), λ k l. rw (c .before .before .before .before .next-state .ensures) (holding-lt (card .words) (card .width) (step card (used card (o .state))) (step-in-range card (used card (o .state))) k))
 
--- src/call.rt:93:1
 same-length-2 : tie.Need-same-length-2
-same-length-2 c = search needs
+same-length-2 c = omega arith
 
--- src/call.rt:93:1
 returns-2 : tie.Need-returns-2
 unfolding stepped
 returns-2 c =

@@ -1,43 +1,28 @@
-use mathlib.Core.Path.{_≡_, refl, sym, ap, ap₂, _∙_}
-use mathlib.Core.List.{List}
-use Prim.Native.Nat.{ℕ, _≤_}
+use mathlib.Core.Path.{_≡_, sym, ap, ap₂, _∙_}
 use native.Mathlib.Omega.{arith}
-use lib.ListN.{length}
 use Rattle.tsc.specs.declared.Card.{Card}
 use Rattle.tsc.specs.declared.State.{State}
-use Rattle.tsc.specs.Constants.{mostWords}
 use Rattle.card_format.specs.declared.Reading.{Reading}
 use Rattle.card_format.specs.Refusals.{firstOf}
 use Rattle.card_format.specs.Verdict.{verdict, accepting}
 use Rattle.generator.specs.declared.call.Opened.{Opened}
 use Rattle.generator.specs.Calls.{stateChecks, refusalFor}
 use Rattle.generator.proofs.Opening.{accepted-card, accepting-passed, refusal-card, refusal-state, passed, opening-refused, opening-passed}
-use borrow.Author.Needs.{needs}
 use Rattle.generator.proofs.call.open.Statement.{statement}
 use Rattle.generator.proofs.call.open.Tie as tie
-use Rattle.generator.proofs.call.open.Reads as reads
-use Rattle.generator.proofs.call.open.Lts as lts
-use Rattle.card.proofs.check.accept.Reads as accept-reads
-use Rattle.generator.proofs.call.refused.Reads as refused-reads
-use Rattle.generator.proofs.lent.load.Reads as load-reads
-use Rattle.generator.proofs.lent.state_refusal.Reads as state-refusal-reads
 
--- src/call.rt:42:9
 accept-requires : tie.Need-accept-requires
 accept-requires c κs = omega arith
 
--- src/call.rt:44:9
 refused-requires : tie.Need-refused-requires
-refused-requires c κs = search needs
+refused-requires c κs = omega arith
 
--- src/call.rt:44:9
 returns : tie.Need-returns
 unfolding accepting
 returns c = let bytes = c .before .before .before .before .before .before .args .card .now in let xs = c .before .before .before .before .before .before .args .state .now in let e : c .before .before .before .accept .result .refusal ≡ verdict bytes = ap (λ (r : Reading). r .refusal) (c .before .before .before .accept .ensures) in c .refused .ensures ∙ opening-refused bytes xs _ (c .before .if1 .taken) (e ∙ refusal-card bytes xs (λ z. c .before .if1 .taken (e ∙ z)))
 
--- src/call.rt:47:9
 state-refusal-requires : tie.Need-state-refusal-requires
-state-refusal-requires c κs = search needs
+state-refusal-requires c κs = omega arith
 
 -- past refusals 1 to 9, the state's refusal is the call's
 told : (c : tie.After-state-refusal) → let s = c .before .before .before .before .before .before .before in c .state-refusal .result ≡ refusalFor (s .args .card .now) (s .args .state .now)
@@ -48,19 +33,15 @@ told c =
     let a = accepting-passed bytes _ (c .before .before .before .before .accept .ensures) (c .before .before .if1 .left) in
     c .state-refusal .ensures ∙ ap (λ (k : Card). firstOf (stateChecks k xs)) (a .1) ∙ refusal-state bytes xs (a .0)
 
--- src/call.rt:49:9
 refused-requires-2 : tie.Need-refused-requires-2
-refused-requires-2 c κs = search needs
+refused-requires-2 c κs = omega arith
 
--- src/call.rt:49:9
 returns-2 : tie.Need-returns-2
 returns-2 c = let bytes = c .before .before .before .before .before .before .before .before .before .args .card .now in let xs = c .before .before .before .before .before .before .before .before .before .args .state .now in c .refused2 .ensures ∙ opening-refused bytes xs _ (c .before .if2 .taken) (told (c .before .before))
 
--- src/call.rt:54:16
 load-requires : tie.Need-load-requires
 load-requires c κs = let bytes = c .before .before .before .before .before .before .before .before .args .card .now in let xs = c .before .before .before .before .before .before .before .before .args .state .now in let p = passed bytes xs (sym (told (c .before)) ∙ c .if2 .left) in omega (arith, p .1 .0, accepted-card bytes (p .0) .few)
 
--- src/call.rt:39:1
 returns-3 : tie.Need-returns-3
 returns-3 c = let bytes = c .before .before .before .before .before .before .before .before .before .args .card .now in let xs = c .before .before .before .before .before .before .before .before .before .args .state .now in ap₂ {C = Opened} (λ (k : Card) (s : State). record { refusal = 0; card = k; state = s }) (accepting-passed bytes _ (c .before .before .before .before .before .before .accept .ensures) (c .before .before .before .before .if1 .left) .1) (c .load .ensures) ∙ opening-passed bytes xs (sym (told (c .before .before)) ∙ c .before .if2 .left)
 

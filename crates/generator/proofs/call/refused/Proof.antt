@@ -5,18 +5,12 @@ use mathlib.Core.Path.{ap}
 use native.Mathlib.Omega.{arith}
 use Rattle.tsc.specs.declared.Card.{Card}
 use Rattle.card_format.specs.declared.Reading.{Reading}
-use borrow.Author.Needs.{needs}
 use Rattle.generator.proofs.call.refused.Statement.{statement}
 use Rattle.generator.proofs.call.refused.Tie as tie
-use Rattle.generator.proofs.call.refused.Reads as reads
-use Rattle.generator.proofs.call.refused.Lts as lts
-use Rattle.card.proofs.read.refused.Reads as refused-reads
 
--- src/call.rt:29:9
 refused-requires : tie.Need-refused-requires
-refused-requires c κs = search needs
+refused-requires c κs = omega arith
 
--- src/call.rt:26:1
 returns : tie.Need-returns
 returns c = ap {B = Opened} (λ (k : Card). record { refusal = c .before .before .args .number; card = k; state = holding [] }) (ap (λ (r : Reading). r .card) (c .before .refused .ensures))
 

@@ -1,4 +1,4 @@
-use mathlib.Core.Path.{_≡_, sym, ap, _∙_, subst}
+use mathlib.Core.Path.{sym, ap, _∙_, subst}
 use native.Mathlib.Omega.{arith}
 use Rattle.tsc.specs.Coverage.{IsState, stepBack}
 use Rattle.card_format.specs.Reading.{cardOf}
@@ -8,46 +8,31 @@ use Rattle.tsc.proofs.Step.{step-in-range}
 use Rattle.tsc.proofs.StepBack.{back-of-step}
 use Rattle.generator.specs.Calls.{stepped}
 use Rattle.generator.proofs.Called.{call-refused, none, accepted, in-range, few, ready, moved, stored}
-use borrow.Author.Needs.{needs}
 use Rattle.generator.proofs.call.step.Statement.{statement}
 use Rattle.generator.proofs.call.step.Tie as tie
-use Rattle.generator.proofs.call.step.Reads as reads
-use Rattle.generator.proofs.call.step.Lts as lts
-use Rattle.generator.proofs.call.open.Reads as open-reads
-use Rattle.generator.proofs.lent.store.Reads as store-reads
-use Rattle.stepping.proofs.step.forward.Reads as forward-reads
-use Rattle.stepping.proofs.step.next_state.Reads as next-state-reads
 
--- src/call.rt:64:9
 open-requires : tie.Need-open-requires
-open-requires c κs = search needs
+open-requires c κs = omega arith
 
--- src/call.rt:66:9
 same-length : tie.Need-same-length
-same-length c = search needs
+same-length c = omega arith
 
--- src/call.rt:66:9
 returns : tie.Need-returns
 unfolding stepped
 returns c = let a = c .before .before .before .before .before .before .args in call-refused (a .card .now) (a .state .now) (step (cardOf (a .card .now)) (a .state .now)) _ _ (c .before .before .«open» .ensures) (c .if1 .taken)
 
--- src/call.rt:70:42
 forward-requires : tie.Need-forward-requires
 forward-requires c κs = let a = c .before .before .before .before .before .before .before .before .args in ready (a .card .now) (a .state .now) _ (c .before .before .before .before .«open» .ensures) (c .before .before .if1 .left) .0
 
--- src/call.rt:70:9
 next-state-requires : tie.Need-next-state-requires
 next-state-requires c κs = let a = c .before .before .before .before .before .before .before .before .before .args in (ready (a .card .now) (a .state .now) _ (c .before .before .before .before .before .«open» .ensures) (c .before .before .before .if1 .left), c .forward .ensures)
 
--- src/call.rt:71:5
 store-requires : tie.Need-store-requires
 store-requires c κs = let a = c .before .before .before .before .before .before .before .before .before .before .before .args in few (a .card .now) (a .state .now) _ (c .before .before .before .before .before .before .before .«open» .ensures) (c .before .before .before .before .before .if1 .left)
 
--- src/call.rt:59:1
 same-length-2 : tie.Need-same-length-2
-same-length-2 c = search needs
+same-length-2 c = omega arith
 
--- src/call.rt:59:1
 returns-2 : tie.Need-returns-2
 unfolding stepped
 returns-2 c =

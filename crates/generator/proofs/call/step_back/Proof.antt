@@ -1,4 +1,4 @@
-use mathlib.Core.Path.{_≡_, sym, ap, _∙_, subst}
+use mathlib.Core.Path.{sym, ap, _∙_, subst}
 use native.Mathlib.Omega.{arith}
 use Rattle.tsc.specs.Coverage.{IsState, stepBack}
 use Rattle.card_format.specs.Reading.{cardOf}
@@ -7,21 +7,14 @@ use Rattle.tsc.specs.Step.{step}
 use Rattle.tsc.proofs.StepBack.{step-back-in-range, step-of-back, back-only}
 use Rattle.generator.specs.Calls.{steppedBack}
 use Rattle.generator.proofs.Called.{call-refused, none, accepted, in-range, few, ready, moved, stored}
-use borrow.Author.Needs.{needs}
 use Rattle.generator.proofs.call.step_back.Statement.{statement}
 use Rattle.generator.proofs.call.step_back.Tie as tie
-use Rattle.generator.proofs.call.step_back.Reads as reads
-use Rattle.generator.proofs.call.step_back.Lts as lts
-use Rattle.generator.proofs.call.open.Reads as open-reads
-use Rattle.generator.proofs.lent.store.Reads as store-reads
-use Rattle.stepping.proofs.back.previous_state.Reads as previous-state-reads
-use Rattle.stepping.proofs.back.backward.Reads as backward-reads
 
 open-requires : tie.Need-open-requires
 open-requires c κs = omega arith
 
 same-length : tie.Need-same-length
-same-length c = search needs
+same-length c = omega arith
 
 returns : tie.Need-returns
 unfolding steppedBack
@@ -38,7 +31,7 @@ store-requires : tie.Need-store-requires
 store-requires c κs = let a = c .before .before .before .before .before .before .before .before .before .before .before .args in few (a .card .now) (a .state .now) _ (c .before .before .before .before .before .before .before .«open» .ensures) (c .before .before .before .before .before .if1 .left)
 
 same-length-2 : tie.Need-same-length-2
-same-length-2 c = search needs
+same-length-2 c = omega arith
 
 returns-2 : tie.Need-returns-2
 unfolding steppedBack

@@ -3,15 +3,12 @@ use mathlib.Core.List.{List}
 use Prim.Native.Nat.{ℕ, _-_, _≤_}
 use native.Mathlib.Omega.{arith}
 use lib.ListN.{length, getD, set, replicate}
-use lib.Seq.{take-all}
 use Rattle.tsc.specs.declared.State.{State}
 use Rattle.tsc.specs.Constants.{mostWords}
 use Rattle.card_format.proofs.Lists.{over, over-suc}
 use Rattle.stepping.proofs.Holding.{over-holding}
 use Rattle.generator.proofs.lent.load.Statement.{statement}
 use Rattle.generator.proofs.lent.load.Tie as tie
-use Rattle.generator.proofs.lent.load.Reads as reads
-use Rattle.generator.proofs.lent.load.Lts as lts
 
 abbrev Inv-loop : tie.InvT-loop
 Inv-loop state s₀ k₀ s k = (k ≤ length state) × (length state ≤ mostWords) × (s .words ≡ over state (replicate mostWords 0) k)
@@ -19,39 +16,30 @@ Inv-loop state s₀ k₀ s k = (k ≤ length state) × (length state ≤ mostWor
 abbrev μ-loop : tie.MeasureT-loop
 μ-loop state s₀ k₀ s k = length state - k
 
--- src/lent.rt:39:5
 loop-holds : tie.Need-loop-holds Inv-loop μ-loop
 loop-holds c = (omega arith, omega arith, refl)
 
--- src/lent.rt:40:22
 mul-s : tie.Need-mul-s Inv-loop μ-loop
 mul-s c = omega arith
 
--- src/lent.rt:40:22
 shared-slice-read-s : tie.Need-shared-slice-read-s Inv-loop μ-loop
 shared-slice-read-s c = omega arith
 
--- src/lent.rt:40:9
 mul-s-2 : tie.Need-mul-s-2 Inv-loop μ-loop
 mul-s-2 c = omega arith
 
--- src/lent.rt:40:9
 element-write-s : tie.Need-element-write-s Inv-loop μ-loop
 element-write-s c = omega arith
 
--- src/lent.rt:41:9
 add-k : tie.Need-add-k Inv-loop μ-loop
 add-k c = omega arith
 
--- src/lent.rt:39:5
 loop-less : tie.Need-loop-less Inv-loop μ-loop
 loop-less c = omega arith
 
--- src/lent.rt:39:5
 loop-again : tie.Need-loop-again Inv-loop μ-loop
 loop-again c = let l = c .before .before .loop in let x = c .before .before .before .args .state .now in (omega arith, omega arith, ap (λ (t : List ℕ). set t (l .k) (getD x (l .k) 0)) (l .inv .2) ∙ over-suc x (replicate mostWords 0) (l .k) (omega arith) (omega arith))
 
--- src/lent.rt:33:1
 returns : tie.Need-returns Inv-loop μ-loop
 returns c = let l = c .before .loop in let x = c .before .before .args .state .now in let e : l .k ≡ length x = omega arith in ap {B = State} (λ (w : List ℕ). record { words = w }) (l .inv .2 ∙ ap (over x (replicate mostWords 0)) e ∙ over-holding x)
 

@@ -1,5 +1,5 @@
-use mathlib.Core.Path.{_≡_, refl, sym, ap, _∙_}
-use mathlib.Core.Bool.{true, false}
+use mathlib.Core.Path.{_≡_, sym, _∙_}
+use mathlib.Core.Bool.{true}
 use Prim.Native.Nat.{ℕ, _-_, _^_, _<_, _≤_}
 use native.Mathlib.Omega.{arith}
 use borrow.Author.Tests.{eq-eqb, ne-eqb, lt-ltb, le-ltb, leb-true, leb-false}
@@ -11,9 +11,6 @@ use Rattle.card_format.proofs.Lists.{extend}
 use Rattle.generator.specs.Calls.{stateChecks}
 use Rattle.generator.proofs.lent.state_refusal.Statement.{statement}
 use Rattle.generator.proofs.lent.state_refusal.Tie as tie
-use Rattle.generator.proofs.lent.state_refusal.Reads as reads
-use Rattle.generator.proofs.lent.state_refusal.Lts as lts
-use Rattle.card_fields.proofs.field.exceeds.Reads as exceeds-reads
 
 abbrev Inv-loop : tie.InvT-loop
 Inv-loop state n k₀ k = (k ≤ length state) × ((j : ℕ) → j < k → ltb (getD state j 0) (2 ^ n) ≡ true)
@@ -21,53 +18,41 @@ Inv-loop state n k₀ k = (k ≤ length state) × ((j : ℕ) → j < k → ltb (
 abbrev μ-loop : tie.MeasureT-loop
 μ-loop state n k₀ k = length state - k
 
--- src/lent.rt:19:23
 cast-if1 : tie.Need-cast-if1 Inv-loop μ-loop
 cast-if1 c = omega arith
 
--- src/lent.rt:20:9
 returns : tie.Need-returns Inv-loop μ-loop
 unfolding stateChecks firstOf
 returns c = simp (ne-eqb _ _ (c .if1 .taken))
 
--- src/lent.rt:22:13
 cast-n : tie.Need-cast-n Inv-loop μ-loop
 cast-n c = omega arith
 
--- src/lent.rt:24:5
 loop-holds : tie.Need-loop-holds Inv-loop μ-loop
 loop-holds c = (omega arith, λ j l. absurd (omega arith))
 
--- src/lent.rt:25:27
 mul-exceeds : tie.Need-mul-exceeds Inv-loop μ-loop
 mul-exceeds c = omega arith
 
--- src/lent.rt:25:27
 shared-slice-read-exceeds : tie.Need-shared-slice-read-exceeds Inv-loop μ-loop
 shared-slice-read-exceeds c = omega arith
 
--- src/lent.rt:25:12
 exceeds-requires : tie.Need-exceeds-requires Inv-loop μ-loop
 exceeds-requires c κs = tt
 
--- src/lent.rt:26:13
 returns-2 : tie.Need-returns-2 Inv-loop μ-loop
 unfolding stateChecks firstOf
 returns-2 c = let a = c .before .before .before .before .before .before .before .before .before .args in let x = a .state .now in let k = c .before .before .before .before .loop .k in simp (eq-eqb _ _ (c .before .before .before .before .before .before .if1 .left), every-not (length x) (λ k. ltb (getD x k 0) (2 ^ a .card .width)) k (omega arith) (le-ltb (getD x k 0) (2 ^ a .card .width) (leb-true _ _ (sym (c .before .exceeds .ensures) ∙ c .if2 .taken))))
 
--- src/lent.rt:28:9
 add-k : tie.Need-add-k Inv-loop μ-loop
 add-k c = omega arith
 
--- src/lent.rt:24:5
 loop-less : tie.Need-loop-less Inv-loop μ-loop
 loop-less c = omega arith
 
--- src/lent.rt:24:5
 loop-again : tie.Need-loop-again Inv-loop μ-loop
 loop-again c = let a = c .before .before .before .before .before .before .before .before .before .args in let l = c .before .before .before .before .loop in (omega arith, extend (λ j. ltb (getD (a .state .now) j 0) (2 ^ a .card .width) ≡ true) (l .k) (l .inv .1) (lt-ltb (getD (a .state .now) (l .k) 0) (2 ^ a .card .width) (leb-false _ _ (sym (c .before .exceeds .ensures) ∙ c .if2 .left))))
 
--- src/lent.rt:16:1
 returns-3 : tie.Need-returns-3 Inv-loop μ-loop
 unfolding stateChecks firstOf
 returns-3 c = let a = c .before .before .before .before .before .before .args in let l = c .before .loop in let x = a .state .now in let e : l .k ≡ length x = omega arith in simp (eq-eqb _ _ (c .before .before .before .if1 .left), every-of (length x) (λ k. ltb (getD x k 0) (2 ^ a .card .width)) (λ j h. l .inv .1 j (omega arith)))

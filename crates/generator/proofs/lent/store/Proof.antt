@@ -18,43 +18,33 @@ Inv-loop state₀ s k₀ state k = (k ≤ length state₀) × (length state₀ �
 abbrev μ-loop : tie.MeasureT-loop
 μ-loop state₀ s k₀ state k = length state₀ - k
 
--- src/lent.rt:52:5
 loop-holds : tie.Need-loop-holds Inv-loop μ-loop
 loop-holds c = (omega arith, omega arith, refl, search needs, refl)
 
--- src/lent.rt:53:20
 mul-state : tie.Need-mul-state Inv-loop μ-loop
 mul-state c = omega arith
 
--- src/lent.rt:53:20
 element-copy-out-state : tie.Need-element-copy-out-state Inv-loop μ-loop
 element-copy-out-state c = omega arith
 
--- src/lent.rt:53:9
 mul-state-2 : tie.Need-mul-state-2 Inv-loop μ-loop
 mul-state-2 c = omega arith
 
--- src/lent.rt:53:9
 slice-write-state : tie.Need-slice-write-state Inv-loop μ-loop
 slice-write-state c = omega arith
 
--- src/lent.rt:54:9
 add-k : tie.Need-add-k Inv-loop μ-loop
 add-k c = omega arith
 
--- src/lent.rt:52:5
 loop-less : tie.Need-loop-less Inv-loop μ-loop
 loop-less c = omega arith
 
--- src/lent.rt:52:5
 loop-again : tie.Need-loop-again Inv-loop μ-loop
 loop-again c = let a = c .before .before .before .args in let l = c .before .before .loop in (omega arith, omega arith, length-set (l .state) (l .k) _ ∙ l .inv .2, l .inv .3, ap (λ (t : List ℕ). set t (l .k) (getD (a .t1 .words) (l .k) 0)) (l .inv .4) ∙ over-suc (a .t1 .words) (a .state .now) (l .k) (omega arith) (omega arith))
 
--- src/lent.rt:47:1
 same-length : tie.Need-same-length Inv-loop μ-loop
 same-length c = c .before .loop .inv .2
 
--- src/lent.rt:47:1
 returns : tie.Need-returns Inv-loop μ-loop
 returns c = let a = c .before .before .args in let l = c .before .loop in let e : l .k ≡ length (a .state .now) = omega arith in l .inv .4 ∙ ap (over (a .t1 .words) (a .state .now)) e ∙ ap (λ (r : List ℕ). take (length (a .state .now)) (a .t1 .words) ++ r) (drop-length (a .state .now)) ∙ append-nil _
 

@@ -2,35 +2,24 @@ use mathlib.Core.Path.{subst}
 use Prim.Native.Nat.{ℕ}
 use native.Mathlib.Omega.{arith}
 use Rattle.columns.specs.Replace.{IsPower}
-use borrow.Author.Needs.{needs}
 use Rattle.stepping.proofs.back.backward.Statement.{statement}
 use Rattle.stepping.proofs.back.backward.Tie as tie
-use Rattle.stepping.proofs.back.backward.Reads as reads
-use Rattle.stepping.proofs.back.backward.Lts as lts
-use Rattle.columns.proofs.power.powers_of.Reads as powers-of-reads
-use Rattle.stepping.proofs.back.undoing.Reads as undoing-reads
 
--- src/back.rt:30:15
 cast-odd : tie.Need-cast-odd
 cast-odd c = omega arith
 
--- src/back.rt:31:16
 cast-even : tie.Need-cast-even
 cast-even c = omega arith
 
--- src/back.rt:32:9
 undoing-requires : tie.Need-undoing-requires
 undoing-requires c κs = c .before .before .pre
 
--- src/back.rt:33:9
 undoing-requires-2 : tie.Need-undoing-requires-2
 undoing-requires-2 c κs = c .before .before .before .pre
 
--- src/back.rt:34:5
 powers-of-requires : tie.Need-powers-of-requires
 powers-of-requires c κs = let ok = c .before .before .before .before .pre in (ok .formed, ok .few, ok .period .cycle)
 
--- src/back.rt:26:1
 returns : tie.Need-returns
 returns c = let card = c .before .before .before .before .before .args .card in let p = c .powers-of .result in (subst (λ (k : ℕ). IsPower card k (p .odd)) (c .before .before .undoing .ensures) (c .powers-of .ensures .0), subst (λ (k : ℕ). IsPower card k (p .even)) (c .before .undoing2 .ensures) (c .powers-of .ensures .1))
 

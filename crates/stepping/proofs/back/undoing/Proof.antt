@@ -1,38 +1,27 @@
-use mathlib.Core.Path.{_≡_, ap₂, _∙_}
-use Prim.Native.Nat.{ℕ, _-_, _%_, _^_}
+use mathlib.Core.Path.{ap₂}
+use Prim.Native.Nat.{ℕ, _-_}
 use native.Mathlib.Nat.{mod-lt}
 use native.Mathlib.Omega.{arith}
 use lib.Pow.{pow-pos, pow-mono}
 use Rattle.tsc.specs.Constants.{mostWords}
-use borrow.Author.Needs.{needs}
 use Rattle.stepping.proofs.back.undoing.Statement.{statement}
 use Rattle.stepping.proofs.back.undoing.Tie as tie
-use Rattle.stepping.proofs.back.undoing.Reads as reads
-use Rattle.stepping.proofs.back.undoing.Lts as lts
-use Rattle.card_fields.proofs.table.entries.Reads as entries-reads
-use Rattle.words.proofs.arithmetic.reduce.Reads as reduce-reads
 
--- src/state.rt:45:13
 cast-m : tie.Need-cast-m
-cast-m c = search needs
+cast-m c = omega arith
 
--- src/state.rt:46:5
 entries-requires : tie.Need-entries-requires
 entries-requires c κs = c .before .pre .few
 
--- src/state.rt:46:5
 cast-result : tie.Need-cast-result
 cast-result c = omega (arith, c .entries .ensures, pow-mono {i = c .before .before .args .card .words} {j = mostWords} (c .before .before .pre .few))
 
--- src/state.rt:46:32
 reduce-requires : tie.Need-reduce-requires
 reduce-requires c κs = let ok = c .before .before .pre in (omega (arith, ok .formed .words), omega (arith, ok .few))
 
--- src/state.rt:46:5
 sub-result : tie.Need-sub-result
 sub-result c = omega (arith, c .before .entries .ensures, c .reduce .ensures, mod-lt (c .before .before .before .args .times) (pow-pos (c .before .before .before .args .card .words)))
 
--- src/state.rt:41:1
 returns : tie.Need-returns
 returns c = ap₂ (λ (x y : ℕ). x - y) (c .before .entries .ensures) (c .reduce .ensures)
 

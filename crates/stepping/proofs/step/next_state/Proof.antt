@@ -1,11 +1,9 @@
-use mathlib.Core.Path.{_≡_, refl, sym, ap, ap₂, _∙_, subst}
-use mathlib.Core.List.{List}
+use mathlib.Core.Path.{_≡_, refl, ap₂, _∙_, subst}
 use Prim.Native.Nat.{ℕ, _-_, _≤_}
 use native.Mathlib.Omega.{arith}
 use lib.ListN.{length}
 use Rattle.cycle.specs.Notation.{bit}
 use Rattle.tsc.specs.Constants.{mostWords}
-use Rattle.tsc.specs.Columns.{column}
 use Rattle.columns.specs.Replace.{imageOf}
 use Rattle.tsc.specs.Step.{step}
 use Rattle.tsc.proofs.Step.{step-in-range}
@@ -13,10 +11,6 @@ use Rattle.stepping.specs.State.{used}
 use Rattle.stepping.proofs.Built.{Built, built-none, built-next, built-lt, built-all, column-used, step-column}
 use Rattle.stepping.proofs.step.next_state.Statement.{statement}
 use Rattle.stepping.proofs.step.next_state.Tie as tie
-use Rattle.stepping.proofs.step.next_state.Reads as reads
-use Rattle.stepping.proofs.step.next_state.Lts as lts
-use Rattle.columns.proofs.replace.replace_column.Reads as replace-column-reads
-use Rattle.words.proofs.selector.selector_of.Reads as selector-of-reads
 
 abbrev Inv-loop : tie.InvT-loop
 Inv-loop card p s select out₀ i₀ out i = (i ≤ card .width) × Built (step card (used card s)) i out
@@ -24,38 +18,30 @@ Inv-loop card p s select out₀ i₀ out i = (i ≤ card .width) × Built (step 
 abbrev μ-loop : tie.MeasureT-loop
 μ-loop card p s select out₀ i₀ out i = card .width - i
 
--- src/state.rt:32:9
 selector-of-requires : tie.Need-selector-of-requires Inv-loop μ-loop
 selector-of-requires c κs = let ok = c .pre .0 .0 in (omega (arith, ok .formed .width), ok .narrow, ok .few)
 
 size : (c : tie.Start Inv-loop μ-loop) → length (step (c .args .card) (used (c .args .card) (c .args .s))) ≤ mostWords
 size c = omega (arith, step-in-range (c .args .card) (used (c .args .card) (c .args .s)) .0, c .pre .0 .0 .few)
 
--- src/state.rt:35:5
 loop-holds : tie.Need-loop-holds Inv-loop μ-loop
 loop-holds c = let a = c .before .args in (omega arith, built-none (step (a .card) (used (a .card) (a .s))) (size (c .before)) _ refl)
 
--- src/state.rt:35:15
 cast-if1 : tie.Need-cast-if1 Inv-loop μ-loop
 cast-if1 c = omega arith
 
--- src/state.rt:36:9
 replace-column-requires : tie.Need-replace-column-requires Inv-loop μ-loop
 replace-column-requires c κs = let a = c .before .before .before .before .args in let l = c .before .before .loop in (omega (arith, c .before .before .before .before .pre .0 .0 .narrow), built-lt (step (a .card) (used (a .card) (a .s))) (l .i) (l .out) (l .inv .1))
 
--- src/state.rt:37:9
 add-i : tie.Need-add-i Inv-loop μ-loop
 add-i c = omega arith
 
--- src/state.rt:35:5
 loop-less : tie.Need-loop-less Inv-loop μ-loop
 loop-less c = omega arith
 
--- src/state.rt:35:5
 loop-again : tie.Need-loop-again Inv-loop μ-loop
 loop-again c = let a = c .before .before .before .before .before .args in let l = c .before .before .before .loop in let pre = c .before .before .before .before .before .pre in (omega arith, built-next _ (size (c .before .before .before .before .before)) (l .i) _ (l .out) _ (l .inv .1) (c .replace-column .ensures) (ap₂ (λ (z d : ℕ). imageOf (a .p) (bit (l .i) z) d) (c .before .before .before .before .selector-of .ensures) (column-used (a .card) (a .s) (pre .0 .1) (l .i)) ∙ step-column (a .card) (pre .0 .0) (a .p) (used (a .card) (a .s)) (pre .0 .1 .0) (l .i) (c .before .if1 .taken) (pre .1 .0) (pre .1 .1)))
 
--- src/state.rt:27:1
 returns : tie.Need-returns Inv-loop μ-loop
 returns c = let a = c .before .before .before .before .args in let l = c .before .before .loop in let e : l .i ≡ a .card .width = omega arith in let next = step (a .card) (used (a .card) (a .s)) in built-all _ _ next (l .out) (step-in-range (a .card) (used (a .card) (a .s))) (subst (λ (i : ℕ). Built next i (l .out)) e (l .inv .1))
 

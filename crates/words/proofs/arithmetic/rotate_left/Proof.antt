@@ -6,35 +6,25 @@ use lib.Pow.{pow-mono}
 use Rattle.tsc.specs.Word.{_⋘_}
 use Rattle.tsc.proofs.Word.{rotate-lt}
 use Rattle.words.proofs.Reduced.{narrow}
-use borrow.Author.Needs.{needs}
 use Rattle.words.proofs.arithmetic.rotate_left.Statement.{statement}
 use Rattle.words.proofs.arithmetic.rotate_left.Tie as tie
-use Rattle.words.proofs.arithmetic.rotate_left.Reads as reads
-use Rattle.words.proofs.arithmetic.rotate_left.Lts as lts
-use Rattle.words.proofs.arithmetic.reduce.Reads as reduce-reads
 
--- src/arithmetic.rt:29:18
 rem-places : tie.Need-rem-places
 rem-places c = omega arith
 
--- src/arithmetic.rt:31:9
 returns : tie.Need-returns
 unfolding _⋘_
 returns c = let lx = c .before .pre .2 in rw (c .if1 .taken, mul-one, sub-zero, mod-eq-of-lt lx, div-eq-of-lt lx, add-zero) refl
 
--- src/arithmetic.rt:33:15
 shl-reduce : tie.Need-shl-reduce
 shl-reduce c = omega (arith, mod-lt (c .before .args .k) (c .before .pre .0))
 
--- src/arithmetic.rt:33:5
 reduce-requires : tie.Need-reduce-requires
 reduce-requires c κs = (omega arith, omega arith)
 
--- src/arithmetic.rt:33:37
 sub-result : tie.Need-sub-result
 sub-result c = le-of-lt (mod-lt (c .before .before .args .k) (c .before .before .pre .0))
 
--- src/arithmetic.rt:33:31
 shr-result : tie.Need-shr-result
 shr-result c = omega arith
 
@@ -45,11 +35,9 @@ turned c =
     let a = c .before .before .args in
     ap (λ (m : ℕ). m + a .x / 2 ^ (a .n - a .k % a .n)) (c .reduce .ensures ∙ narrow (a .x * 2 ^ (a .k % a .n)) (a .n) 32 (c .before .before .pre .1))
 
--- src/arithmetic.rt:33:5
 add-result : tie.Need-add-result
 add-result c = let a = c .before .before .args in let p = c .before .before .pre in omega (arith, turned c, rotate-lt (a .n) (a .x) (a .k) (p .0) (p .2), pow-mono {i = a .n} {j = 32} (p .1))
 
--- src/arithmetic.rt:25:1
 returns-2 : tie.Need-returns-2
 returns-2 c = turned c
 

@@ -2,71 +2,51 @@ use mathlib.Core.Path.{refl}
 use native.Mathlib.Omega.{arith}
 use Rattle.tsc.specs.Word.{filter2}
 use Rattle.words.proofs.Reduced.{sum-lt}
-use borrow.Author.Needs.{needs}
 use Rattle.words.proofs.filter.filter_2.Statement.{statement}
 use Rattle.words.proofs.filter.filter_2.Tie as tie
-use Rattle.words.proofs.filter.filter_2.Reads as reads
-use Rattle.words.proofs.filter.filter_2.Lts as lts
-use Rattle.words.proofs.arithmetic.add.Reads as add-reads
-use Rattle.words.proofs.arithmetic.rotate_left.Reads as rotate-left-reads
 
--- src/filter.rt:29:13
 element-copy-out-x : tie.Need-element-copy-out-x
-element-copy-out-x c = search needs
+element-copy-out-x c = omega arith
 
--- src/filter.rt:30:24
 rotate-left-requires : tie.Need-rotate-left-requires
 rotate-left-requires c κs = let p = c .before .pre in (p .0 .0, p .0 .1, p .1 0 (omega arith))
 
--- src/filter.rt:30:47
 element-copy-out-add : tie.Need-element-copy-out-add
-element-copy-out-add c = search needs
+element-copy-out-add c = omega arith
 
--- src/filter.rt:30:9
 add-requires : tie.Need-add-requires
-add-requires c κs = search needs
+add-requires c κs = omega arith
 
--- src/filter.rt:31:25
 rotate-left-requires-2 : tie.Need-rotate-left-requires-2
 rotate-left-requires-2 c κs = let p = c .before .before .before .before .pre in (p .0 .0, p .0 .1, p .1 0 (omega arith))
 
--- src/filter.rt:31:48
 element-copy-out-add-2 : tie.Need-element-copy-out-add-2
-element-copy-out-add-2 c = search needs
+element-copy-out-add-2 c = omega arith
 
--- src/filter.rt:31:9
 add-requires-2 : tie.Need-add-requires-2
-add-requires-2 c κs = search needs
+add-requires-2 c κs = omega arith
 
--- src/filter.rt:32:23
 rotate-left-requires-3 : tie.Need-rotate-left-requires-3
 rotate-left-requires-3 c κs = let p = c .before .before .before .before .before .before .before .pre in (p .0 .0, p .0 .1, p .1 0 (omega arith))
 
--- src/filter.rt:32:46
 element-copy-out-add-3 : tie.Need-element-copy-out-add-3
-element-copy-out-add-3 c = search needs
+element-copy-out-add-3 c = omega arith
 
--- src/filter.rt:32:9
 add-requires-3 : tie.Need-add-requires-3
-add-requires-3 c κs = search needs
+add-requires-3 c κs = omega arith
 
--- src/filter.rt:33:19
 rotate-left-requires-4 : tie.Need-rotate-left-requires-4
 rotate-left-requires-4 c κs = let p = c .before .before .before .before .before .before .before .before .before .before .pre in (p .0 .0, p .0 .1, sum-lt _ _ _ _ (c .before .before .before .before .before .before .add .ensures))
 
--- src/filter.rt:33:46
 rotate-left-requires-5 : tie.Need-rotate-left-requires-5
 rotate-left-requires-5 c κs = let p = c .before .before .before .before .before .before .before .before .before .before .before .pre in (p .0 .0, p .0 .1, sum-lt _ _ _ _ (c .before .before .before .before .add2 .ensures))
 
--- src/filter.rt:33:12
 add-requires-4 : tie.Need-add-requires-4
-add-requires-4 c κs = search needs
+add-requires-4 c κs = omega arith
 
--- src/filter.rt:33:5
 add-requires-5 : tie.Need-add-requires-5
-add-requires-5 c κs = search needs
+add-requires-5 c κs = omega arith
 
--- src/filter.rt:24:1
 returns : tie.Need-returns
 unfolding filter2
 returns c = rw (c .add5 .ensures, c .before .add4 .ensures, c .before .before .rotate-left5 .ensures, c .before .before .before .rotate-left4 .ensures, c .before .before .before .before .add3 .ensures, c .before .before .before .before .before .before .rotate-left3 .ensures, c .before .before .before .before .before .before .before .add2 .ensures, c .before .before .before .before .before .before .before .before .before .rotate-left2 .ensures, c .before .before .before .before .before .before .before .before .before .before .add .ensures, c .before .before .before .before .before .before .before .before .before .before .before .before .rotate-left .ensures) refl

@@ -1,4 +1,3 @@
-use mathlib.Core.Path.{_∙_, sym}
 use borrow.Author.Tests.{eq-eqb, ne-eqb}
 use native.Mathlib.Omega.{arith}
 use Rattle.tsc.specs.Word.{word}
@@ -10,24 +9,19 @@ use Rattle.words.proofs.filter.word_of.Lts as lts
 use Rattle.words.proofs.filter.filter_1.Reads as filter-1-reads
 use Rattle.words.proofs.filter.filter_2.Reads as filter-2-reads
 
--- src/filter.rt:42:13
 cast-n : tie.Need-cast-n
-cast-n c = search needs
+cast-n c = omega arith
 
--- src/filter.rt:44:9
 filter-2-requires : tie.Need-filter-2-requires
 filter-2-requires c κs = search needs
 
--- src/filter.rt:44:9
 returns : tie.Need-returns
 unfolding word
 returns c = simp (eq-eqb _ _ (c .before .if1 .taken)) (c .filter-2 .ensures)
 
--- src/filter.rt:46:5
 filter-1-requires : tie.Need-filter-1-requires
 filter-1-requires c κs = search needs
 
--- src/filter.rt:37:1
 returns-2 : tie.Need-returns-2
 unfolding word
 returns-2 c = simp (ne-eqb _ _ (c .before .if1 .left)) (c .filter-1 .ensures)

@@ -1,5 +1,4 @@
 use mathlib.Core.Path.{_≡_, sym, ap, _∙_}
-use mathlib.Core.List.{List}
 use Prim.Native.Nat.{ℕ, suc, _-_, _≤_}
 use native.Mathlib.Omega.{arith}
 use lib.Bits.{bitAnd}
@@ -21,37 +20,29 @@ Inv-loop n m s p₀ k₀ p k = (k ≤ m) × (m ≤ mostWords) × (length (s .wor
 abbrev μ-loop : tie.MeasureT-loop
 μ-loop n m s p₀ k₀ p k = k
 
--- src/selector.rt:18:9
 reduce-requires : tie.Need-reduce-requires Inv-loop μ-loop
 reduce-requires c κs = (c .pre .0, c .pre .1)
 
--- src/selector.rt:20:5
 loop-holds : tie.Need-loop-holds Inv-loop μ-loop
 unfolding andWords
 loop-holds c = let a = c .before .args in let four : length (a .t3 .words) ≡ mostWords = search needs in (omega arith, omega arith, four, c .reduce .ensures ∙ ones-reduced (a .n) 32 (c .before .pre .1) ∙ ap (andWords (a .n)) (sym (words-none (a .m) (a .t3 .words) (omega arith))))
 
--- src/selector.rt:21:9
 sub-k : tie.Need-sub-k Inv-loop μ-loop
 sub-k c = omega arith
 
--- src/selector.rt:22:13
 mul-p : tie.Need-mul-p Inv-loop μ-loop
 mul-p c = omega arith
 
--- src/selector.rt:22:13
 element-copy-out-p : tie.Need-element-copy-out-p Inv-loop μ-loop
 element-copy-out-p c = omega arith
 
--- src/selector.rt:20:5
 loop-less : tie.Need-loop-less Inv-loop μ-loop
 loop-less c = omega arith
 
--- src/selector.rt:20:5
 loop-again : tie.Need-loop-again Inv-loop μ-loop
 unfolding andWords
 loop-again c = let a = c .before .before .before .before .args in let l = c .before .before .loop in let e : suc (l .k - 1) ≡ l .k = omega arith in (omega arith, omega arith, l .inv .2, ap (bitAnd (getD (a .t3 .words) (l .k - 1) 0)) (l .inv .3 ∙ ap (λ (k : ℕ). andWords (a .n) (wordsFrom k (a .m) (a .t3 .words))) (sym e)) ∙ ap (andWords (a .n)) (sym (words-next (l .k - 1) (a .m) (a .t3 .words) (omega arith) (omega arith))))
 
--- src/selector.rt:14:1
 returns : tie.Need-returns Inv-loop μ-loop
 returns c = let a = c .before .before .before .args in let l = c .before .loop in let e : l .k ≡ 0 = omega arith in l .inv .3 ∙ ap (λ (k : ℕ). andWords (a .n) (wordsFrom k (a .m) (a .t3 .words))) e
 

@@ -22,41 +22,32 @@ Inv-loop n m s sum₀ k₀ sum k = (k ≤ m) × (m ≤ mostWords) × (length (s 
 abbrev μ-loop : tie.MeasureT-loop
 μ-loop n m s sum₀ k₀ sum k = k
 
--- src/selector.rt:34:5
 loop-holds : tie.Need-loop-holds Inv-loop μ-loop
 unfolding sumWords
 loop-holds c = let a = c .args in let four : length (a .t3 .words) ≡ mostWords = search needs in (omega arith, omega arith, four, ap (λ (l : List ℕ). sumWords l % 2 ^ 32) (sym (words-none (a .m) (a .t3 .words) (omega arith))))
 
--- src/selector.rt:35:9
 sub-k : tie.Need-sub-k Inv-loop μ-loop
 sub-k c = omega arith
 
--- src/selector.rt:36:32
 mul-wrapping-add-u32 : tie.Need-mul-wrapping-add-u32 Inv-loop μ-loop
 mul-wrapping-add-u32 c = omega arith
 
--- src/selector.rt:36:32
 element-copy-out-wrapping-add-u32 : tie.Need-element-copy-out-wrapping-add-u32 Inv-loop μ-loop
 element-copy-out-wrapping-add-u32 c = omega arith
 
--- src/selector.rt:36:9
 wrapping-add-u32-requires : tie.Need-wrapping-add-u32-requires Inv-loop μ-loop
 wrapping-add-u32-requires c κs = tt
 
--- src/selector.rt:34:5
 loop-less : tie.Need-loop-less Inv-loop μ-loop
 loop-less c = omega arith
 
--- src/selector.rt:34:5
 loop-again : tie.Need-loop-again Inv-loop μ-loop
 unfolding sumWords
 loop-again c = let a = c .before .before .before .before .args in let l = c .before .before .before .loop in let e : suc (l .k - 1) ≡ l .k = omega arith in (omega arith, omega arith, l .inv .2, c .wrapping-add-u32 .ensures ∙ ap (λ (t : ℕ). (getD (a .t3 .words) (l .k - 1) 0 + t) % 2 ^ 32) (l .inv .3 ∙ ap (λ (k : ℕ). sumWords (wordsFrom k (a .m) (a .t3 .words)) % 2 ^ 32) (sym e)) ∙ add-mod-mod _ _ _ ∙ ap (λ (l : List ℕ). sumWords l % 2 ^ 32) (sym (words-next (l .k - 1) (a .m) (a .t3 .words) (omega arith) (omega arith))))
 
--- src/selector.rt:38:5
 reduce-requires : tie.Need-reduce-requires Inv-loop μ-loop
 reduce-requires c κs = (c .before .before .pre .0, c .before .before .pre .1)
 
--- src/selector.rt:28:1
 returns : tie.Need-returns Inv-loop μ-loop
 returns c = let a = c .before .before .before .args in let l = c .before .before .loop in let e : l .k ≡ 0 = omega arith in c .reduce .ensures ∙ ap (λ (t : ℕ). t % 2 ^ a .n) (l .inv .3 ∙ ap (λ (k : ℕ). sumWords (wordsFrom k (a .m) (a .t3 .words)) % 2 ^ 32) e) ∙ narrow _ (a .n) 32 (c .before .before .before .pre .1)
 
