@@ -1,4 +1,4 @@
-// One column of a state: read, and put in.
+// One column of a state: read, and put in. Callers have i below the width of an accepted card.
 ghost use mathlib.Core.Path.{_≡_};
 ghost use Prim.Native.Nat.{ℕ, _^_, _<_};
 ghost use lib.ListN.{getD};

@@ -1,4 +1,5 @@
-// A column put through a power of the table.
+// A column put through a power of the table. Callers go through the columns of an accepted card from the lowest up, so that the columns put in so far
+// have i bits.
 ghost use mathlib.Core.Path.{_≡_};
 ghost use Prim.Native.Nat.{ℕ, _^_, _<_};
 ghost use lib.ListN.{getD};

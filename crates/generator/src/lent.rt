@@ -46,7 +46,7 @@ pub fn load(state: &[u32]) -> State
     s
 }
 
-// As many of a state's first words as are lent.
+// As many of a state's first words as are lent: the calls have found that a state has them.
 pub fn store(s: State, state: &mut [u32])
     requires { ⌜ length (now state) ≤ mostWords ⌝ }
     ensures { λ _. ⌜ now (state .exit) ≡ take (length (now (state .entry))) (s .words) ⌝ }

@@ -1,4 +1,4 @@
-// The output word of a state (document 002, 15 and 20).
+// The output word of a state (document 002, 15 and 20). Callers hold an accepted card and a state of its size.
 ghost use mathlib.Core.Path.{_≡_};
 ghost use Prim.Native.Nat.{ℕ, _^_, _<_, _≤_};
 ghost use lib.ListN.{getD};

@@ -1,4 +1,5 @@
 // The selector of a state (document 002, 13 and 18). The loops go from the last word to the first, as the definitions do.
+// Callers hold an accepted card.
 ghost use mathlib.Core.Path.{_≡_};
 ghost use Prim.Native.Nat.{_%_, _^_, _<_, _≤_};
 ghost use lib.ListN.{take};
