@@ -13,7 +13,7 @@ use lib.Bits.{bitAnd}
 use lib.Count.{trailingZeros, trailing-le}
 use lib.Dec.{eqb, leb, ltb}
 use lib.ListN.{length, getD, set, drop, length-drop}
-use lib.Seq.{getD-set-other}
+use lib.Seq.{getD-set-other, set-getD}
 use Rattle.tsc.specs.declared.Card.{Card}
 use Rattle.tsc.specs.Constants.{mostWords, tsc1Table}
 use Rattle.cycle.specs.Notation.{sum}
@@ -22,7 +22,6 @@ use Rattle.card_format.specs.Refusals.{Check, firstOf, NoneApplies}
 use Rattle.card_format.specs.Fields.{Field, field, fields, tableBit, numbers}
 use Rattle.card_format.specs.Reading.{reading, answering, present, offset, valuesAt, wordsOf, values, value, padded, cardFrom, cardOf, partChecks, fieldChecks, checksTo, formChecks, SoundForm}
 use Rattle.card.specs.Steps.{fieldRead, missing, refusedWith}
-use Rattle.card_format.proofs.Lists.{set-own}
 use Rattle.card_format.proofs.Refusals.{none-first, first-append, first-left, none-append}
 use Rattle.card_format.proofs.Fields.{allowed-at, field-fixed, each, absents, numeric, size-one}
 use Rattle.card_format.proofs.Verdict.{words-sound}
@@ -91,7 +90,7 @@ numbers-absent bytes k l a = go (ℕ-discrete k tableBit)
 
     go : Dec (k ≡ tableBit) → numbersTo bytes k ≡ cond (eqb k tableBit) (numbersTo bytes k) (set (numbersTo bytes k) k (value bytes k))
     go (yes e) = simp (eq-eqb k tableBit e)
-    go (no ne) = rw (ne-eqb k tableBit ne, own ne) (sym (set-own (numbersTo bytes k) k))
+    go (no ne) = rw (ne-eqb k tableBit ne, own ne) (sym (set-getD (numbersTo bytes k) k 0))
 
 table-absent : (bytes : List ℕ) (k : ℕ) → present bytes k ≡ false → tableTo bytes k ≡ tableTo bytes (suc k)
 unfolding tableTo fields field

@@ -2,7 +2,7 @@
 use mathlib.Core.Path.{_≡_, refl, sym, ap, ap₂, _∙_}
 use mathlib.Core.Logic.{_≢_}
 use mathlib.Core.Bool.{Bool, true, false, cond, not, _&&_, and-eq-true-iff, true≢false, and-true}
-use mathlib.Core.List.{List, [], _∷_, _++_}
+use mathlib.Core.List.{List, [], _∷_}
 use Prim.Native.Nat.{ℕ, zero, suc, _+_, _-_, _*_, _%_, _^_, _≤_, _<_}
 use native.Mathlib.Nat.{one-mul, mul-one, zero-mul, zero-add, add-zero, mod-eq-of-lt, suc-inj}
 use native.Mathlib.Omega.{arith}
@@ -10,16 +10,15 @@ use borrow.Author.Tests.{leb-true, le-leb, lt-ltb, le-ltb, eq-eqb, eqb-true}
 use lib.Dec.{eqb, leb, ltb}
 use lib.ListN.{length, getD, take, drop, replicate, length-drop, length-replicate, getD-replicate}
 use lib.Pow.{pow-pos, pow-lt, pow-mono}
-use lib.Seq.{length-take-le, take-append-seam, getD-take, getD-drop, getD-set-other}
+use lib.Seq.{length-take-le, getD-take, getD-drop, getD-set-other}
 use Rattle.cycle.specs.Notation.{sum, tabulate}
 use Rattle.cycle.proofs.Digits.{tabulate-ext, tabulate-getD}
 use Rattle.cycle.proofs.Sum.{sum-ext}
 use Rattle.tsc.specs.Constants.{tsc1Constant, tsc1Table, mostWords}
 use Rattle.card_format.specs.Fields.{Field, row, fields, field, tableBit, numbers, allowed, same}
 use Rattle.card_format.specs.Refusals.{firstOf}
-use Rattle.card_format.specs.Reading.{partChecks, padded}
+use Rattle.card_format.specs.Reading.{partChecks}
 use Rattle.card_format.specs.Writing.{unusedClear}
-use Rattle.card_format.proofs.Lists.{over, drop-replicate}
 
 -- ---- the numeric fields
 
@@ -160,16 +159,6 @@ pub few-entries : (m : ℕ) → m ≤ mostWords → 2 ^ m ≤ 2 ^ mostWords
 few-entries m h = pow-mono h
 
 -- ---- the table
-
--- the bytes of a part as a table
-pub over-padded : (part : List ℕ) (size : ℕ) → size ≤ length part → over part (replicate (2 ^ mostWords) 0) size ≡ padded (take size part)
-over-padded part size h =
-    ap (λ (r : List ℕ). take size part ++ r)
-    (drop-replicate (2 ^ mostWords) size 0 ∙ ap (λ (k : ℕ). replicate (2 ^ mostWords - k) 0) (sym (length-take-le size part h)))
-
-pub take-padded : (part : List ℕ) (size : ℕ) → size ≤ length part → take size (padded (take size part)) ≡ take size part
-take-padded part size h =
-    ap (λ (k : ℕ). take k (padded (take size part))) (sym (length-take-le size part h)) ∙ take-append-seam (take size part) _
 
 -- the numbers of the table are its bytes
 pub numbers-table : (m : ℕ) (part : List ℕ) → 2 ^ m ≤ length part → numbers (field m tableBit) part ≡ take (2 ^ m) part

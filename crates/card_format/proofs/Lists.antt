@@ -7,7 +7,8 @@ use native.Mathlib.Decide.{ℕ-discrete}
 use native.Mathlib.Numerals.{add-one}
 use native.Mathlib.Omega.{arith}
 use lib.ListN.{length, getD, set, take, drop, replicate, length-append, length-drop, drop-of-length-le}
-use lib.Seq.{paste-suc, take-all, length-take-le, drop-nil, drop-drop, take-at, drop-at}
+use lib.Seq.{paste-suc, take-all, length-take-le, drop-nil, drop-drop, take-at, drop-at, take-append-seam}
+use Rattle.cycle.specs.Notation.{zeroFilled}
 
 -- what holds below i and at i, holds below i + 1
 pub extend : (P : ℕ → Type 0) (i : ℕ) → ((j : ℕ) → j < i → P j) → P i → (j : ℕ) → j < i + 1 → P j
@@ -53,11 +54,13 @@ getD-filled [] n k a = getD-filler n k a
 getD-filled (x ∷ xs) n zero a = refl
 getD-filled (x ∷ xs) n (suc k) a = getD-filled xs n k a
 
--- an entry set to itself
-pub set-own : (l : List ℕ) (i : ℕ) → set l i (getD l i 0) ≡ l
-set-own [] i = refl
-set-own (x ∷ l) zero = refl
-set-own (x ∷ l) (suc i) = ap (λ (r : List ℕ). x ∷ r) (set-own l i)
+-- zeros whose front is written over
+pub over-zeros : (s : List ℕ) (n i : ℕ) → i ≤ length s → over s (replicate n 0) i ≡ zeroFilled n (take i s)
+over-zeros s n i h =
+    ap (λ (r : List ℕ). take i s ++ r) (drop-replicate n i 0 ∙ ap (λ (k : ℕ). replicate (n - k) 0) (sym (length-take-le i s h)))
+
+pub take-filled : (n i : ℕ) (xs : List ℕ) → length xs ≡ i → take i (zeroFilled n xs) ≡ xs
+take-filled n i xs e = ap (λ (k : ℕ). take k (zeroFilled n xs)) (sym e) ∙ take-append-seam xs _
 
 -- the part `&l[a..]`
 pub part-rest : (a : ℕ) (l : List ℕ) → take (length l - a) (drop a l) ≡ drop a l

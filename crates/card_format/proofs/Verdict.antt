@@ -18,8 +18,8 @@ use Rattle.card_format.specs.declared.Reading.{Reading}
 use Rattle.card_format.specs.Fields.{field, fields}
 use Rattle.card_format.specs.Refusals.{firstOf, NoneApplies}
 use Rattle.card_format.specs.Reading.{cardOf, formChecks, SoundForm, reading}
-use Rattle.card_format.specs.Verdict.{periodChecks, verdict}
-use Rattle.card_format.proofs.Refusals.{first-none, none-first, first-append, first-left}
+use Rattle.card_format.specs.Verdict.{periodChecks, cardChecks, verdict, accepting, Accepted}
+use Rattle.card_format.proofs.Refusals.{first-none, none-first, first-append, first-left, none-left, none-right}
 use Rattle.card_format.proofs.Sound.{sound-value, sound-card}
 
 neither : (a b : Bool) → (a || b) ≡ false → (a ≡ false) × (b ≡ false)
@@ -90,3 +90,26 @@ reading-sound bytes r e z =
 pub words-sound : (bytes : List ℕ) → SoundForm bytes → cardOf bytes .words ≤ mostWords
 unfolding cardOf field fields
 words-sound bytes s = sound-value bytes s 0 (omega arith) refl .1
+
+-- ---- accepted cards
+
+-- the values of an accepted card
+pub accepted-card : (bytes : List ℕ) → verdict bytes ≡ 0 → Accepted (cardOf bytes)
+unfolding verdict cardOf field fields
+accepted-card bytes z =
+    let none = none-first (cardChecks bytes) z in
+    let sound = none-left (formChecks bytes) (periodChecks (cardOf bytes)) none in
+    let formed = sound-card bytes sound in
+    record {
+      formed = formed;
+      period = period-none (cardOf bytes) formed .0 (none-right (formChecks bytes) (periodChecks (cardOf bytes)) none);
+      few = words-sound bytes sound;
+      narrow = sound-value bytes sound 1 (omega arith) refl .1;
+    }
+
+-- the check's answer on an accepted card
+pub accepting-passed : (bytes : List ℕ) (r : Reading) → r ≡ accepting bytes → r .refusal ≡ 0 → (verdict bytes ≡ 0) × (r .card ≡ cardOf bytes)
+unfolding accepting
+accepting-passed bytes r e z =
+    let v : verdict bytes ≡ 0 = sym (ap (λ (r : Reading). r .refusal) e) ∙ z in
+    (v, ap (λ (r : Reading). r .card) e ∙ rw v refl)

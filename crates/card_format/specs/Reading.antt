@@ -1,10 +1,10 @@
 -- What the bytes of a card mean, and refusals 1 to 6 (document 01, The card and Refusal table). The first byte is the map; bytes past the end count as 0.
 use mathlib.Core.Bool.{Bool, cond, not, _&&_}
 use mathlib.Core.List.{List, [], _∷_, _++_}
-use Prim.Native.Nat.{ℕ, zero, suc, _+_, _-_, _^_}
+use Prim.Native.Nat.{ℕ, zero, suc, _+_, _^_}
 use lib.Dec.{eqb, leb, ltb}
-use lib.ListN.{length, getD, drop, replicate}
-use Rattle.cycle.specs.Notation.{sum, bit}
+use lib.ListN.{length, getD, drop}
+use Rattle.cycle.specs.Notation.{sum, zeroFilled, bit}
 use Rattle.tsc.specs.declared.Card.{Card}
 use Rattle.tsc.specs.Constants.{mostWords}
 use Rattle.card_format.specs.declared.Reading.{Reading}
@@ -35,7 +35,7 @@ value bytes k = getD (values bytes k) 0 0
 
 -- a table as a card holds it: unused entries are 0
 abbrev pub padded : List ℕ → List ℕ
-padded xs = xs ++ replicate (2 ^ mostWords - length xs) 0
+padded xs = zeroFilled (2 ^ mostWords) xs
 
 -- the card of these numbers, by their bits, and this table
 abbrev pub cardFrom : (ℕ → ℕ) → List ℕ → Card

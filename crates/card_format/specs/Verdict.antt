@@ -1,11 +1,13 @@
 -- Refusals 7 to 9 and the verdict on any byte string (document 01, Refusal table).
 use mathlib.Core.Bool.{not, _||_}
 use mathlib.Core.List.{List, [], _∷_, _++_}
-use Prim.Native.Nat.{ℕ, _%_, _^_}
+use Prim.Native.Nat.{ℕ, _%_, _^_, _≤_}
 use lib.Dec.{eqb}
 use Rattle.cycle.specs.Cycle.{firstReturn}
 use Rattle.tsc.specs.declared.Card.{Card}
+use Rattle.tsc.specs.Constants.{mostWords, widestWidth}
 use Rattle.tsc.specs.Step.{entry}
+use Rattle.tsc.specs.Coverage.{WellFormed, FullPeriod}
 use Rattle.card_format.specs.declared.Reading.{Reading}
 use Rattle.card_format.specs.Refusals.{Check, check, firstOf, notSingleCycle, evenConstant, powerParity}
 use Rattle.card_format.specs.Reading.{cardOf, formChecks, answering}
@@ -29,3 +31,10 @@ verdict bytes = firstOf (cardChecks bytes)
 -- what the calls answer that need an accepted card: 0 and the eight values, or the first of refusals 1 to 9
 unfoldable pub accepting : List ℕ → Reading
 accepting bytes = answering (verdict bytes) (cardOf bytes)
+
+-- what the values of an accepted card are: functions on values ask for it
+pub record Accepted (card : Card) : Type 0 where
+  pub formed : WellFormed card
+  pub period : FullPeriod card
+  pub few : card .words ≤ mostWords
+  pub narrow : card .width ≤ widestWidth

@@ -1,7 +1,8 @@
--- Notation: a finite sum, a test of all numbers below n, a list by its entries, a function applied repeatedly, a bit.
+-- Notation: a finite sum, a test of all numbers below n, a list by its entries or filled up with zeros, a function applied repeatedly, a bit.
 use mathlib.Core.Bool.{Bool, true, _&&_}
-use mathlib.Core.List.{List, [], _∷_}
-use Prim.Native.Nat.{ℕ, zero, suc, _+_, _/_, _%_, _^_}
+use mathlib.Core.List.{List, [], _∷_, _++_}
+use Prim.Native.Nat.{ℕ, zero, suc, _+_, _-_, _/_, _%_, _^_}
+use lib.ListN.{length, replicate}
 
 -- f 0 + f 1 + .. + f (n - 1)
 unfoldable pub sum : ℕ → (ℕ → ℕ) → ℕ
@@ -17,6 +18,10 @@ every (suc n) p = every n p && p n
 unfoldable pub tabulate : ℕ → (ℕ → ℕ) → List ℕ
 tabulate zero f = []
 tabulate (suc n) f = f 0 ∷ tabulate n (λ i. f (suc i))
+
+-- xs, and past it zeros up to n entries
+abbrev pub zeroFilled : ℕ → List ℕ → List ℕ
+zeroFilled n xs = xs ++ replicate (n - length xs) 0
 
 -- f applied k times
 unfoldable pub iterate : {A : Type 0} → (A → A) → ℕ → A → A

@@ -15,13 +15,16 @@ use Rattle.tsc.specs.Step.{step}
 use Rattle.tsc.specs.Word.{word}
 use Rattle.tsc.proofs.Word.{word-lt}
 use Rattle.card_format.specs.Reading.{cardOf}
+use Rattle.card_format.specs.Verdict.{Accepted}
+use Rattle.card_format.proofs.Lists.{take-filled}
+use Rattle.card_format.proofs.Verdict.{accepted-card}
 use Rattle.generator.specs.declared.call.Opened.{Opened}
 use Rattle.generator.specs.declared.Draw.{Draw}
 use Rattle.generator.specs.declared.Draw.the-variants.{Word, Refused}
-use Rattle.stepping.specs.State.{Accepted, used, Holds, holding}
+use Rattle.stepping.specs.State.{used, Holds, holding}
 use Rattle.generator.specs.Calls.{refusalFor, unlessRefused, opening, drawing}
-use Rattle.stepping.proofs.Holding.{take-holding, word-holding}
-use Rattle.generator.proofs.Opening.{accepted-card, passed, begun, begun-refused, unless-refused, held, holds}
+use Rattle.stepping.proofs.Holding.{word-holding}
+use Rattle.generator.proofs.Opening.{passed, begun, begun-refused, unless-refused, held, holds}
 
 -- a call that is refused, whatever else it promises of an answer 0
 pub call-refused : (bytes xs ys : List ℕ) (A : Type 0) (o : Opened) → o ≡ opening bytes xs → o .refusal ≢ 0
@@ -56,7 +59,7 @@ module _ (bytes xs : List ℕ) (o : Opened) (e : o ≡ opening bytes xs) (z : o 
   moved f s h = h ∙ ap₂ (λ (c : Card) (w : List ℕ). holding (f c w)) card-is used-is
 
   pub stored : (ys : List ℕ) (s : State) → IsState (cardOf bytes) ys → s ≡ holding ys → take (length xs) (s .words) ≡ ys
-  stored ys s sy h = ap (λ (s : State). take (length xs) (s .words)) h ∙ take-holding (length xs) ys (sy .0 ∙ sym (in-range .0))
+  stored ys s sy h = ap (λ (s : State). take (length xs) (s .words)) h ∙ take-filled mostWords (length xs) ys (sy .0 ∙ sym (in-range .0))
 
   pub word-of-next : (ys : List ℕ) (s : State) (w : ℕ) → s ≡ holding ys → w ≡ word (o .card) (s .words) → w ≡ word (cardOf bytes) ys
   word-of-next ys s w h u = u ∙ ap₂ (λ (c : Card) (s : State). word c (s .words)) card-is h ∙ word-holding (cardOf bytes) ys

@@ -10,40 +10,16 @@ use lib.Dec.{ltb}
 use lib.ListN.{length, getD}
 use Rattle.cycle.proofs.Every.{every-at, every-of}
 use Rattle.tsc.specs.declared.Card.{Card}
+use Rattle.tsc.specs.Constants.{mostWords}
 use Rattle.tsc.specs.Coverage.{IsState}
-use Rattle.card_format.specs.declared.Reading.{Reading}
 use Rattle.card_format.specs.Refusals.{firstOf, NoneApplies}
-use Rattle.card_format.specs.Fields.{field, fields}
-use Rattle.card_format.specs.Reading.{cardOf, formChecks}
-use Rattle.card_format.specs.Verdict.{cardChecks, periodChecks, verdict, accepting}
+use Rattle.card_format.specs.Reading.{cardOf}
+use Rattle.card_format.specs.Verdict.{cardChecks, verdict}
 use Rattle.card_format.proofs.Refusals.{first-none, none-first, first-append, first-left, none-left, none-right}
-use Rattle.card_format.proofs.Sound.{sound-value, sound-card}
-use Rattle.card_format.proofs.Verdict.{period-none, words-sound}
 use Rattle.generator.specs.declared.call.Opened.{Opened}
-use Rattle.stepping.specs.State.{Accepted, used, Holds, holding}
+use Rattle.stepping.specs.State.{used, Holds, holding}
 use Rattle.generator.specs.Calls.{stateChecks, refusalFor, unlessRefused, opened, refusedWith, opening}
-use Rattle.stepping.proofs.Holding.{take-holding}
-
--- the values of an accepted card
-pub accepted-card : (bytes : List ℕ) → verdict bytes ≡ 0 → Accepted (cardOf bytes)
-unfolding verdict cardOf field fields
-accepted-card bytes z =
-    let none = none-first (cardChecks bytes) z in
-    let sound = none-left (formChecks bytes) (periodChecks (cardOf bytes)) none in
-    let formed = sound-card bytes sound in
-    record {
-      formed = formed;
-      period = period-none (cardOf bytes) formed .0 (none-right (formChecks bytes) (periodChecks (cardOf bytes)) none);
-      few = words-sound bytes sound;
-      narrow = sound-value bytes sound 1 (omega arith) refl .1;
-    }
-
--- the check's answer on an accepted card
-pub accepting-passed : (bytes : List ℕ) (r : Reading) → r ≡ accepting bytes → r .refusal ≡ 0 → (verdict bytes ≡ 0) × (r .card ≡ cardOf bytes)
-unfolding accepting
-accepting-passed bytes r e z =
-    let v : verdict bytes ≡ 0 = sym (ap (λ (r : Reading). r .refusal) e) ∙ z in
-    (v, ap (λ (r : Reading). r .card) e ∙ rw v refl)
+use Rattle.card_format.proofs.Lists.{take-filled}
 
 module _ (bytes xs : List ℕ) where
   pub refusal-card : verdict bytes ≢ 0 → verdict bytes ≡ refusalFor bytes xs
@@ -108,7 +84,7 @@ module _ (bytes xs : List ℕ) where
 
 -- a state of the card's size by value
 pub held : (card : Card) (xs : List ℕ) → IsState card xs → used card (holding xs) ≡ xs
-held card xs sx = take-holding (card .words) xs (sx .0)
+held card xs sx = take-filled mostWords (card .words) xs (sx .0)
 
 pub holds : (card : Card) (xs : List ℕ) → IsState card xs → Holds card (holding xs)
 holds card xs sx = rw (held card xs sx) (sx, refl)

@@ -22,12 +22,14 @@ use Rattle.tsc.proofs.Number.{columns}
 use Rattle.tsc.proofs.Selector.{selector-lower}
 use Rattle.tsc.proofs.Step.{column-step}
 use Rattle.tsc.proofs.StepBack.{step-back-in-range, step-of-back}
+use Rattle.card_format.specs.Verdict.{Accepted}
+use Rattle.card_format.proofs.Lists.{take-filled}
 use Rattle.columns.specs.declared.power.Powers.{Powers}
 use Rattle.columns.specs.Replace.{withColumn, IsPower, imageOf}
 use Rattle.columns.proofs.Placed.{withColumn-low}
 use Rattle.columns.proofs.Powers.{image-power}
-use Rattle.stepping.specs.State.{Accepted, used, Holds, holding, undone}
-use Rattle.stepping.proofs.Holding.{length-holding, take-holding, column-holding, holding-lt}
+use Rattle.stepping.specs.State.{used, Holds, holding, undone}
+use Rattle.stepping.proofs.Holding.{length-holding, column-holding, holding-lt}
 
 abbrev pub Built : List ℕ → ℕ → State → Type 0
 Built xs i s = s .words ≡ lowWords i (holding xs .words)
@@ -69,7 +71,7 @@ module _ (card : Card) (ok : Accepted card) (p : Powers) (xs : List ℕ) (sx : I
       let ys : List ℕ = stepBack card xs in
       let sy : IsState card ys = step-back-in-range card xs sx in
       let z : ℕ = bit i (selector card ys) in
-      let low : take m (s .words) ≡ lowWords i ys = ap (take m) b ∙ take-lowWords m i (holding ys .words) ∙ ap (lowWords i) (take-holding m ys (sy .0)) in
+      let low : take m (s .words) ≡ lowWords i ys = ap (take m) b ∙ take-lowWords m i (holding ys .words) ∙ ap (lowWords i) (take-filled mostWords m ys (sy .0)) in
       let same : bit i (selector card (take m (s .words))) ≡ z =
       ap (λ (w : List ℕ). bit i (selector card w)) low
       ∙ selector-lower card (lowWords i ys) ys (length-lowWords i ys ∙ sy .0) (sy .0) i l (λ j k. column-lowWords i j ys k) in

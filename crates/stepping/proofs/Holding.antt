@@ -1,14 +1,15 @@
 -- A state by value has the columns and the word of the words that it holds.
-use mathlib.Core.Path.{_≡_, sym, ap, ap₂, _∙_}
-use mathlib.Core.List.{List, _++_}
+use mathlib.Core.Path.{_≡_, ap, _∙_}
+use mathlib.Core.List.{List}
 use Prim.Native.Nat.{ℕ, _-_, _^_, _≤_, _<_}
 use native.Mathlib.Nat.{le-refl}
 use native.Mathlib.Decide.{decLt}
 use native.Mathlib.Omega.{arith}
-use lib.ListN.{length, getD, take, replicate, length-append, length-replicate, List·getD-eq-default}
+use lib.ListN.{length, getD, replicate, length-append, length-replicate, List·getD-eq-default}
 use lib.Pow.{pow-pos}
-use lib.Seq.{take-append-seam, take-all}
-use Rattle.card_format.proofs.Lists.{getD-filled, over, drop-replicate}
+use lib.Seq.{take-all}
+use Rattle.card_format.proofs.Lists.{getD-filled, over, over-zeros}
+use Rattle.cycle.specs.Notation.{zeroFilled}
 use Rattle.tsc.specs.declared.Card.{Card}
 use Rattle.tsc.specs.Constants.{mostWords}
 use Rattle.tsc.specs.Columns.{InRange, column}
@@ -20,9 +21,6 @@ use Rattle.stepping.specs.State.{holding}
 pub length-holding : (xs : List ℕ) → length xs ≤ mostWords → length (holding xs .words) ≡ mostWords
 length-holding xs h =
     omega (arith, length-append xs (replicate (mostWords - length xs) 0), length-replicate {A = ℕ} (mostWords - length xs) 0)
-
-pub take-holding : (m : ℕ) (xs : List ℕ) → length xs ≡ m → take m (holding xs .words) ≡ xs
-take-holding m xs e = ap (λ (k : ℕ). take k (holding xs .words)) (sym e) ∙ take-append-seam xs _
 
 pub column-holding : (i : ℕ) (xs : List ℕ) → column i (holding xs .words) ≡ column i xs
 column-holding i xs = column-filled i xs (mostWords - length xs)
@@ -40,4 +38,4 @@ holding-lt m n xs h k = rw (getD-filled xs (mostWords - length xs) k 0) (go (dec
 
 -- zeros overwritten by words
 pub over-holding : (xs : List ℕ) → over xs (replicate mostWords 0) (length xs) ≡ holding xs .words
-over-holding xs = ap₂ (λ (x y : List ℕ). x ++ y) (take-all (length xs) xs (le-refl (length xs))) (drop-replicate mostWords (length xs) 0)
+over-holding xs = over-zeros xs mostWords (length xs) (le-refl (length xs)) ∙ ap (zeroFilled mostWords) (take-all (length xs) xs (le-refl (length xs)))

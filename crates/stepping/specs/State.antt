@@ -1,18 +1,13 @@
--- A state by value, and what holds of an accepted card's values: the conditions of the functions on values.
+-- States by value: which words they hold.
 use mathlib.Core.Path.{_≡_}
-use mathlib.Core.List.{List, _++_}
-use Prim.Native.Nat.{ℕ, _-_, _%_, _^_, _≤_}
-use lib.ListN.{length, take, replicate}
+use mathlib.Core.List.{List}
+use Prim.Native.Nat.{ℕ, _-_, _%_, _^_}
+use lib.ListN.{take}
 use Rattle.tsc.specs.declared.Card.{Card}
 use Rattle.tsc.specs.declared.State.{State}
-use Rattle.tsc.specs.Constants.{mostWords, widestWidth}
-use Rattle.tsc.specs.Coverage.{IsState, WellFormed, FullPeriod}
-
-pub record Accepted (card : Card) : Type 0 where
-  pub formed : WellFormed card
-  pub period : FullPeriod card
-  pub few : card .words ≤ mostWords
-  pub narrow : card .width ≤ widestWidth
+use Rattle.cycle.specs.Notation.{zeroFilled}
+use Rattle.tsc.specs.Constants.{mostWords}
+use Rattle.tsc.specs.Coverage.{IsState}
 
 -- the words of a state that a card uses
 abbrev pub used : Card → State → List ℕ
@@ -20,7 +15,7 @@ used card s = take (card .words) (s .words)
 
 -- the state by value of these words: past them it has zeros
 abbrev pub holding : List ℕ → State
-holding xs = record { words = xs ++ replicate (mostWords - length xs) 0 }
+holding xs = record { words = zeroFilled mostWords xs }
 
 -- a state by value of the card's size
 abbrev pub Holds : Card → State → Type 0

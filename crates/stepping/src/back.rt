@@ -1,8 +1,9 @@
 // The step back of a state by value, for an accepted card. The calls on lent slices establish the conditions.
 ghost use mathlib.Core.Path.{_≡_};
 ghost use Rattle.tsc.specs.Coverage.{stepBack};
+ghost use Rattle.card_format.specs.Verdict.{Accepted};
 ghost use Rattle.columns.specs.Replace.{IsPower};
-ghost use Rattle.stepping.specs.State.{Accepted, used, Holds, holding, undone};
+ghost use Rattle.stepping.specs.State.{used, Holds, holding, undone};
 use card_fields::table;
 use columns::power;
 use columns::power::Powers;

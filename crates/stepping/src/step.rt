@@ -1,8 +1,9 @@
 // The step of a state by value, for an accepted card. The calls on lent slices establish the conditions.
 ghost use mathlib.Core.Path.{_≡_};
 ghost use Rattle.tsc.specs.Step.{step};
+ghost use Rattle.card_format.specs.Verdict.{Accepted};
 ghost use Rattle.columns.specs.Replace.{IsPower};
-ghost use Rattle.stepping.specs.State.{Accepted, used, Holds, holding};
+ghost use Rattle.stepping.specs.State.{used, Holds, holding};
 use columns::power;
 use columns::power::Powers;
 use columns::replace;

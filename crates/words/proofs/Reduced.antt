@@ -1,14 +1,10 @@
 -- Numbers of n bits held in w bits, for every n and w.
-use mathlib.Core.Path.{_≡_, sym, ap, _∙_, subst}
+use mathlib.Core.Path.{_≡_, sym, ap, _∙_}
 use Prim.Native.Nat.{ℕ, _+_, _/_, _%_, _-_, _^_, _<_, _≤_}
-use native.Mathlib.Nat.{mod-lt, sub-add-cancel}
+use native.Mathlib.Nat.{mod-lt}
 use native.Mathlib.Omega.{arith}
-use lib.Pow.{mod-mod-pow, high, low, ones-lt, ones-split, pow-pos}
+use lib.Pow.{high, low, ones-lt, ones-split, pow-pos}
 use Rattle.tsc.specs.Word.{_⊞_}
-
--- the lowest n bits of the lowest w bits
-pub narrow : (x n w : ℕ) → n ≤ w → x % 2 ^ w % 2 ^ n ≡ x % 2 ^ n
-narrow x n w h = subst (λ (m : ℕ). x % 2 ^ m % 2 ^ n ≡ x % 2 ^ n) (sub-add-cancel h) (mod-mod-pow x (w - n) n)
 
 -- n ones, as `all >> (w - n)` makes them
 pub ones-shifted : (n w : ℕ) → n ≤ w → (2 ^ w - 1) / 2 ^ (w - n) ≡ 2 ^ n - 1

@@ -1,3 +1,6 @@
+use Rattle.tsc.specs.Constants.{mostWords}
+use Rattle.card_format.proofs.Lists.{take-filled}
+use lib.Seq.{length-take-le}
 use mathlib.Core.Path.{_≡_, refl, sym, ap, ap₂, _∙_}
 use mathlib.Core.List.{List}
 use mathlib.Core.Bool.{true}
@@ -11,7 +14,7 @@ use Rattle.card_format.specs.Refusals.{firstOf}
 use Rattle.card_format.specs.Fields.{field, fields, tableBit, numbers, allowed}
 use Rattle.card_format.specs.Reading.{partChecks, padded}
 use Rattle.card.specs.Steps.{fieldRead}
-use Rattle.card_format.proofs.Fields.{few-entries, take-padded, numbers-table, table-short, table-refusal}
+use Rattle.card_format.proofs.Fields.{few-entries, numbers-table, table-short, table-refusal}
 use borrow.Author.Needs.{needs}
 use Rattle.card.proofs.Steps.{field-refused}
 use Rattle.card.proofs.read.read_table.Statement.{statement}
@@ -34,7 +37,7 @@ shown c =
     let e = c .before .before .entries .ensures in
     let size = c .before .before .entries .result in (
       omega (arith, e, c .before .if1 .left),
-      rw (sym e) (ap (λ (t : List ℕ). take size t) (c .table-from .ensures) ∙ take-padded (c .before .before .before .before .before .args .part .now) size (c .before .if1 .left)),
+      rw (sym e) (ap (λ (t : List ℕ). take size t) (c .table-from .ensures) ∙ take-filled (2 ^ mostWords) size _ (length-take-le size (c .before .before .before .before .before .args .part .now) (c .before .if1 .left))),
     )
 
 element-copy-out-m : tie.Need-element-copy-out-m

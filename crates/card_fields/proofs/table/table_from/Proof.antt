@@ -4,8 +4,7 @@ use Prim.Native.Nat.{ℕ, _-_, _≤_, _^_}
 use native.Mathlib.Omega.{arith}
 use lib.ListN.{length, getD, set, replicate}
 use Rattle.tsc.specs.Constants.{mostWords}
-use Rattle.card_format.proofs.Lists.{over, over-suc}
-use Rattle.card_format.proofs.Fields.{over-padded}
+use Rattle.card_format.proofs.Lists.{over, over-suc, over-zeros}
 use Rattle.card_fields.proofs.table.table_from.Statement.{statement}
 use Rattle.card_fields.proofs.table.table_from.Tie as tie
 
@@ -45,7 +44,7 @@ returns c =
     let l = c .before .loop in
     let p = c .before .before .args .part .now in
     let e : l .i ≡ c .before .before .args .size = omega arith in
-    l .inv .3 ∙ ap (over p (replicate (2 ^ mostWords) 0)) e ∙ over-padded p (c .before .before .args .size) (omega arith)
+    l .inv .3 ∙ ap (over p (replicate (2 ^ mostWords) 0)) e ∙ over-zeros p (2 ^ mostWords) (c .before .before .args .size) (omega arith)
 
 pub table-from-spec : {M : Type 1} → statement M
 table-from-spec =

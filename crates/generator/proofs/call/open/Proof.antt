@@ -7,7 +7,8 @@ use Rattle.card_format.specs.Refusals.{firstOf}
 use Rattle.card_format.specs.Verdict.{verdict, accepting}
 use Rattle.generator.specs.declared.call.Opened.{Opened}
 use Rattle.generator.specs.Calls.{stateChecks, refusalFor}
-use Rattle.generator.proofs.Opening.{accepted-card, accepting-passed, refusal-card, refusal-state, passed, opening-refused, opening-passed}
+use Rattle.card_format.proofs.Verdict.{accepted-card, accepting-passed}
+use Rattle.generator.proofs.Opening.{refusal-card, refusal-state, passed, opening-refused, opening-passed}
 use Rattle.generator.proofs.call.open.Statement.{statement}
 use Rattle.generator.proofs.call.open.Tie as tie
 

@@ -2,7 +2,7 @@ use mathlib.Core.Path.{ap, _∙_}
 use Prim.Native.Nat.{ℕ, _+_, _%_, _^_}
 use native.Mathlib.Omega.{arith}
 use Rattle.tsc.specs.Word.{_⊞_}
-use Rattle.words.proofs.Reduced.{narrow}
+use Rattle.cycle.proofs.Bits.{mod-pow-mod}
 use Rattle.words.proofs.arithmetic.add.Statement.{statement}
 use Rattle.words.proofs.arithmetic.add.Tie as tie
 
@@ -14,7 +14,7 @@ reduce-requires c κs = c .before .pre
 
 returns : tie.Need-returns
 unfolding _⊞_
-returns c = let a = c .before .before .args in c .reduce .ensures ∙ ap (λ (m : ℕ). m % 2 ^ a .n) (c .before .wrapping-add-u32 .ensures) ∙ narrow (a .x + a .y) (a .n) 32 (c .before .before .pre .1)
+returns c = let a = c .before .before .args in c .reduce .ensures ∙ ap (λ (m : ℕ). m % 2 ^ a .n) (c .before .wrapping-add-u32 .ensures) ∙ mod-pow-mod 32 (a .n) (a .x + a .y) (c .before .before .pre .1)
 
 pub add-spec : {M : Type 1} → statement M
 add-spec = tie.close (tie.spec wrapping-add-u32-requires reduce-requires returns)

@@ -5,7 +5,7 @@ use native.Mathlib.Omega.{arith}
 use lib.Pow.{pow-mono}
 use Rattle.tsc.specs.Word.{_⋘_}
 use Rattle.tsc.proofs.Word.{rotate-lt}
-use Rattle.words.proofs.Reduced.{narrow}
+use Rattle.cycle.proofs.Bits.{mod-pow-mod}
 use Rattle.words.proofs.arithmetic.rotate_left.Statement.{statement}
 use Rattle.words.proofs.arithmetic.rotate_left.Tie as tie
 
@@ -33,7 +33,7 @@ turned : (c : tie.After-reduce) → let a = c .before .before .args in c .reduce
 unfolding _⋘_
 turned c =
     let a = c .before .before .args in
-    ap (λ (m : ℕ). m + a .x / 2 ^ (a .n - a .k % a .n)) (c .reduce .ensures ∙ narrow (a .x * 2 ^ (a .k % a .n)) (a .n) 32 (c .before .before .pre .1))
+    ap (λ (m : ℕ). m + a .x / 2 ^ (a .n - a .k % a .n)) (c .reduce .ensures ∙ mod-pow-mod 32 (a .n) (a .x * 2 ^ (a .k % a .n)) (c .before .before .pre .1))
 
 add-result : tie.Need-add-result
 add-result c = let a = c .before .before .args in let p = c .before .before .pre in omega (arith, turned c, rotate-lt (a .n) (a .x) (a .k) (p .0) (p .2), pow-mono {i = a .n} {j = 32} (p .1))

@@ -7,7 +7,7 @@ use borrow.Author.Needs.{needs}
 use lib.ListN.{length, getD}
 use Rattle.tsc.specs.Constants.{mostWords}
 use Rattle.tsc.specs.Selector.{sumWords}
-use Rattle.words.proofs.Reduced.{narrow}
+use Rattle.cycle.proofs.Bits.{mod-pow-mod}
 use Rattle.words.proofs.Words.{wordsFrom, words-none, words-next}
 use Rattle.words.proofs.selector.sum_words.Statement.{statement}
 use Rattle.words.proofs.selector.sum_words.Tie as tie
@@ -49,7 +49,7 @@ reduce-requires : tie.Need-reduce-requires Inv-loop μ-loop
 reduce-requires c κs = (c .before .before .pre .0, c .before .before .pre .1)
 
 returns : tie.Need-returns Inv-loop μ-loop
-returns c = let a = c .before .before .before .args in let l = c .before .before .loop in let e : l .k ≡ 0 = omega arith in c .reduce .ensures ∙ ap (λ (t : ℕ). t % 2 ^ a .n) (l .inv .3 ∙ ap (λ (k : ℕ). sumWords (wordsFrom k (a .m) (a .t3 .words)) % 2 ^ 32) e) ∙ narrow _ (a .n) 32 (c .before .before .before .pre .1)
+returns c = let a = c .before .before .before .args in let l = c .before .before .loop in let e : l .k ≡ 0 = omega arith in c .reduce .ensures ∙ ap (λ (t : ℕ). t % 2 ^ a .n) (l .inv .3 ∙ ap (λ (k : ℕ). sumWords (wordsFrom k (a .m) (a .t3 .words)) % 2 ^ 32) e) ∙ mod-pow-mod 32 (a .n) _ (c .before .before .before .pre .1)
 
 pub sum-words-spec : {M : Type 1} → statement M
 sum-words-spec =
