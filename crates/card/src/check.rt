@@ -8,10 +8,10 @@ ghost use Rattle.tsc.specs.Coverage.{IsState, Covers, WellFormed};
 ghost use Rattle.card_format.specs.Refusals.{firstOf};
 ghost use Rattle.card_format.specs.Reading.{cardOf, SoundForm};
 ghost use Rattle.card_format.specs.Verdict.{periodChecks, verdict, accepting};
-use super::read;
 use card_fields::table;
 use card_format::Reading;
 use card_format::refusal;
+use card_read::read;
 use tsc::Card;
 
 // The first of refusals 7 to 9 that applies to a card's values, or 0. The check and the writer call it once refusals 1 to 6 are ruled out.

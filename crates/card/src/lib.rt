@@ -1,4 +1,2 @@
-// Reading, checking and writing cards. What that means is defined in crate card_format.
+// Checking cards, with and without their values. What that means is defined in crate card_format.
 pub mod check;
-pub mod read;
-pub mod write;

@@ -115,7 +115,7 @@ fn written(name: &[u8], values: Card, page: &mut [u8])
     ensures { λ _. ⌜ now (page .exit) ≡ pageAfter values (now (page .entry)) ⌝ }
 {
     io::write_all(1, name);
-    match card::write::write(values, page) {
+    match card_write::write::write(values, page) {
         Written::Length(n) => {
             io::write_all(1, b": length ");
             io::print_decimal(1, n as u64);
@@ -134,7 +134,7 @@ fn written(name: &[u8], values: Card, page: &mut [u8])
 fn again(name: &[u8], card: &[u8], page: &mut [u8])
     ensures { λ _. ⌜ now (page .exit) ≡ pageAfter (reading (now (card .entry)) .card) (now (page .entry)) ⌝ }
 {
-    let found = card::read::read(card);
+    let found = card_read::read::read(card);
     let values = found.card;
     written(name, values, page);
 }
@@ -235,11 +235,11 @@ fn main() {
     values();
     long_cards();
     pages();
-    let found = card::read::read(b"\x27\x02\x02\x01\x02\x03\x00\x01\x00\x00\x00");
+    let found = card_read::read::read(b"\x27\x02\x02\x01\x02\x03\x00\x01\x00\x00\x00");
     let values = found.card;
     sizes(values);
     others_written(values);
-    let four = card::read::read(b"\x00");
+    let four = card_read::read::read(b"\x00");
     let mut zeros = four.card;
     zeros.table = [0; 16];
     refused(b"words 4, table of zeros", zeros);

@@ -17,7 +17,7 @@ use Rattle.tsc.specs.Constants.{mostWords}
 use Rattle.card_format.specs.declared.Reading.{Reading}
 use Rattle.card_format.specs.Fields.{field, fields}
 use Rattle.card_format.specs.Refusals.{firstOf, NoneApplies}
-use Rattle.card_format.specs.Reading.{cardOf, formChecks, SoundForm, reading}
+use Rattle.card_format.specs.Reading.{cardOf, formChecks, SoundForm, refusedWith, answering, reading}
 use Rattle.card_format.specs.Verdict.{periodChecks, cardChecks, verdict, accepting, Accepted}
 use Rattle.card_format.proofs.Refusals.{first-none, none-first, first-append, first-left, none-left, none-right}
 use Rattle.card_format.proofs.Sound.{sound-value, sound-card}
@@ -52,6 +52,10 @@ period-none card wf = (forth, back)
             (simp (ne-eqb (card .«odd_power» % 2) 0 (omega arith), ne-eqb (card .«even_power» % 2) 1 (omega arith)), tt),
           ),
         )
+
+-- what is answered with a refusal
+pub answering-refused : (card : Card) (r : ℕ) → r ≢ 0 → refusedWith r ≡ answering r card
+answering-refused card r ne = simp (ne-eqb r 0 ne)
 
 -- a card of sound form is judged by its values
 pub verdict-period : (bytes : List ℕ) → SoundForm bytes → firstOf (periodChecks (cardOf bytes)) ≡ verdict bytes

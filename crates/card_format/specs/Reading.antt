@@ -95,6 +95,10 @@ SoundForm bytes = NoneApplies (formChecks bytes)
 abbrev pub noCard : Card
 noCard = cardFrom (λ k. 0) (padded [])
 
+-- a refusal, with that card
+abbrev pub refusedWith : ℕ → Reading
+refusedWith r = record { refusal = r; card = noCard }
+
 -- a refusal alone, or, where it is 0, the card
 abbrev pub answering : ℕ → Card → Reading
 answering r card = record { refusal = r; card = cond (eqb r 0) card noCard }

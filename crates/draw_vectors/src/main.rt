@@ -107,7 +107,7 @@ fn print_case(card: Card, start: [u32; 4], lines: usize)
     let mut page = [0u8; 32];
     let mut words = start;
     let m = card.words as usize;
-    match card::write::write(card, &mut page) {
+    match card_write::write::write(card, &mut page) {
         Written::Length(length) => {
             if length <= 32 {
                 if m <= 4 {

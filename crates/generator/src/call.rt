@@ -8,7 +8,7 @@ ghost use Rattle.generator.specs.Calls.{refusalFor, refusedWith, opening
 use super::Draw;
 use super::lent;
 use card::check;
-use card::read;
+use card_read::read;
 use stepping::back;
 use stepping::step;
 use tsc::Card;

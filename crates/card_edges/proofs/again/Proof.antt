@@ -6,7 +6,7 @@ use Rattle.card_edges.proofs.again.Statement.{statement}
 use Rattle.card_edges.proofs.again.Tie as tie
 use Rattle.card_edges.proofs.again.Reads as reads
 use Rattle.card_edges.proofs.again.Lts as lts
-use Rattle.card.proofs.read.read.Reads as read-reads
+use Rattle.card_read.proofs.read.read.Reads as read-reads
 use Rattle.card_edges.proofs.written.Reads as written-reads
 
 read-requires : tie.Need-read-requires

@@ -7,7 +7,7 @@ use Rattle.draw_vectors.proofs.print_case.Statement.{statement}
 use Rattle.draw_vectors.proofs.print_case.Tie as tie
 use Rattle.draw_vectors.proofs.print_case.Reads as reads
 use Rattle.draw_vectors.proofs.print_case.Lts as lts
-use Rattle.card.proofs.write.write.Reads as write-reads
+use Rattle.card_write.proofs.write.write.Reads as write-reads
 use Rattle.draw_vectors.proofs.print_run.Reads as print-run-reads
 use Rattle.io.proofs.print_decimal.Reads as print-decimal-reads
 

@@ -8,16 +8,15 @@ use Rattle.card_format.specs.Refusals.{firstOf}
 use Rattle.card_format.specs.Reading.{cardOf, reading, answering}
 use Rattle.card_format.specs.Verdict.{periodChecks, verdict, accepting}
 use Rattle.card_format.proofs.Sound.{sound-card}
-use Rattle.card_format.proofs.Verdict.{verdict-form, verdict-period, reading-sound, words-sound}
-use Rattle.card.proofs.Reader.{answering-refused}
+use Rattle.card_format.proofs.Verdict.{answering-refused, verdict-form, verdict-period, reading-sound, words-sound}
 use borrow.Author.Needs.{needs}
 use Rattle.card.proofs.check.accept.Statement.{statement}
 use Rattle.card.proofs.check.accept.Tie as tie
 use Rattle.card.proofs.check.accept.Reads as reads
 use Rattle.card.proofs.check.accept.Lts as lts
 use Rattle.card.proofs.check.period_refusal.Reads as period-refusal-reads
-use Rattle.card.proofs.read.read.Reads as read-reads
-use Rattle.card.proofs.read.refused.Reads as refused-reads
+use Rattle.card_read.proofs.read.read.Reads as read-reads
+use Rattle.card_read.proofs.read.refused.Reads as refused-reads
 
 -- src/check.rt:43:9
 read-requires : tie.Need-read-requires

@@ -1,0 +1,114 @@
+use Rattle.tsc.specs.Constants.{mostWords}
+use Rattle.card_format.proofs.Lists.{take-filled}
+use lib.Seq.{length-take-le}
+use mathlib.Core.Path.{_≡_, refl, sym, ap, ap₂, _∙_}
+use mathlib.Core.List.{List}
+use mathlib.Core.Bool.{true}
+use Prim.Native.Nat.{ℕ, _^_, _≤_}
+use native.Mathlib.Nat.{mul-one}
+use native.Mathlib.Omega.{arith}
+use borrow.Author.Tests.{not-true, not-false}
+use lib.ListN.{length, getD, take}
+use Rattle.card_read.specs.declared.read.Values.{Values}
+use Rattle.card_format.specs.Refusals.{firstOf}
+use Rattle.card_format.specs.Fields.{field, fields, tableBit, numbers, allowed}
+use Rattle.card_format.specs.Reading.{partChecks, padded}
+use Rattle.card_read.specs.Steps.{fieldRead}
+use Rattle.card_format.proofs.Fields.{few-entries, numbers-table, table-short, table-refusal}
+use borrow.Author.Needs.{needs}
+use Rattle.card_read.proofs.Steps.{field-refused}
+use Rattle.card_read.proofs.read.read_table.Statement.{statement}
+use Rattle.card_read.proofs.read.read_table.Tie as tie
+
+stored-as : (part : List ℕ) (v : Values) (size : ℕ) (t : List ℕ) → size ≡ 2 ^ getD (v .numbers) 0 0 → t ≡ padded (take size part)
+    → 2 ^ getD (v .numbers) 0 0 ≤ length part → firstOf (partChecks (field (getD (v .numbers) 0 0) tableBit) part) ≡ 0
+    → record { refusal = 0; used = size; numbers = v .numbers; table = t } ≡ fieldRead tableBit part v
+unfolding fieldRead field fields
+stored-as part v size t es et h e =
+    rw e
+    (rw (numbers-table (getD (v .numbers) 0 0) part h)
+    (ap₂ {C = Values} (λ (n : ℕ) (t : List ℕ). record { refusal = 0; used = n; numbers = v .numbers; table = t })
+    (es ∙ sym (mul-one _)) (et ∙ ap (λ (n : ℕ). padded (take n part)) es)))
+
+-- the table has the entries of the part
+shown : (c : tie.After-table-from) → let a = c .before .before .before .before .before .args in let m = getD (a .t2 .numbers) 0 0 in
+    (2 ^ m ≤ length (a .part .now)) × (take (2 ^ m) (c .table-from .result) ≡ take (2 ^ m) (a .part .now))
+shown c =
+    let e = c .before .before .entries .ensures in
+    let size = c .before .before .entries .result in (
+      omega (arith, e, c .before .if1 .left),
+      rw (sym e) (ap (λ (t : List ℕ). take size t) (c .table-from .ensures) ∙ take-filled (2 ^ mostWords) size _ (length-take-le size (c .before .before .before .before .before .args .part .now) (c .before .if1 .left))),
+    )
+
+element-copy-out-m : tie.Need-element-copy-out-m
+element-copy-out-m c = omega arith
+
+entries-requires : tie.Need-entries-requires
+entries-requires c κs = omega arith
+
+refused-at-requires : tie.Need-refused-at-requires
+refused-at-requires c κs = omega arith
+
+returns : tie.Need-returns
+returns c =
+    let a = c .before .before .before .before .before .args in
+    c .refused-at .ensures ∙ field-refused tableBit (a .part .now) (a .t2) 1 refl
+    (table-short (getD (a .t2 .numbers) 0 0) (a .part .now) (omega (arith, c .before .before .entries .ensures)))
+
+table-from-requires : tie.Need-table-from-requires
+table-from-requires c κs =
+    (omega (arith, c .before .entries .ensures, few-entries (getD (c .before .before .before .before .args .t2 .numbers) 0 0) (c .before .before .before .before .pre)), search needs)
+
+entries-allowed-requires : tie.Need-entries-allowed-requires
+entries-allowed-requires c κs = omega arith
+
+refused-at-requires-2 : tie.Need-refused-at-requires-2
+refused-at-requires-2 c κs = omega arith
+
+returns-2 : tie.Need-returns-2
+returns-2 c =
+    let a = c .before .before .before .before .before .before .before .before .args in
+    let e = shown (c .before .before .before) in
+    c .refused-at2 .ensures ∙ field-refused tableBit (a .part .now) (a .t2) 2 refl
+    (table-refusal _ (a .part .now) (e .0) _ (e .1) ∙ simp (sym (c .before .before .entries-allowed .ensures) ∙ not-true _ (c .before .if2 .taken)))
+
+-- past the second test its entries are allowed
+entries : (c : tie.Else2) → let m = getD (c .before .before .before .before .before .before .before .args .t2 .numbers) 0 0 in allowed (field m tableBit) (take (2 ^ m) (c .before .before .table-from .result)) ≡ true
+entries c = sym (c .before .entries-allowed .ensures) ∙ not-false _ (c .if2 .left)
+
+is-tsc1-requires : tie.Need-is-tsc1-requires
+is-tsc1-requires c κs = omega arith
+
+refused-at-requires-3 : tie.Need-refused-at-requires-3
+refused-at-requires-3 c κs = omega arith
+
+returns-3 : tie.Need-returns-3
+returns-3 c =
+    let a = c .before .before .before .before .before .before .before .before .before .before .args in
+    let e = shown (c .before .before .before .before .before) in
+    c .refused-at3 .ensures ∙ field-refused tableBit (a .part .now) (a .t2) 3 refl
+    (table-refusal _ (a .part .now) (e .0) _ (e .1) ∙ simp (entries (c .before .before .before), sym (c .before .before .is-tsc1 .ensures) ∙ c .before .if3 .taken))
+
+returns-4 : tie.Need-returns-4
+returns-4 c =
+    let a = c .before .before .before .before .before .before .before .before .before .before .args in
+    let e = shown (c .before .before .before .before .before) in
+    stored-as (a .part .now) (a .t2) _ _ (c .before .before .before .before .before .before .before .entries .ensures) (c .before .before .before .before .before .table-from .ensures) (e .0)
+    (table-refusal _ (a .part .now) (e .0) _ (e .1) ∙ simp (entries (c .before .before .before), sym (c .before .before .is-tsc1 .ensures) ∙ c .before .if3 .left))
+
+pub read-table-spec : {M : Type 1} → statement M
+read-table-spec =
+    tie.close
+    (tie.spec
+    element-copy-out-m
+    entries-requires
+    refused-at-requires
+    returns
+    table-from-requires
+    entries-allowed-requires
+    refused-at-requires-2
+    returns-2
+    is-tsc1-requires
+    refused-at-requires-3
+    returns-3
+    returns-4)

@@ -1,0 +1,2 @@
+// Reading cards. What that means is defined in crate card_format.
+pub mod read;

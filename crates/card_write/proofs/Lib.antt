@@ -1,0 +1,2 @@
+-- Laws for the writer.
+pub mod Writer

@@ -1,0 +1,44 @@
+use native.Mathlib.Omega.{arith}
+use mathlib.Core.Path.{refl, sym, ap, _∙_}
+use mathlib.Core.Bool.{not}
+use Rattle.card_format.specs.Fields.{fields, field}
+use Rattle.card_format.specs.Writing.{numbersOf, isWritten}
+use Rattle.card_format.proofs.Writing.{absent-one}
+use Rattle.card_write.proofs.write.is_written.Statement.{statement}
+use Rattle.card_write.proofs.write.is_written.Tie as tie
+
+cast-is-tsc1 : tie.Need-cast-is-tsc1
+cast-is-tsc1 c = omega arith
+
+is-tsc1-requires : tie.Need-is-tsc1-requires
+is-tsc1-requires c κs = omega arith
+
+returns : tie.Need-returns
+unfolding numbersOf field fields
+returns c = ap not (c .is-tsc1 .ensures) ∙ ap (isWritten (c .before .before .before .before .args .card)) (sym (c .before .before .before .if1 .taken))
+
+number-of-requires : tie.Need-number-of-requires
+number-of-requires c κs = omega arith
+
+mul-result : tie.Need-mul-result
+mul-result c = omega arith
+
+array-read-result : tie.Need-array-read-result
+array-read-result c = omega arith
+
+returns-2 : tie.Need-returns-2
+returns-2 c =
+    let a = c .before .before .args in
+    rw (c .number-of .ensures, absent-one (a .card .words) (a .k) (c .number-of .result) (c .before .before .pre .0) (c .before .if1 .left)) refl
+
+pub is-written-spec : {M : Type 1} → statement M
+is-written-spec =
+    tie.close
+    (tie.spec
+    cast-is-tsc1
+    is-tsc1-requires
+    returns
+    number-of-requires
+    mul-result
+    array-read-result
+    returns-2)
