@@ -10,14 +10,6 @@ use lib.ListN.{length, getD, set, take, drop, replicate, length-append, length-d
 use lib.Seq.{paste-suc, take-all, length-take-le, drop-nil, drop-drop, take-at, drop-at, take-append-seam}
 use Rattle.cycle.specs.Notation.{zeroFilled}
 
--- what holds below i and at i, holds below i + 1
-pub extend : (P : ℕ → Type 0) (i : ℕ) → ((j : ℕ) → j < i → P j) → P i → (j : ℕ) → j < i + 1 → P j
-extend P i h t j l = go (ℕ-discrete j i)
-  where
-    go : Dec (j ≡ i) → P j
-    go (yes e) = subst P (sym e) t
-    go (no ne) = h j (omega arith)
-
 -- d with the first n of s in its place
 abbrev pub over : List ℕ → List ℕ → ℕ → List ℕ
 over s d n = take n s ++ drop n d

@@ -14,7 +14,8 @@ use lib.Seq.{getD-set-same, getD-set-other}
 use Rattle.cycle.specs.Notation.{iterate}
 use Rattle.cycle.specs.Cycle.{SingleCycle}
 use Rattle.cycle.proofs.Iterate.{iterate-below}
-use Rattle.card_format.proofs.Lists.{extend, getD-filler}
+use Rattle.cycle.proofs.Every.{extend}
+use Rattle.card_format.proofs.Lists.{getD-filler}
 use Rattle.tsc.specs.declared.Card.{Card}
 use Rattle.tsc.specs.Constants.{mostWords}
 use Rattle.tsc.specs.Coverage.{WellFormed}

@@ -1,7 +1,7 @@
 -- A test of all numbers below n, which antt computes where it is closed, and the rule that it gives at each of them; and back.
-use mathlib.Core.Path.{_≡_, refl, sym, _∙_}
+use mathlib.Core.Path.{_≡_, refl, sym, _∙_, subst}
 use mathlib.Core.Bool.{Bool, true, false, and-eq-true-iff, true≢false}
-use Prim.Native.Nat.{ℕ, zero, suc, _<_}
+use Prim.Native.Nat.{ℕ, zero, suc, _+_, _<_}
 use native.Mathlib.Decide.{ℕ-discrete}
 use native.Mathlib.Omega.{arith}
 use Rattle.cycle.specs.Notation.{every}
@@ -28,3 +28,11 @@ every-not n p k l h = go (every n p) refl
     go : (b : Bool) → every n p ≡ b → b ≡ false
     go true e = absurd (true≢false (sym (every-at n p e k l) ∙ h))
     go false e = refl
+
+-- what holds below i and at i, holds below i + 1
+pub extend : (P : ℕ → Type 0) (i : ℕ) → ((j : ℕ) → j < i → P j) → P i → (j : ℕ) → j < i + 1 → P j
+extend P i h t j l = go (ℕ-discrete j i)
+  where
+    go : Dec (j ≡ i) → P j
+    go (yes e) = subst P (sym e) t
+    go (no ne) = h j (omega arith)

@@ -8,7 +8,7 @@ use lib.ListN.{length, getD, take}
 use lib.Seq.{length-take-le, take-all}
 use Rattle.tsc.specs.Constants.{tsc1Table}
 use Rattle.card_format.proofs.Fields.{same-all, same-not}
-use Rattle.card_format.proofs.Lists.{extend}
+use Rattle.cycle.proofs.Every.{extend}
 use Rattle.card_fields.proofs.table.is_tsc1.Statement.{statement}
 use Rattle.card_fields.proofs.table.is_tsc1.Tie as tie
 

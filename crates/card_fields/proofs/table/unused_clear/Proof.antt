@@ -3,7 +3,7 @@ use Prim.Native.Nat.{ℕ, _-_, _^_, _≤_, _<_}
 use native.Mathlib.Omega.{arith}
 use lib.ListN.{getD}
 use Rattle.tsc.specs.Constants.{mostWords}
-use Rattle.card_format.proofs.Lists.{extend}
+use Rattle.cycle.proofs.Every.{extend}
 use Rattle.card_format.proofs.Fields.{few-entries, unused-clear, unused-not-clear}
 use Rattle.card_fields.proofs.table.unused_clear.Statement.{statement}
 use Rattle.card_fields.proofs.table.unused_clear.Tie as tie

@@ -1,0 +1,3 @@
+-- Laws for the functions on lists.
+pub mod Twice
+pub mod Least

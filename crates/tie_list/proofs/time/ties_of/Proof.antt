@@ -1,0 +1,63 @@
+use mathlib.Core.Path.{_≡_, sym, ap, _∙_}
+use Prim.Native.Nat.{ℕ, _-_, _≤_}
+use native.Mathlib.Numerals.{add-one}
+use native.Mathlib.Omega.{arith}
+use lib.Dec.{eqb}
+use lib.ListN.{length, getD}
+use Rattle.ties.specs.Ties.{count}
+use Rattle.ties.proofs.Counts.{count-none, counted-fits, counted-next}
+use Rattle.tie_list.proofs.Least.{ties-counted}
+use Rattle.tie_list.proofs.time.ties_of.Statement.{statement}
+use Rattle.tie_list.proofs.time.ties_of.Tie as tie
+use Rattle.tie_list.proofs.time.ties_of.Reads as reads
+use Rattle.tie_list.proofs.time.ties_of.Lts as lts
+use Rattle.tie_list.proofs.time.tied.Reads as tied-reads
+
+abbrev Inv-loop : tie.InvT-loop
+Inv-loop times least k₀ i₀ k i = (i ≤ length times) × (k ≡ count i (λ j. eqb (getD times j 0) least))
+
+abbrev μ-loop : tie.MeasureT-loop
+μ-loop times least k₀ i₀ k i = length times - i
+
+loop-holds : tie.Need-loop-holds Inv-loop μ-loop
+loop-holds c = (omega arith, sym (count-none _))
+
+mul-tied : tie.Need-mul-tied Inv-loop μ-loop
+mul-tied c = omega arith
+
+shared-slice-read-tied : tie.Need-shared-slice-read-tied Inv-loop μ-loop
+shared-slice-read-tied c = omega arith
+
+tied-requires : tie.Need-tied-requires Inv-loop μ-loop
+tied-requires c κs = tt
+
+add-k : tie.Need-add-k Inv-loop μ-loop
+add-k c = let l = c .before .before .before .loop in let a = c .before .before .before .before .before .args in omega (arith, counted-fits (l .i) (λ j. eqb (getD (a .times .now) j 0) (a .least)) (l .inv .1) (c .tied .ensures))
+
+add-i : tie.Need-add-i Inv-loop μ-loop
+add-i c = omega arith
+
+loop-less : tie.Need-loop-less Inv-loop μ-loop
+loop-less c = omega arith
+
+loop-again : tie.Need-loop-again Inv-loop μ-loop
+loop-again c = let l = c .before .before .before .loop in let a = c .before .before .before .before .before .args in (omega arith, counted-next (l .i) (λ j. eqb (getD (a .times .now) j 0) (a .least)) (l .inv .1) (c .tied .ensures))
+
+returns : tie.Need-returns Inv-loop μ-loop
+returns c = let l = c .before .loop in let a = c .before .before .before .args in let e : l .i ≡ length (a .times .now) = omega arith in l .inv .1 ∙ ap (λ (n : ℕ). count n (λ j. eqb (getD (a .times .now) j 0) (a .least))) e ∙ ties-counted (a .times .now) (a .least) (c .before .before .before .pre)
+
+pub ties-of-spec : {M : Type 1} → statement M
+ties-of-spec =
+    tie.close
+    (tie.spec
+    Inv-loop
+    μ-loop
+    loop-holds
+    mul-tied
+    shared-slice-read-tied
+    tied-requires
+    add-k
+    add-i
+    loop-less
+    loop-again
+    returns)

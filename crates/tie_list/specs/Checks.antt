@@ -1,0 +1,15 @@
+-- Conditions 12 to 15 (document 01, Refusal table): what is refused of a list of shovels and times.
+use mathlib.Core.Bool.{not}
+use mathlib.Core.List.{List, [], _∷_}
+use Prim.Native.Nat.{ℕ}
+use lib.Dec.{eqb, ltb}
+use lib.ListN.{length}
+use Rattle.card_format.specs.Refusals.{Check, check, lengthMismatch, noShovel, tooManyShovels, duplicateShovel}
+use Rattle.ties.specs.Ties.{mostShovels, twice}
+
+unfoldable pub listChecks : List ℕ → List ℕ → List Check
+listChecks shovels times =
+    check lengthMismatch (not (eqb (length shovels) (length times))) ∷ check noShovel (eqb (length shovels) 0)
+    ∷ check tooManyShovels (ltb mostShovels (length shovels))
+    ∷ check duplicateShovel (twice shovels)
+    ∷ []

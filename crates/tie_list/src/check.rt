@@ -1,0 +1,59 @@
+// What is refused of a list: refusals 12 to 15.
+ghost use mathlib.Core.Path.{_≡_};
+ghost use Prim.Native.Nat.{_<_};
+ghost use lib.ListN.{length};
+ghost use Rattle.card_format.specs.Refusals.{firstOf};
+ghost use Rattle.ties.specs.Ties.{twice};
+ghost use Rattle.tie_list.specs.Checks.{listChecks};
+ghost use Rattle.tie_list.specs.Steps.{repeatsAt};
+use super::MOST_SHOVELS;
+use card_format::refusal;
+
+// Whether number i stands before i as well; looked for at every distance d back from i.
+fn repeats_at(shovels: &[u16], i: usize) -> bool
+    requires { ⌜ i < length (now shovels) ⌝ }
+    ensures { λ r. ⌜ r ≡ repeatsAt (now (shovels .entry)) i ⌝ }
+{
+    let x = shovels[i];
+    let mut d = 1;
+    while d <= i {
+        if shovels[i - d] == x {
+            return true;
+        }
+        d += 1;
+    }
+    false
+}
+
+// Whether a number stands twice.
+fn repeated(shovels: &[u16]) -> bool
+    ensures { λ r. ⌜ r ≡ twice (now (shovels .entry)) ⌝ }
+{
+    let mut i = 0;
+    while i < shovels.len() {
+        if repeats_at(shovels, i) {
+            return true;
+        }
+        i += 1;
+    }
+    false
+}
+
+// The first of refusals 12 to 15 that applies, or 0.
+pub fn list_refusal(shovels: &[u16], times: &[u32]) -> u8
+    ensures { λ r. ⌜ r ≡ firstOf (listChecks (now (shovels .entry)) (now (times .entry))) ⌝ }
+{
+    if shovels.len() != times.len() {
+        return refusal::LENGTH_MISMATCH;
+    }
+    if shovels.len() == 0 {
+        return refusal::NO_SHOVEL;
+    }
+    if MOST_SHOVELS < shovels.len() {
+        return refusal::TOO_MANY_SHOVELS;
+    }
+    if repeated(shovels) {
+        return refusal::DUPLICATE_SHOVEL;
+    }
+    0
+}

@@ -1,0 +1,51 @@
+-- The shovels with the least time and their ranks (document 01, Step, word and pick). Entry i of a list is shovel i's number, or its time.
+use mathlib.Core.Bool.{Bool, cond, not, _&&_}
+use mathlib.Core.List.{List}
+use Prim.Native.Nat.{ℕ, zero, suc}
+use lib.Dec.{eqb, leb, ltb}
+use lib.ListN.{length, getD}
+use Rattle.cycle.specs.Notation.{sum, every}
+
+-- the most shovels of a pick
+abbrev pub mostShovels : ℕ
+mostShovels = 64
+
+-- how many of 0, 1, .., n - 1 meet p
+abbrev pub one : Bool → ℕ
+one b = cond b 1 0
+
+unfoldable pub count : ℕ → (ℕ → Bool) → ℕ
+count n p = sum n (λ i. one (p i))
+
+-- the first of 0, 1, .. that meets p, or n where none below n does
+unfoldable pub first : ℕ → (ℕ → Bool) → ℕ
+first zero p = zero
+first (suc n) p = cond (p zero) zero (suc (first n (λ i. p (suc i))))
+
+-- whether shovel i is one of the ties (document 01: the equals): no time is less than its own
+unfoldable pub isTie : List ℕ → ℕ → Bool
+isTie times i = every (length times) (λ j. leb (getD times i 0) (getD times j 0))
+
+-- k, how many ties there are
+unfoldable pub ties : List ℕ → ℕ
+ties times = count (length times) (isTie times)
+
+-- the rank of number x: how many ties have a lower one
+unfoldable pub rank : List ℕ → List ℕ → ℕ → ℕ
+rank shovels times x = count (length times) (λ i. isTie times i && ltb (getD shovels i 0) x)
+
+-- whether shovel i is the tie of rank r
+unfoldable pub hasRank : List ℕ → List ℕ → ℕ → ℕ → Bool
+hasRank shovels times r i = isTie times i && eqb (rank shovels times (getD shovels i 0)) r
+
+-- the number of the tie of rank r
+unfoldable pub chosen : List ℕ → List ℕ → ℕ → ℕ
+chosen shovels times r = getD shovels (first (length times) (hasRank shovels times r)) 0
+
+-- how often x stands in a list
+abbrev pub occurs : List ℕ → ℕ → ℕ
+occurs xs x = count (length xs) (λ j. eqb (getD xs j 0) x)
+
+-- whether a number stands twice: not each stands once at most
+unfoldable pub twice : List ℕ → Bool
+twice shovels = not (every (length shovels) (λ i. leb (occurs shovels (getD shovels i 0)) 1))
