@@ -14,7 +14,6 @@ use lib.Count.{trailingZeros, trailing-le}
 use lib.Dec.{eqb, leb, ltb}
 use lib.ListN.{length, getD, set, drop, length-drop}
 use lib.Seq.{getD-set-other, set-getD}
-use Rattle.tsc.specs.declared.Card.{Card}
 use Rattle.tsc.specs.Constants.{mostWords, tsc1Table}
 use Rattle.cycle.specs.Notation.{sum}
 use Rattle.card_read.specs.declared.read.Values.{Values}

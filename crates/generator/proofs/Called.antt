@@ -23,7 +23,6 @@ use Rattle.generator.specs.declared.Draw.{Draw}
 use Rattle.generator.specs.declared.Draw.the-variants.{Word, Refused}
 use Rattle.stepping.specs.State.{used, Holds, holding}
 use Rattle.generator.specs.Calls.{refusalFor, unlessRefused, opening, drawing}
-use Rattle.stepping.proofs.Holding.{word-holding}
 use Rattle.generator.proofs.Opening.{passed, begun, begun-refused, unless-refused, held, holds}
 
 -- a call that is refused, whatever else it promises of an answer 0
@@ -51,18 +50,16 @@ module _ (bytes xs : List ℕ) (o : Opened) (e : o ≡ opening bytes xs) (z : o 
   ready =
       rw (card-is, begun bytes xs o e z .2) (accepted, holds (cardOf bytes) xs in-range)
 
-  used-is : used (o .card) (o .state) ≡ xs
-  used-is = ap₂ used card-is (begun bytes xs o e z .2) ∙ held (cardOf bytes) xs in-range
+  pub size : length xs ≡ o .card .words
+  size = rw card-is (in-range .0)
 
-  -- the state moved by f, as it is stored
-  pub moved : (f : Card → List ℕ → List ℕ) (s : State) → s ≡ holding (f (o .card) (used (o .card) (o .state))) → s ≡ holding (f (cardOf bytes) xs)
-  moved f s h = h ∙ ap₂ (λ (c : Card) (w : List ℕ). holding (f c w)) card-is used-is
+  -- what is worked out from the values is worked out from the card's bytes and the lent words
+  pub of-values : {A : Type 0} (f : Card → List ℕ → A) → f (o .card) (used (o .card) (o .state)) ≡ f (cardOf bytes) xs
+  of-values f = ap₂ f card-is (ap₂ used card-is (begun bytes xs o e z .2) ∙ held (cardOf bytes) xs in-range)
 
-  pub stored : (ys : List ℕ) (s : State) → IsState (cardOf bytes) ys → s ≡ holding ys → take (length xs) (s .words) ≡ ys
-  stored ys s sy h = ap (λ (s : State). take (length xs) (s .words)) h ∙ take-filled mostWords (length xs) ys (sy .0 ∙ sym (in-range .0))
-
-  pub word-of-next : (ys : List ℕ) (s : State) (w : ℕ) → s ≡ holding ys → w ≡ word (o .card) (s .words) → w ≡ word (cardOf bytes) ys
-  word-of-next ys s w h u = u ∙ ap₂ (λ (c : Card) (s : State). word c (s .words)) card-is h ∙ word-holding (cardOf bytes) ys
+-- a state as it is stored over n lent words
+pub stored : (card : Card) (n : ℕ) (ys : List ℕ) (s : State) → n ≡ card .words → IsState card ys → s ≡ holding ys → take n (s .words) ≡ ys
+stored card n ys s e sy h = ap (λ (s : State). take n (s .words)) h ∙ take-filled mostWords n ys (sy .0 ∙ sym e)
 
 -- ---- the word of a draw's answer
 

@@ -23,9 +23,13 @@ unfoldable pub stateChecks : Card → List ℕ → List Check
 stateChecks card xs =
     check wordCount (not (eqb (length xs) (card .words))) ∷ check wordTooWide (not (every (length xs) (λ k. ltb (getD xs k 0) (2 ^ card .width)))) ∷ []
 
--- the refusal that a step, a step back and a draw tell of a card's bytes and a state: 1 to 9, then 10 and 11; 0 where none applies
+-- what each call looks at: 1 to 9, then 10 and 11
+abbrev pub callChecks : List ℕ → List ℕ → List Check
+callChecks bytes xs = cardChecks bytes ++ stateChecks (cardOf bytes) xs
+
+-- the refusal that a step, a step back and a draw tell of a card's bytes and a state; 0 where none applies
 unfoldable pub refusalFor : List ℕ → List ℕ → ℕ
-refusalFor bytes xs = firstOf (cardChecks bytes ++ stateChecks (cardOf bytes) xs)
+refusalFor bytes xs = firstOf (callChecks bytes xs)
 
 -- the state words after a call: ys, or as lent where it refuses
 abbrev pub unlessRefused : List ℕ → List ℕ → List ℕ → List ℕ

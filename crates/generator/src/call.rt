@@ -2,7 +2,12 @@
 ghost use mathlib.Core.Path.{_≡_};
 ghost use Prim.Native.Nat.{ℕ, _^_, _<_};
 ghost use Rattle.tsc.specs.Coverage.{IsState, stepBack};
+ghost use lib.ListN.{length};
+ghost use Rattle.tsc.specs.Step.{step};
+ghost use Rattle.tsc.specs.Word.{word};
 ghost use Rattle.card_format.specs.Reading.{cardOf};
+ghost use Rattle.card_format.specs.Verdict.{Accepted};
+ghost use Rattle.stepping.specs.State.{used, Holds};
 ghost use Rattle.generator.specs.declared.Draw.the-variants.{Word};
 ghost use Rattle.generator.specs.Calls.{refusalFor, refusedWith, opening, stepped, steppedBack, drawing, OnlyBefore};
 use super::Draw;
@@ -92,6 +97,17 @@ pub fn step_back(card: &[u8], state: &mut [u32]) -> u8
     0
 }
 
+// A step of a state by value, over the lent words, and the word of the state that it comes to. Draw and pick call it once nothing is refused.
+pub fn advance(card: Card, s: State, state: &mut [u32]) -> u32
+    requires { ⌜ Accepted card × Holds card s × (length (now state) ≡ card .words) ⌝ }
+    ensures { λ r. ⌜ r ≡ word card (step card (used card s)) ⌝ }
+    ensures { λ _. ⌜ now (state .exit) ≡ step card (used card s) ⌝ }
+{
+    let after = step::next_state(card, step::forward(card), s);
+    lent::store(after, state);
+    filter::word_of(card, after)
+}
+
 // One step of the state, and the word of the state that it comes to; or the refusal. A word is below 2^n.
 pub fn draw(card: &[u8], state: &mut [u32]) -> Draw
     ensures answer { λ r. ⌜ r ≡ drawing (now (card .entry)) (now (state .entry)) ⌝ }
@@ -104,8 +120,6 @@ pub fn draw(card: &[u8], state: &mut [u32]) -> Draw
     }
     let values = begun.card;
     let held = begun.state;
-    let after = step::next_state(values, step::forward(values), held);
-    lent::store(after, state);
-    let word = filter::word_of(values, after);
+    let word = advance(values, held, state);
     Draw::Word(word)
 }

@@ -3,11 +3,13 @@ use native.Mathlib.Omega.{arith}
 use Rattle.tsc.specs.Coverage.{IsState, stepBack}
 use Rattle.card_format.specs.Reading.{cardOf}
 use Rattle.generator.proofs.Opening.{unless-passed}
+use lib.ListN.{length}
 use Rattle.tsc.specs.Step.{step}
+use Rattle.stepping.specs.State.{holding}
 use Rattle.tsc.proofs.Step.{step-in-range}
 use Rattle.tsc.proofs.StepBack.{back-of-step}
 use Rattle.generator.specs.Calls.{stepped}
-use Rattle.generator.proofs.Called.{call-refused, none, accepted, in-range, few, ready, moved, stored}
+use Rattle.generator.proofs.Called.{call-refused, none, accepted, in-range, few, ready, of-values, stored}
 use Rattle.generator.proofs.call.step.Statement.{statement}
 use Rattle.generator.proofs.call.step.Tie as tie
 
@@ -42,7 +44,7 @@ returns-2 c =
     let e = c .before .before .before .before .before .before .before .before .before .before .«open» .ensures in
     let z = c .before .before .before .before .before .before .before .before .if1 .left in
     let state = step-in-range card xs in
-    let exit = c .before .before .store .ensures ∙ stored bytes xs _ e z (step card xs) _ state (moved bytes xs _ e z step _ (c .before .before .before .before .next-state .ensures)) in
+    let exit = c .before .before .store .ensures ∙ stored card (length xs) (step card xs) _ (in-range bytes xs _ e z .0) state (c .before .before .before .before .next-state .ensures ∙ of-values bytes xs _ e z (λ c w. holding (step c w))) in
     let ok = accepted bytes xs _ e z in (
       sym (none bytes xs _ e z),
       (

@@ -3,10 +3,12 @@ use native.Mathlib.Omega.{arith}
 use Rattle.tsc.specs.Coverage.{IsState, stepBack}
 use Rattle.card_format.specs.Reading.{cardOf}
 use Rattle.generator.proofs.Opening.{unless-passed}
+use lib.ListN.{length}
 use Rattle.tsc.specs.Step.{step}
+use Rattle.stepping.specs.State.{holding}
 use Rattle.tsc.proofs.StepBack.{step-back-in-range, step-of-back, back-only}
 use Rattle.generator.specs.Calls.{steppedBack}
-use Rattle.generator.proofs.Called.{call-refused, none, accepted, in-range, few, ready, moved, stored}
+use Rattle.generator.proofs.Called.{call-refused, none, accepted, in-range, few, ready, of-values, stored}
 use Rattle.generator.proofs.call.step_back.Statement.{statement}
 use Rattle.generator.proofs.call.step_back.Tie as tie
 
@@ -43,7 +45,7 @@ returns-2 c =
     let z = c .before .before .before .before .before .before .before .before .if1 .left in
     let held = in-range bytes xs _ e z in
     let state = step-back-in-range card xs held in
-    let exit = c .before .before .store .ensures ∙ stored bytes xs _ e z (stepBack card xs) _ state (moved bytes xs _ e z stepBack _ (c .before .before .before .before .previous-state .ensures)) in
+    let exit = c .before .before .store .ensures ∙ stored card (length xs) (stepBack card xs) _ (in-range bytes xs _ e z .0) state (c .before .before .before .before .previous-state .ensures ∙ of-values bytes xs _ e z (λ c w. holding (stepBack c w))) in
     let ok = accepted bytes xs _ e z in (
       sym (none bytes xs _ e z),
       (

@@ -1,13 +1,9 @@
-use mathlib.Core.Path.{_≡_, sym, _∙_}
+use mathlib.Core.Path.{sym, _∙_}
 use borrow.Author.Tests.{eq-eqb, ne-eqb, lt-ltb, le-ltb}
 use Rattle.card_format.specs.Refusals.{firstOf}
 use Rattle.tie_list.specs.Checks.{listChecks}
-use borrow.Author.Needs.{needs}
 use Rattle.tie_list.proofs.check.list_refusal.Statement.{statement}
 use Rattle.tie_list.proofs.check.list_refusal.Tie as tie
-use Rattle.tie_list.proofs.check.list_refusal.Reads as reads
-use Rattle.tie_list.proofs.check.list_refusal.Lts as lts
-use Rattle.tie_list.proofs.check.repeated.Reads as repeated-reads
 
 returns : tie.Need-returns
 unfolding listChecks firstOf

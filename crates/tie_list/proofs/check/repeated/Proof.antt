@@ -8,9 +8,6 @@ use Rattle.tie_list.specs.Steps.{repeatsAt}
 use Rattle.tie_list.proofs.Twice.{twice-none, twice-found}
 use Rattle.tie_list.proofs.check.repeated.Statement.{statement}
 use Rattle.tie_list.proofs.check.repeated.Tie as tie
-use Rattle.tie_list.proofs.check.repeated.Reads as reads
-use Rattle.tie_list.proofs.check.repeated.Lts as lts
-use Rattle.tie_list.proofs.check.repeats_at.Reads as repeats-at-reads
 
 abbrev Inv-loop : tie.InvT-loop
 Inv-loop shovels i₀ i = (i ≤ length shovels) × ((j : ℕ) → j < i → repeatsAt shovels j ≡ false)

@@ -1,14 +1,11 @@
-use mathlib.Core.Path.{_≡_, refl, sym, ap, _∙_}
+use mathlib.Core.Path.{_≡_, refl, sym, _∙_}
 use mathlib.Core.Logic.{_≢_}
-use Prim.Native.Nat.{ℕ, _+_, _-_, _<_, _≤_}
-use native.Mathlib.Decide.{ℕ-discrete}
+use Prim.Native.Nat.{ℕ, _+_, _-_, _<_}
 use native.Mathlib.Omega.{arith}
 use lib.ListN.{length, getD}
 use Rattle.tie_list.proofs.Twice.{repeats-none, repeats-found, farther}
 use Rattle.tie_list.proofs.check.repeats_at.Statement.{statement}
 use Rattle.tie_list.proofs.check.repeats_at.Tie as tie
-use Rattle.tie_list.proofs.check.repeats_at.Reads as reads
-use Rattle.tie_list.proofs.check.repeats_at.Lts as lts
 
 abbrev Inv-loop : tie.InvT-loop
 Inv-loop shovels i x d₀ d = (i < length shovels) × (0 < d) × (x ≡ getD shovels i 0) × ((j : ℕ) → j < i → i < j + d → getD shovels j 0 ≢ x)

@@ -1,4 +1,4 @@
-use mathlib.Core.Path.{_≡_, sym, subst}
+use mathlib.Core.Path.{_≡_, subst}
 use Prim.Native.Nat.{ℕ, _-_, _≤_}
 use native.Mathlib.Omega.{arith}
 use lib.ListN.{length}
@@ -6,9 +6,6 @@ use Rattle.tie_list.specs.Steps.{LeastOf}
 use Rattle.tie_list.proofs.Least.{least-first, least-next}
 use Rattle.tie_list.proofs.time.least_time.Statement.{statement}
 use Rattle.tie_list.proofs.time.least_time.Tie as tie
-use Rattle.tie_list.proofs.time.least_time.Reads as reads
-use Rattle.tie_list.proofs.time.least_time.Lts as lts
-use Rattle.tie_list.proofs.time.lesser.Reads as lesser-reads
 
 abbrev Inv-loop : tie.InvT-loop
 Inv-loop times least₀ i₀ least i = (i ≤ length times) × LeastOf times i least

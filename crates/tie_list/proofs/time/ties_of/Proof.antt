@@ -1,6 +1,5 @@
 use mathlib.Core.Path.{_≡_, sym, ap, _∙_}
 use Prim.Native.Nat.{ℕ, _-_, _≤_}
-use native.Mathlib.Numerals.{add-one}
 use native.Mathlib.Omega.{arith}
 use lib.Dec.{eqb}
 use lib.ListN.{length, getD}
@@ -9,9 +8,6 @@ use Rattle.ties.proofs.Counts.{count-none, counted-fits, counted-next}
 use Rattle.tie_list.proofs.Least.{ties-counted}
 use Rattle.tie_list.proofs.time.ties_of.Statement.{statement}
 use Rattle.tie_list.proofs.time.ties_of.Tie as tie
-use Rattle.tie_list.proofs.time.ties_of.Reads as reads
-use Rattle.tie_list.proofs.time.ties_of.Lts as lts
-use Rattle.tie_list.proofs.time.tied.Reads as tied-reads
 
 abbrev Inv-loop : tie.InvT-loop
 Inv-loop times least k₀ i₀ k i = (i ≤ length times) × (k ≡ count i (λ j. eqb (getD times j 0) least))

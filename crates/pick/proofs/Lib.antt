@@ -1,0 +1,4 @@
+-- What is proved of picks.
+pub mod Picking
+pub mod Choice
+pub mod Shift

@@ -1,0 +1,3 @@
+-- What a pick answers and leaves, and picks over a shift.
+pub mod Picks
+pub mod Shift

@@ -1,0 +1,47 @@
+// The pick on lent slices: any bytes as a card, any words as a state, any numbers and times. A refusal leaves the state as lent.
+ghost use mathlib.Core.Path.{_≡_};
+ghost use Prim.Native.Nat.{_<_};
+ghost use Rattle.card_format.specs.Verdict.{Accepted};
+ghost use Rattle.stepping.specs.State.{used, Holds};
+ghost use Rattle.pick.specs.Picks.{drawnRank, drawnState, picking, picked};
+use super::Pick;
+use generator::call;
+use tie_list::check;
+use tie_list::rank;
+use tie_list::time;
+use tsc::Card;
+use tsc::State;
+
+// The rank among k ties: 0 for one alone, else the word of a step modulo k, and the state is moved. The pick calls it once nothing is refused.
+fn drawn_rank(card: Card, s: State, k: u32, state: &mut [u32]) -> u32
+    requires { ⌜ Accepted card × Holds card s × (now state ≡ used card s) × (0 < k) ⌝ }
+    ensures { λ r. ⌜ r ≡ drawnRank card (now (state .entry)) k ⌝ }
+    ensures { λ _. ⌜ now (state .exit) ≡ drawnState card (now (state .entry)) k ⌝ }
+{
+    if k == 1 {
+        return 0;
+    }
+    call::advance(card, s, state) % k
+}
+
+// The shovel of least time; of several, the one whose rank by ascending number is drawn. Or the first refusal of 1 to 15 that applies.
+pub fn pick(card: &[u8], state: &mut [u32], shovels: &[u16], times: &[u32]) -> Pick
+    ensures answer { λ r. ⌜ r ≡ picking (now (card .entry)) (now (state .entry)) (now (shovels .entry)) (now (times .entry)) ⌝ }
+    ensures after { λ r. ⌜ now (state .exit) ≡ picked (now (card .entry)) (now (state .entry)) (now (shovels .entry)) (now (times .entry)) ⌝ }
+{
+    let begun = call::open(card, state);
+    if begun.refusal != 0 {
+        return Pick::Refused(begun.refusal);
+    }
+    let told = check::list_refusal(shovels, times);
+    if told != 0 {
+        return Pick::Refused(told);
+    }
+    let least = time::least_time(times);
+    let k = time::ties_of(times, least);
+    let values = begun.card;
+    let held = begun.state;
+    let place = drawn_rank(values, held, k as u32, state);
+    let number = rank::chosen_by(shovels, times, least, place as usize);
+    Pick::Shovel(number, k as u8)
+}
