@@ -1,13 +1,12 @@
 -- Which shovel a pick chooses, and that the order of the list makes no difference to the answer and the state after.
-use mathlib.Core.Path.{_≡_, refl, sym, ap, ap₂, _∙_, subst}
-use mathlib.Core.Bool.{Bool, true, not, cond}
+use mathlib.Core.Path.{_≡_, refl, sym, ap, _∙_, subst}
+use mathlib.Core.Bool.{true}
 use mathlib.Core.List.{List, _++_}
 use Prim.Native.Nat.{ℕ, _%_, _≤_, _<_}
 use native.Mathlib.Nat.{mod-lt, mod-eq-of-lt}
 use native.Mathlib.Decide.{ℕ-discrete}
 use native.Mathlib.Omega.{arith}
 use borrow.Author.Tests.{eq-eqb, ne-eqb}
-use lib.Dec.{eqb, ltb}
 use lib.ListN.{length, getD}
 use Rattle.tsc.specs.declared.Card.{Card}
 use Rattle.tsc.specs.Step.{step}
@@ -15,13 +14,12 @@ use Rattle.tsc.specs.Word.{word}
 use Rattle.card_format.specs.Refusals.{Check, firstOf}
 use Rattle.card_format.specs.Reading.{cardOf}
 use Rattle.generator.specs.Calls.{callChecks}
-use Rattle.ties.specs.Ties.{mostShovels, isTie, ties, rank, chosen, twice}
+use Rattle.ties.specs.Ties.{mostShovels, isTie, ties, rank, chosen}
 use Rattle.ties.specs.Order.{Permutes, reordered, SameShovels}
 use Rattle.ties.proofs.Rank.{TieAt, ties-some, ties-le, rank-lt, tie-of-rank, chosen-is}
 use Rattle.ties.proofs.Order.{length-reordered, ties-reordered, chosen-reordered, twice-reordered}
 use Rattle.tie_list.specs.Checks.{listChecks}
 use Rattle.tie_list.proofs.Allowed.{Allowed}
-use Rattle.pick.specs.declared.Pick.{Pick}
 use Rattle.pick.specs.declared.Pick.the-variants.{Shovel}
 use Rattle.pick.specs.Picks.{pickRefusal, drawnRank, drawnState, picking, picked}
 use Rattle.pick.proofs.Picking.{pick-passed, picking-refused, picking-chosen}

@@ -1,10 +1,10 @@
 -- What the checks of a pick come to, and its answer and state words then.
-use mathlib.Core.Path.{_≡_, sym, ap, ap₂, _∙_}
+use mathlib.Core.Path.{_≡_, sym, ap₂, _∙_}
 use mathlib.Core.Logic.{_≢_}
 use mathlib.Core.List.{List}
 use Prim.Native.Nat.{ℕ}
 use native.Mathlib.Decide.{ℕ-discrete}
-use borrow.Author.Tests.{eq-eqb, ne-eqb}
+use borrow.Author.Tests.{ne-eqb}
 use Rattle.card_format.specs.Refusals.{firstOf}
 use Rattle.card_format.specs.Reading.{cardOf}
 use Rattle.card_format.proofs.Refusals.{none-first, first-append, first-left}
@@ -12,7 +12,6 @@ use Rattle.generator.specs.Calls.{callChecks, refusalFor}
 use Rattle.ties.specs.Ties.{ties, chosen}
 use Rattle.tie_list.specs.Checks.{listChecks}
 use Rattle.tie_list.proofs.Allowed.{Allowed, list-allowed}
-use Rattle.pick.specs.declared.Pick.{Pick}
 use Rattle.pick.specs.declared.Pick.the-variants.{Shovel, Refused}
 use Rattle.pick.specs.Picks.{pickRefusal, drawnRank, drawnState, picking, picked}
 

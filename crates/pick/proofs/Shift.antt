@@ -1,9 +1,9 @@
 -- The standby server: the same requests from the same state, each list in an order of its own, the same answers throughout and the same state at the end.
-use mathlib.Core.Path.{_≡_, refl, sym, ap, ap₂, _∙_}
+use mathlib.Core.Path.{_≡_, refl, ap, ap₂, _∙_}
 use mathlib.Core.List.{List, [], _∷_}
 use Prim.Native.Nat.{ℕ}
 use Rattle.pick.specs.declared.Pick.{Pick}
-use Rattle.pick.specs.Picks.{picking, picked}
+use Rattle.pick.specs.Picks.{picked}
 use Rattle.pick.specs.Shift.{Request, answers, stateAfter, Alike}
 use Rattle.pick.proofs.Choice.{pick-order}
 

@@ -1,6 +1,6 @@
 // The pick on lent slices: any bytes as a card, any words as a state, any numbers and times. A refusal leaves the state as lent.
 ghost use mathlib.Core.Path.{_≡_};
-ghost use Prim.Native.Nat.{_<_};
+ghost use Prim.Native.Nat.{_%_, _<_};
 ghost use Rattle.card_format.specs.Verdict.{Accepted};
 ghost use Rattle.stepping.specs.State.{used, Holds};
 ghost use Rattle.pick.specs.Picks.{drawnRank, drawnState, picking, picked};
@@ -12,6 +12,14 @@ use tie_list::time;
 use tsc::Card;
 use tsc::State;
 
+// A word's rank among k ties.
+fn rank_in(word: u32, k: u32) -> u32
+    requires { ⌜ 0 < k ⌝ }
+    ensures { λ r. ⌜ r ≡ word % k ⌝ }
+{
+    word % k
+}
+
 // The rank among k ties: 0 for one alone, else the word of a step modulo k, and the state is moved. The pick calls it once nothing is refused.
 fn drawn_rank(card: Card, s: State, k: u32, state: &mut [u32]) -> u32
     requires { ⌜ Accepted card × Holds card s × (now state ≡ used card s) × (0 < k) ⌝ }
@@ -21,7 +29,7 @@ fn drawn_rank(card: Card, s: State, k: u32, state: &mut [u32]) -> u32
     if k == 1 {
         return 0;
     }
-    call::advance(card, s, state) % k
+    rank_in(call::advance(card, s, state), k)
 }
 
 // The shovel of least time; of several, the one whose rank by ascending number is drawn. Or the first refusal of 1 to 15 that applies.

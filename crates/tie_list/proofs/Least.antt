@@ -13,7 +13,7 @@ use Rattle.cycle.proofs.Every.{extend}
 use Rattle.ties.specs.Ties.{count, isTie, ties, rank}
 use Rattle.ties.proofs.Counts.{same-test, count-ext}
 use Rattle.ties.proofs.Rank.{tie-of, tie-le}
-use Rattle.tie_list.specs.Steps.{LeastOf}
+use Rattle.tie_list.specs.Steps.{LeastOf, lowerAt}
 
 module _ (times : List ℕ) where
   pub least-first : LeastOf times 1 (getD times 0 0)
@@ -47,8 +47,8 @@ module _ (times : List ℕ) where
     unfolding ties
     ties-counted = sym (count-ext (length times) (isTie times) (λ i. eqb (getD times i 0) x) tie-least)
 
-    pub rank-counted : (shovels : List ℕ) (y : ℕ) → count (length times) (λ i. eqb (getD times i 0) x && ltb (getD shovels i 0) y) ≡ rank shovels times y
+    pub rank-counted : (shovels : List ℕ) (y : ℕ) → count (length times) (lowerAt shovels times x y) ≡ rank shovels times y
     unfolding rank
     rank-counted shovels y =
-        sym (count-ext (length times) (λ i. isTie times i && ltb (getD shovels i 0) y) (λ i. eqb (getD times i 0) x && ltb (getD shovels i 0) y)
+        sym (count-ext (length times) (λ i. isTie times i && ltb (getD shovels i 0) y) (lowerAt shovels times x y)
         (λ i l. ap (λ (b : Bool). b && ltb (getD shovels i 0) y) (tie-least i l)))

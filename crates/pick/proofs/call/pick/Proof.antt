@@ -2,25 +2,15 @@ use mathlib.Core.Path.{_≡_, sym, ap, ap₂, _∙_}
 use Prim.Native.Nat.{ℕ, _<_, _≤_}
 use native.Mathlib.Omega.{arith}
 use Rattle.tsc.specs.declared.Card.{Card}
-use Rattle.generator.specs.Calls.{refusalFor}
 use Rattle.generator.proofs.Opening.{begun, begun-refused}
 use Rattle.generator.proofs.Called.{ready, of-values}
-use Rattle.ties.specs.Ties.{mostShovels, ties, chosen}
+use Rattle.ties.specs.Ties.{mostShovels, chosen}
 use Rattle.ties.proofs.Rank.{ties-some, ties-le}
 use Rattle.tie_list.proofs.Allowed.{Allowed, list-allowed}
 use Rattle.pick.specs.Picks.{pickRefusal, drawnRank, drawnState}
 use Rattle.pick.proofs.Picking.{refusal-call, refusal-list, picking-refused, picking-chosen}
-use borrow.Author.Needs.{needs}
 use Rattle.pick.proofs.call.pick.Statement.{statement}
 use Rattle.pick.proofs.call.pick.Tie as tie
-use Rattle.pick.proofs.call.pick.Reads as reads
-use Rattle.pick.proofs.call.pick.Lts as lts
-use Rattle.generator.proofs.call.open.Reads as open-reads
-use Rattle.pick.proofs.call.drawn_rank.Reads as drawn-rank-reads
-use Rattle.tie_list.proofs.check.list_refusal.Reads as list-refusal-reads
-use Rattle.tie_list.proofs.rank.chosen_by.Reads as chosen-by-reads
-use Rattle.tie_list.proofs.time.least_time.Reads as least-time-reads
-use Rattle.tie_list.proofs.time.ties_of.Reads as ties-of-reads
 
 open-requires : tie.Need-open-requires
 open-requires c κs = omega arith
