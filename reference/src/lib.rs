@@ -4,6 +4,8 @@
 //! Cycle T-functions") defines TSC-1 and TSC-2; document 01, the scope, widens the sizes and has
 //! the card and the refusal numbers. Kept plain: column by column, as document 002 (12) says.
 
+pub mod pick;
+
 /// The table of TSC-1, document 002 (14).
 pub const TSC1_TABLE: [u8; 16] = [3, 5, 9, 13, 1, 6, 11, 15, 4, 0, 8, 14, 10, 7, 2, 12];
 /// The table of TSC-2, document 002 (19).

@@ -15,6 +15,7 @@ standby-alike bytes xs [] (r ∷ rs) h = absurd h
 standby-alike bytes xs (q ∷ qs) [] h = absurd h
 standby-alike bytes xs (q ∷ qs) (r ∷ rs) h =
     let o = pick-order bytes xs (q .shovels) (q .times) (r .shovels) (r .times) (h .0) in
-    let ih = standby-alike bytes (picked bytes xs (q .shovels) (q .times)) qs rs (h .1) in
-    (ap₂ (λ (a : Pick) (rest : List Pick). a ∷ rest) (o .0) (ap (λ (ys : List ℕ). answers bytes ys rs) (o .1) ∙ ih .0),
-    ap (λ (ys : List ℕ). stateAfter bytes ys rs) (o .1) ∙ ih .1)
+    let ih = standby-alike bytes (picked bytes xs (q .shovels) (q .times)) qs rs (h .1) in (
+      ap₂ (λ (a : Pick) (rest : List Pick). a ∷ rest) (o .0) (ap (λ (ys : List ℕ). answers bytes ys rs) (o .1) ∙ ih .0),
+      ap (λ (ys : List ℕ). stateAfter bytes ys rs) (o .1) ∙ ih .1,
+    )

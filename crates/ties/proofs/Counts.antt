@@ -87,8 +87,14 @@ count-less (suc n) p q h i l e f = go (ℕ-discrete i n) (λ k. count-less n p q
   where
     go : Dec (i ≡ n) → (i < n → count n p < count n q) → count (suc n) p < count (suc n) q
     go (yes k) ih =
-        omega (arith, count-next n p, count-next n q, count-mono n p q (λ j lj. h j (omega arith)), ap (λ (j : ℕ). one (p j)) (sym k) ∙ ap one e,
-        ap (λ (j : ℕ). one (q j)) (sym k) ∙ ap one f)
+        omega (
+          arith,
+          count-next n p,
+          count-next n q,
+          count-mono n p q (λ j lj. h j (omega arith)),
+          ap (λ (j : ℕ). one (p j)) (sym k) ∙ ap one e,
+          ap (λ (j : ℕ). one (q j)) (sym k) ∙ ap one f,
+        )
     go (no ne) ih = omega (arith, count-next n p, count-next n q, ih (omega arith), one-mono (p n) (q n) (h n (le-refl (suc n))))
 
 pub count-prefix : (m n : ℕ) (p : ℕ → Bool) → m ≤ n → count m p ≤ count n p

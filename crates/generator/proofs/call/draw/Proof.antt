@@ -17,7 +17,7 @@ same-length c = omega arith
 
 returns : tie.Need-returns
 unfolding stepped
-returns c = 
+returns c =
     let bytes = c .before .before .before .before .before .before .args .card .now in
     let xs = c .before .before .before .before .before .before .args .state .now in
     let r = call-refused bytes xs (step (cardOf bytes) xs) (Unit {0}) _ (c .before .before .«open» .ensures) (c .if1 .taken) in
@@ -31,7 +31,7 @@ same-length-2 c = omega arith
 
 returns-2 : tie.Need-returns-2
 unfolding stepped
-returns-2 c = 
+returns-2 c =
     let bytes = c .before .before .before .before .before .before .before .before .before .before .before .before .args .card .now in
     let xs = c .before .before .before .before .before .before .before .before .before .before .before .before .args .state .now in
     let card = cardOf bytes in
