@@ -13,6 +13,14 @@ fn number(x: u16) -> u64 {
     x as u64
 }
 
+fn print_words(words: &[u32]) {
+    for i in 0..words.len() {
+        io::write_all(1, b" ");
+        io::print_hex(1, word(words[i]), 8);
+    }
+    io::write_all(1, b"\n");
+}
+
 // The answer, and the state after it.
 fn print_pick(card: &[u8], state: &mut [u32], shovels: &[u16], times: &[u32]) {
     match call::pick(card, state, shovels, times) {
@@ -28,11 +36,7 @@ fn print_pick(card: &[u8], state: &mut [u32], shovels: &[u16], times: &[u32]) {
         }
     }
     io::write_all(1, b" state");
-    for i in 0..state.len() {
-        io::write_all(1, b" ");
-        io::print_hex(1, word(state[i]), 8);
-    }
-    io::write_all(1, b"\n");
+    print_words(state);
 }
 
 // The pick with the cards 0 to 3: P1, P2, the program's card and P6.
@@ -162,8 +166,8 @@ fn examples() {
 
 // ---- section 2: drawn lists
 
-// A list of at most 64 shovels, and the last random number.
-struct Drawn {
+// At most 64 shovels with their times, and the last random number.
+struct Lists {
     shovels: [u16; 64],
     times: [u32; 64],
     last: u32,
@@ -218,8 +222,8 @@ fn shovel_at(base: u32, stride: u32, i: usize) -> u16 {
 }
 
 // The list in its first order: k ties of time t, then later ones.
-fn filled(base: u32, stride: u32, mode: u32, t: u32, length: usize, k: usize, x: u32) -> Drawn {
-    let mut d = Drawn {
+fn filled(base: u32, stride: u32, mode: u32, t: u32, length: usize, k: usize, x: u32) -> Lists {
+    let mut d = Lists {
         shovels: [0; 64],
         times: [t; 64],
         last: x,
@@ -237,7 +241,7 @@ fn filled(base: u32, stride: u32, mode: u32, t: u32, length: usize, k: usize, x:
 }
 
 // Places i and j exchanged.
-fn swapped(d: Drawn, i: usize, j: usize) -> Drawn {
+fn swapped(d: Lists, i: usize, j: usize) -> Lists {
     let mut out = d;
     out.shovels[i % 64] = d.shovels[j % 64];
     out.times[i % 64] = d.times[j % 64];
@@ -246,7 +250,7 @@ fn swapped(d: Drawn, i: usize, j: usize) -> Drawn {
     out
 }
 
-fn shuffled(d: Drawn, length: usize) -> Drawn {
+fn shuffled(d: Lists, length: usize) -> Lists {
     let mut out = d;
     let mut i = length;
     while 1 < i {
@@ -259,7 +263,7 @@ fn shuffled(d: Drawn, length: usize) -> Drawn {
 }
 
 // Case `number`: a list of this length with j ties, or with all its shovels tied at the greatest time where j is past the length.
-fn drawn(number: usize, length: usize, j: usize, x: u32) -> Drawn {
+fn drawn(number: usize, length: usize, j: usize, x: u32) -> Lists {
     let a = next(x);
     let b = next(a);
     let c = next(b);
@@ -272,7 +276,7 @@ fn drawn(number: usize, length: usize, j: usize, x: u32) -> Drawn {
 }
 
 // Another order: from the last place to the first, or turned by half the length.
-fn reordered(d: Drawn, number: usize, length: usize) -> Drawn
+fn reordered(d: Lists, number: usize, length: usize) -> Lists
     requires { ⌜ (0 < length) × (length ≤ 64) ⌝ }
 {
     let mut out = d;
@@ -290,7 +294,7 @@ fn reordered(d: Drawn, number: usize, length: usize) -> Drawn
 }
 
 // The pick in both orders; answers the state after it.
-fn both(which: usize, m: usize, state: [u32; 4], d: Drawn, e: Drawn, length: usize) -> [u32; 4]
+fn both(which: usize, m: usize, state: [u32; 4], d: Lists, e: Lists, length: usize) -> [u32; 4]
     requires { ⌜ (m ≤ 4) × (length ≤ 64) ⌝ }
 {
     let mut first = state;
@@ -415,13 +419,13 @@ fn long_list(
     which: usize,
     m: usize,
     state: [u32; 4],
-    shovel_count: usize,
-    time_count: usize,
+    many: usize,
+    durations: usize,
     place: usize,
     shovel: u16,
     time: u32,
 )
-    requires { ⌜ (m ≤ 4) × (shovel_count ≤ 65) × (time_count ≤ 65) × (place < 65) ⌝ }
+    requires { ⌜ (m ≤ 4) × (many ≤ 65) × (durations ≤ 65) × (place < 65) ⌝ }
 {
     let mut shovels = [0u16; 65];
     let mut times = [60u32; 65];
@@ -432,13 +436,7 @@ fn long_list(
     }
     shovels[place] = shovel;
     times[place] = time;
-    from_copy(
-        which,
-        m,
-        state,
-        &shovels[..shovel_count],
-        &times[..time_count],
-    );
+    from_copy(which, m, state, &shovels[..many], &times[..durations]);
 }
 
 fn all_lists(which: usize, m: usize, state: [u32; 4])
