@@ -1,0 +1,70 @@
+// What the program prints of a card (document 01, The program). Which numbers these are is in the contracts of the check and of the draw; no contract can
+// speak of what is read and printed, so the stored outputs of the programs inspect_.. hold that.
+use card::check;
+use generator::Draw;
+use generator::call;
+use tsc::MOST_WORDS;
+
+// The most bytes that the program reads.
+pub const MOST_BYTES: usize = 64;
+
+// The lines for an accepted card.
+pub const LINES: u8 = 4;
+
+fn wide(x: u32) -> u64 {
+    x as u64
+}
+
+// A word as eight hex digits, after a space.
+fn print_word(x: u32) {
+    io::write_all(1, b" ");
+    io::print_hex(1, wide(x), 8);
+}
+
+fn print_words(words: &[u32]) {
+    let mut k = 0;
+    while k < words.len() {
+        print_word(words[k]);
+        k += 1;
+    }
+}
+
+// One draw: its number, the state words after it, and the word.
+fn print_draw(number: u8, card: &[u8], state: &mut [u32]) {
+    match call::draw(card, state) {
+        Draw::Word(word) => {
+            io::print_decimal(1, number as u64);
+            print_words(state);
+            print_word(word);
+            io::write_all(1, b"\n");
+        }
+        Draw::Refused(_) => {}
+    }
+}
+
+// The draws from a state.
+fn print_draws(card: &[u8], state: &mut [u32]) {
+    for number in 1..=LINES {
+        print_draw(number, card, state);
+    }
+}
+
+// The verdict on any bytes and, for an accepted card, its draws from the state of zeros.
+pub fn print_card(card: &[u8]) {
+    let found = check::accept(card);
+    io::write_all(1, b"verdict ");
+    io::print_decimal(1, found.refusal as u64);
+    io::write_all(1, b"\n");
+    if found.refusal == 0 {
+        let m = found.card.words as usize;
+        let mut state = [0u32; MOST_WORDS];
+        print_draws(card, &mut state[..m]);
+    }
+}
+
+// Standard input as a card, up to its end or to the most bytes: a short read is not the end.
+pub fn print_input() {
+    let mut bytes = [0u8; MOST_BYTES];
+    let n = io::read_full(0, &mut bytes);
+    print_card(&bytes[..n]);
+}

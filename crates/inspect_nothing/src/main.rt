@@ -1,0 +1,4 @@
+// The program on no input.
+fn main() {
+    inspect::print_input();
+}
