@@ -1,5 +1,8 @@
 // What the program prints of a card (document 01, The program). Which numbers these are is in the contracts of the check and of the draw; no contract can
 // speak of what is read and printed, so the stored outputs of the programs inspect_.. hold that.
+ghost use mathlib.Core.Path.{_≡_};
+ghost use Rattle.cycle.specs.Notation.{iterate};
+ghost use Rattle.generator.specs.Calls.{stepped};
 use card::check;
 use generator::Draw;
 use generator::call;
@@ -11,7 +14,9 @@ pub const MOST_BYTES: usize = 64;
 // The lines for an accepted card.
 pub const LINES: u8 = 4;
 
-fn wide(x: u32) -> u64 {
+fn wide(x: u32) -> u64
+    ensures { λ r. ⌜ r ≡ x ⌝ }
+{
     x as u64
 }
 
@@ -30,7 +35,9 @@ fn print_words(words: &[u32]) {
 }
 
 // One draw: its number, the state words after it, and the word.
-fn print_draw(number: u8, card: &[u8], state: &mut [u32]) {
+fn print_draw(number: u8, card: &[u8], state: &mut [u32])
+    ensures { λ _. ⌜ now (state .exit) ≡ stepped (now (card .entry)) (now (state .entry)) ⌝ }
+{
     match call::draw(card, state) {
         Draw::Word(word) => {
             io::print_decimal(1, number as u64);
@@ -42,8 +49,10 @@ fn print_draw(number: u8, card: &[u8], state: &mut [u32]) {
     }
 }
 
-// The draws from a state.
-fn print_draws(card: &[u8], state: &mut [u32]) {
+// Four draws.
+fn print_draws(card: &[u8], state: &mut [u32])
+    ensures { λ _. ⌜ now (state .exit) ≡ iterate (stepped (now (card .entry))) 4 (now (state .entry)) ⌝ }
+{
     for number in 1..=LINES {
         print_draw(number, card, state);
     }
