@@ -20,10 +20,6 @@ fn byte(x: u8) -> u64 {
     x as u64
 }
 
-fn word(x: u32) -> u64 {
-    x as u64
-}
-
 fn print_bytes(bytes: &[u8]) {
     for i in 0..bytes.len() {
         io::write_all(1, b" ");
@@ -33,10 +29,7 @@ fn print_bytes(bytes: &[u8]) {
 }
 
 fn print_words(words: &[u32]) {
-    for i in 0..words.len() {
-        io::write_all(1, b" ");
-        io::print_hex(1, word(words[i]), 8);
-    }
+    printing::print_words(words);
     io::write_all(1, b"\n");
 }
 

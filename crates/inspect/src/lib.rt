@@ -14,26 +14,6 @@ pub const MOST_BYTES: usize = 64;
 // The lines for an accepted card.
 pub const LINES: u8 = 4;
 
-fn wide(x: u32) -> u64
-    ensures { λ r. ⌜ r ≡ x ⌝ }
-{
-    x as u64
-}
-
-// A word as eight hex digits, after a space.
-fn print_word(x: u32) {
-    io::write_all(1, b" ");
-    io::print_hex(1, wide(x), 8);
-}
-
-fn print_words(words: &[u32]) {
-    let mut k = 0;
-    while k < words.len() {
-        print_word(words[k]);
-        k += 1;
-    }
-}
-
 // One draw: its number, the state words after it, and the word.
 fn print_draw(number: u8, card: &[u8], state: &mut [u32])
     ensures { λ _. ⌜ now (state .exit) ≡ stepped (now (card .entry)) (now (state .entry)) ⌝ }
@@ -41,8 +21,8 @@ fn print_draw(number: u8, card: &[u8], state: &mut [u32])
     match call::draw(card, state) {
         Draw::Word(word) => {
             io::print_decimal(1, number as u64);
-            print_words(state);
-            print_word(word);
+            printing::print_words(state);
+            printing::print_word(word);
             io::write_all(1, b"\n");
         }
         Draw::Refused(_) => {}

@@ -2,23 +2,12 @@
 ghost use Prim.Native.Nat.{_<_, _≤_};
 use pick::Pick;
 use pick::call;
+use std::num::wrapping_add_u32;
 
 // ---- one pick
 
-fn word(x: u32) -> u64 {
-    x as u64
-}
-
 fn number(x: u16) -> u64 {
     x as u64
-}
-
-fn print_words(words: &[u32]) {
-    for i in 0..words.len() {
-        io::write_all(1, b" ");
-        io::print_hex(1, word(words[i]), 8);
-    }
-    io::write_all(1, b"\n");
 }
 
 // The answer, and the state after it.
@@ -36,7 +25,8 @@ fn print_pick(card: &[u8], state: &mut [u32], shovels: &[u16], times: &[u32]) {
         }
     }
     io::write_all(1, b" state");
-    print_words(state);
+    printing::print_words(state);
+    io::write_all(1, b"\n");
 }
 
 // The pick with the cards 0 to 3: P1, P2, the program's card and P6.
@@ -143,6 +133,15 @@ fn print_with(which: usize, state: &mut [u32], shovels: &[u16], times: &[u32]) {
     print_unsound(which - 14, state, shovels, times);
 }
 
+// The pick from a copy of a state of m words; answers the copy after it.
+fn from_copy(which: usize, m: usize, state: [u32; 4], shovels: &[u16], times: &[u32]) -> [u32; 4]
+    requires { ⌜ m ≤ 4 ⌝ }
+{
+    let mut lent = state;
+    print_with(which, &mut lent[..m], shovels, times);
+    lent
+}
+
 // ---- section 1: the examples of document 01
 
 fn example(state: [u32; 2], shovels: [u16; 2], times: [u32; 2]) {
@@ -214,11 +213,22 @@ fn spread(mode: u32) -> u32
 }
 
 fn later(t: u32, mode: u32, r: u32) -> u32 {
-    ((word(t) + 1 + word(r % spread(mode))) % 0x1_0000_0000) as u32
+    wrapping_add_u32(wrapping_add_u32(t, 1), r % spread(mode))
 }
 
 fn shovel_at(base: u32, stride: u32, i: usize) -> u16 {
     ((base % 65536 + (i % 64) as u32 * (stride % 65536)) % 65536) as u16
+}
+
+// With place i of the first order: time t, from place k on a later one.
+fn placed(d: Lists, i: usize, shovel: u16, mode: u32, t: u32, k: usize) -> Lists {
+    let mut out = d;
+    out.shovels[i % 64] = shovel;
+    if k <= i {
+        out.last = next(d.last);
+        out.times[i % 64] = later(t, mode, out.last);
+    }
+    out
 }
 
 // The list in its first order: k ties of time t, then later ones.
@@ -230,11 +240,7 @@ fn filled(base: u32, stride: u32, mode: u32, t: u32, length: usize, k: usize, x:
     };
     let mut i = 0;
     while i < length {
-        d.shovels[i % 64] = shovel_at(base, stride, i);
-        if k <= i {
-            d.last = next(d.last);
-            d.times[i % 64] = later(t, mode, d.last);
-        }
+        d = placed(d, i, shovel_at(base, stride, i), mode, t, k);
         i += 1;
     }
     d
@@ -275,17 +281,24 @@ fn drawn(number: usize, length: usize, j: usize, x: u32) -> Lists {
     shuffled(filled(a, b | 1, c % 4, t, length, j, r), length)
 }
 
-// Another order: from the last place to the first, or turned by half the length.
+// Whose shovel comes to place i: counted from the last place, or turned by half the length.
+fn other_place(number: usize, length: usize, i: usize) -> usize
+    requires { ⌜ (i < length) × (length ≤ 64) ⌝ }
+{
+    if number % 2 == 0 {
+        return length - 1 - i;
+    }
+    (i + length / 2) % length
+}
+
+// The list in another order.
 fn reordered(d: Lists, number: usize, length: usize) -> Lists
-    requires { ⌜ (0 < length) × (length ≤ 64) ⌝ }
+    requires { ⌜ length ≤ 64 ⌝ }
 {
     let mut out = d;
     let mut i = 0;
     while i < length {
-        let mut j = length - 1 - i;
-        if number % 2 == 1 {
-            j = (i + length / 2) % length;
-        }
+        let j = other_place(number, length, i);
         out.shovels[i % 64] = d.shovels[j % 64];
         out.times[i % 64] = d.times[j % 64];
         i += 1;
@@ -293,24 +306,13 @@ fn reordered(d: Lists, number: usize, length: usize) -> Lists
     out
 }
 
-// The pick in both orders; answers the state after it.
-fn both(which: usize, m: usize, state: [u32; 4], d: Lists, e: Lists, length: usize) -> [u32; 4]
+// The pick among the first places of a list; answers the state after it.
+fn from_list(which: usize, m: usize, state: [u32; 4], d: Lists, length: usize) -> [u32; 4]
     requires { ⌜ (m ≤ 4) × (length ≤ 64) ⌝ }
 {
-    let mut first = state;
-    let mut second = state;
     let shovels = d.shovels;
     let times = d.times;
-    print_with(which, &mut first[..m], &shovels[..length], &times[..length]);
-    let others = e.shovels;
-    let durations = e.times;
-    print_with(
-        which,
-        &mut second[..m],
-        &others[..length],
-        &durations[..length],
-    );
-    first
+    from_copy(which, m, state, &shovels[..length], &times[..length])
 }
 
 // The nine cards' states, four words each, how many cases there were, and the last random number.
@@ -339,7 +341,7 @@ fn words_of(which: usize) -> usize
 }
 
 fn one_case(cases: Cases, length: usize, j: usize) -> Cases
-    requires { ⌜ (0 < length) × (length ≤ 64) ⌝ }
+    requires { ⌜ length ≤ 64 ⌝ }
 {
     let which = cases.count % 9;
     let at = 4 * which;
@@ -351,7 +353,8 @@ fn one_case(cases: Cases, length: usize, j: usize) -> Cases
         cases.states[at + 2],
         cases.states[at + 3],
     ];
-    let after = both(which, words_of(which), state, d, e, length);
+    let after = from_list(which, words_of(which), state, d, length);
+    from_list(which, words_of(which), state, e, length);
     let mut out = cases;
     out.states[at] = after[0];
     out.states[at + 1] = after[1];
@@ -363,7 +366,7 @@ fn one_case(cases: Cases, length: usize, j: usize) -> Cases
 }
 
 fn of_length(cases: Cases, length: usize) -> Cases
-    requires { ⌜ (0 < length) × (length ≤ 64) ⌝ }
+    requires { ⌜ length ≤ 64 ⌝ }
 {
     let mut out = cases;
     for j in 1..length + 2 {
@@ -385,14 +388,6 @@ fn drawn_cases() {
 
 // ---- section 3: refusals
 
-// The pick from a state of m words that the call is lent a copy of.
-fn from_copy(which: usize, m: usize, state: [u32; 4], shovels: &[u16], times: &[u32])
-    requires { ⌜ m ≤ 4 ⌝ }
-{
-    let mut lent = state;
-    print_with(which, &mut lent[..m], shovels, times);
-}
-
 fn three_lists(which: usize, m: usize, state: [u32; 4])
     requires { ⌜ m ≤ 4 ⌝ }
 {
@@ -401,13 +396,20 @@ fn three_lists(which: usize, m: usize, state: [u32; 4])
     from_copy(which, m, state, &[7], &[]);
 }
 
+// Shovels or times are missing.
+fn scant_lists(which: usize, m: usize, state: [u32; 4])
+    requires { ⌜ m ≤ 4 ⌝ }
+{
+    from_copy(which, m, state, &[], &[300]);
+    from_copy(which, m, state, &[], &[]);
+    from_copy(which, m, state, &[7, 7], &[300]);
+}
+
 fn short_lists(which: usize, m: usize, state: [u32; 4])
     requires { ⌜ m ≤ 4 ⌝ }
 {
     three_lists(which, m, state);
-    from_copy(which, m, state, &[], &[300]);
-    from_copy(which, m, state, &[], &[]);
-    from_copy(which, m, state, &[7, 7], &[300]);
+    scant_lists(which, m, state);
     from_copy(which, m, state, &[4, 7], &[300, 299]);
     from_copy(which, m, state, &[9, 2], &[0, 0xffff_ffff]);
     from_copy(which, m, state, &[65535, 0], &[0xffff_ffff, 0xffff_ffff]);

@@ -1,15 +1,9 @@
 use mathlib.Core.Path.{_≡_}
 use Prim.Native.Nat.{_-_, _≤_}
 use native.Mathlib.Omega.{arith}
-use borrow.Author.Needs.{needs}
 use lib.ListN.{length}
 use Rattle.draw_vectors.proofs.back_lines.Statement.{statement}
 use Rattle.draw_vectors.proofs.back_lines.Tie as tie
-use Rattle.draw_vectors.proofs.back_lines.Reads as reads
-use Rattle.draw_vectors.proofs.back_lines.Lts as lts
-use Rattle.draw_vectors.proofs.print_words.Reads as print-words-reads
-use Rattle.generator.proofs.call.step_back.Reads as step-back-reads
-use Rattle.io.proofs.write_all.Reads as write-all-reads
 
 abbrev Inv-loop : tie.InvT-loop
 Inv-loop name card state₀ times counter₀ state counter = (counter ≤ times) × (length state ≡ length state₀)

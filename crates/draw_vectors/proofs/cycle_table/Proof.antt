@@ -1,12 +1,7 @@
 use Prim.Native.Nat.{_-_, _≤_}
 use native.Mathlib.Omega.{arith}
-use borrow.Author.Needs.{needs}
 use Rattle.draw_vectors.proofs.cycle_table.Statement.{statement}
 use Rattle.draw_vectors.proofs.cycle_table.Tie as tie
-use Rattle.draw_vectors.proofs.cycle_table.Reads as reads
-use Rattle.draw_vectors.proofs.cycle_table.Lts as lts
-use Rattle.draw_vectors.proofs.entry.Reads as entry-reads
-use Rattle.draw_vectors.proofs.size_of.Reads as size-of-reads
 
 abbrev Inv-loop : tie.InvT-loop
 Inv-loop m a b c table₀ size t₀ table t = (t ≤ size) × (size ≤ 16) × (4 ≤ size)

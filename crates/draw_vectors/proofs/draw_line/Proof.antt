@@ -1,15 +1,9 @@
 use mathlib.Core.Path.{_≡_}
 use Prim.Native.Nat.{_-_, _≤_}
 use native.Mathlib.Omega.{arith}
-use borrow.Author.Needs.{needs}
 use lib.ListN.{length}
 use Rattle.draw_vectors.proofs.draw_line.Statement.{statement}
 use Rattle.draw_vectors.proofs.draw_line.Tie as tie
-use Rattle.draw_vectors.proofs.draw_line.Reads as reads
-use Rattle.draw_vectors.proofs.draw_line.Lts as lts
-use Rattle.draw_vectors.proofs.print_draw.Reads as print-draw-reads
-use Rattle.generator.proofs.call.draw.Reads as draw-reads
-use Rattle.io.proofs.write_all.Reads as write-all-reads
 
 abbrev Inv-loop : tie.InvT-loop
 Inv-loop card state₀ t3 t4 counter₀ state counter = (counter ≤ 8) × (length state ≡ length state₀)

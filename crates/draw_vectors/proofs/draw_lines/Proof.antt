@@ -1,15 +1,9 @@
 use mathlib.Core.Path.{_≡_}
 use Prim.Native.Nat.{_-_, _≤_}
 use native.Mathlib.Omega.{arith}
-use borrow.Author.Needs.{needs}
 use lib.ListN.{length}
 use Rattle.draw_vectors.proofs.draw_lines.Statement.{statement}
 use Rattle.draw_vectors.proofs.draw_lines.Tie as tie
-use Rattle.draw_vectors.proofs.draw_lines.Reads as reads
-use Rattle.draw_vectors.proofs.draw_lines.Lts as lts
-use Rattle.draw_vectors.proofs.draw_line.Reads as draw-line-reads
-use Rattle.draw_vectors.proofs.print_words.Reads as print-words-reads
-use Rattle.io.proofs.write_all.Reads as write-all-reads
 
 abbrev Inv-loop : tie.InvT-loop
 Inv-loop card state₀ lines t4 counter₀ state counter = (counter ≤ lines) × (length state ≡ length state₀)

@@ -2,11 +2,8 @@ use Prim.Native.Nat.{_+_, _*_, _%_, _≤_, _<_}
 use native.Mathlib.Nat.{mul-le-mul-right}
 use native.Mathlib.Omega.{arith}
 use lib.Bits.{bitXor}
-use borrow.Author.Needs.{needs}
 use Rattle.draw_vectors.proofs.entry.Statement.{statement}
 use Rattle.draw_vectors.proofs.entry.Tie as tie
-use Rattle.draw_vectors.proofs.entry.Reads as reads
-use Rattle.draw_vectors.proofs.entry.Lts as lts
 
 rem-u : tie.Need-rem-u
 rem-u c = omega arith

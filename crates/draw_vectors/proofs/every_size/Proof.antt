@@ -1,11 +1,7 @@
 use Prim.Native.Nat.{_-_, _≤_}
 use native.Mathlib.Omega.{arith}
-use borrow.Author.Needs.{needs}
 use Rattle.draw_vectors.proofs.every_size.Statement.{statement}
 use Rattle.draw_vectors.proofs.every_size.Tie as tie
-use Rattle.draw_vectors.proofs.every_size.Reads as reads
-use Rattle.draw_vectors.proofs.every_size.Lts as lts
-use Rattle.draw_vectors.proofs.numbered.Reads as numbered-reads
 
 abbrev Inv-loop : tie.InvT-loop
 Inv-loop x₀ number₀ x number = number ≤ 372

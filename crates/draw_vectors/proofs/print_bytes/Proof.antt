@@ -1,15 +1,9 @@
 use mathlib.Core.Path.{_≡_}
 use Prim.Native.Nat.{_-_, _≤_}
 use native.Mathlib.Omega.{arith}
-use borrow.Author.Needs.{needs}
 use lib.ListN.{length}
 use Rattle.draw_vectors.proofs.print_bytes.Statement.{statement}
 use Rattle.draw_vectors.proofs.print_bytes.Tie as tie
-use Rattle.draw_vectors.proofs.print_bytes.Reads as reads
-use Rattle.draw_vectors.proofs.print_bytes.Lts as lts
-use Rattle.draw_vectors.proofs.byte.Reads as byte-reads
-use Rattle.io.proofs.print_hex.Reads as print-hex-reads
-use Rattle.io.proofs.write_all.Reads as write-all-reads
 
 abbrev Inv-loop : tie.InvT-loop
 Inv-loop bytes i₀ t3 t4 i-end i = (i ≤ i-end) × (i-end ≡ length bytes)

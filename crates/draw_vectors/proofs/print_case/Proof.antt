@@ -5,11 +5,6 @@ use lib.Seq.{length-take-le}
 use borrow.Author.Needs.{needs}
 use Rattle.draw_vectors.proofs.print_case.Statement.{statement}
 use Rattle.draw_vectors.proofs.print_case.Tie as tie
-use Rattle.draw_vectors.proofs.print_case.Reads as reads
-use Rattle.draw_vectors.proofs.print_case.Lts as lts
-use Rattle.card_write.proofs.write.write.Reads as write-reads
-use Rattle.draw_vectors.proofs.print_run.Reads as print-run-reads
-use Rattle.io.proofs.print_decimal.Reads as print-decimal-reads
 
 cast-m : tie.Need-cast-m
 cast-m c = omega arith

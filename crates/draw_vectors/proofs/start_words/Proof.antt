@@ -1,12 +1,7 @@
 use Prim.Native.Nat.{_-_, _≤_}
 use native.Mathlib.Omega.{arith}
-use borrow.Author.Needs.{needs}
 use Rattle.draw_vectors.proofs.start_words.Statement.{statement}
 use Rattle.draw_vectors.proofs.start_words.Tie as tie
-use Rattle.draw_vectors.proofs.start_words.Reads as reads
-use Rattle.draw_vectors.proofs.start_words.Lts as lts
-use Rattle.draw_vectors.proofs.low_bits.Reads as low-bits-reads
-use Rattle.draw_vectors.proofs.next.Reads as next-reads
 
 abbrev Inv-loop : tie.InvT-loop
 Inv-loop m n x start₀ k₀ start k = k ≤ m

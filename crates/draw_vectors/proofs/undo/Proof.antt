@@ -1,13 +1,9 @@
 use mathlib.Core.Path.{_≡_}
 use Prim.Native.Nat.{_-_, _≤_}
 use native.Mathlib.Omega.{arith}
-use borrow.Author.Needs.{needs}
 use lib.ListN.{length}
 use Rattle.draw_vectors.proofs.undo.Statement.{statement}
 use Rattle.draw_vectors.proofs.undo.Tie as tie
-use Rattle.draw_vectors.proofs.undo.Reads as reads
-use Rattle.draw_vectors.proofs.undo.Lts as lts
-use Rattle.generator.proofs.call.step_back.Reads as step-back-reads
 
 abbrev Inv-loop : tie.InvT-loop
 Inv-loop card state₀ times counter₀ state counter = (counter ≤ times) × (length state ≡ length state₀)

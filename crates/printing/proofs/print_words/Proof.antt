@@ -1,8 +1,8 @@
 use Prim.Native.Nat.{_-_, _≤_}
 use native.Mathlib.Omega.{arith}
 use lib.ListN.{length}
-use Rattle.inspect.proofs.print_words.Statement.{statement}
-use Rattle.inspect.proofs.print_words.Tie as tie
+use Rattle.printing.proofs.print_words.Statement.{statement}
+use Rattle.printing.proofs.print_words.Tie as tie
 
 abbrev Inv-loop : tie.InvT-loop
 Inv-loop words k₀ k = k ≤ length words
