@@ -2,7 +2,7 @@
 use mathlib.Core.Path.{_≡_, refl, sym, ap, _∙_, subst}
 use mathlib.Core.Bool.{true}
 use mathlib.Core.List.{List, _++_}
-use Prim.Native.Nat.{ℕ, _%_, _≤_, _<_}
+use Prim.Native.Nat.{ℕ, _%_, _^_, _≤_, _<_}
 use native.Mathlib.Nat.{mod-lt, mod-eq-of-lt}
 use native.Mathlib.Decide.{ℕ-discrete}
 use native.Mathlib.Omega.{arith}
@@ -11,8 +11,12 @@ use lib.ListN.{length, getD}
 use Rattle.tsc.specs.declared.Card.{Card}
 use Rattle.tsc.specs.Step.{step}
 use Rattle.tsc.specs.Word.{word}
+use Rattle.tsc.specs.Coverage.{IsState}
+use Rattle.tsc.proofs.Onto.{draw-onto}
 use Rattle.card_format.specs.Refusals.{Check, firstOf}
 use Rattle.card_format.specs.Reading.{cardOf}
+use Rattle.card_format.proofs.Verdict.{accepted-card}
+use Rattle.generator.proofs.Opening.{passed, passes}
 use Rattle.generator.specs.Calls.{callChecks}
 use Rattle.ties.specs.Ties.{mostShovels, isTie, ties, rank, chosen}
 use Rattle.ties.specs.Order.{Permutes, reordered, SameShovels}
@@ -22,7 +26,7 @@ use Rattle.tie_list.specs.Checks.{listChecks}
 use Rattle.tie_list.proofs.Allowed.{Allowed}
 use Rattle.pick.specs.declared.Pick.the-variants.{Shovel}
 use Rattle.pick.specs.Picks.{pickRefusal, drawnRank, drawnState, picking, picked}
-use Rattle.pick.proofs.Picking.{pick-passed, picking-refused, picking-chosen}
+use Rattle.pick.proofs.Picking.{refusal-list, pick-passed, picking-refused, picking-chosen}
 
 -- the rank drawn is one of the ties' ranks
 pub drawn-rank-lt : (card : Card) (xs : List ℕ) (k : ℕ) → 0 < k → drawnRank card xs k < k
@@ -34,9 +38,9 @@ drawn-rank-lt card xs k l = go (ℕ-discrete k 1)
 
 -- ---- the choice
 
-module _ (bytes xs shovels times : List ℕ) (passed : pickRefusal bytes xs shovels times ≡ 0) where
+module _ (bytes xs shovels times : List ℕ) (none : pickRefusal bytes xs shovels times ≡ 0) where
   allowed : Allowed shovels times
-  allowed = pick-passed bytes xs shovels times passed .1
+  allowed = pick-passed bytes xs shovels times none .1
 
   -- k is from 1 to 64
   pub ties-from-one : (0 < ties times) × (ties times ≤ mostShovels)
@@ -47,7 +51,7 @@ module _ (bytes xs shovels times : List ℕ) (passed : pickRefusal bytes xs shov
   pick-chooses =
       let r : ℕ = drawnRank (cardOf bytes) xs (ties times) in
       let t = tie-of-rank shovels times (allowed .once) (allowed .even) r (drawn-rank-lt (cardOf bytes) xs (ties times) (ties-from-one .0)) in
-      (t .0, t .1, sym (picking-chosen bytes xs shovels times passed _ _ _ (sym (chosen-is shovels times r (t .0) (t .1))) refl refl .0))
+      (t .0, t .1, sym (picking-chosen bytes xs shovels times none _ _ _ (sym (chosen-is shovels times r (t .0) (t .1))) refl refl .0))
 
   -- every tie is chosen by some word, and that one is below k
   pub tie-reached : (i : ℕ) → i < length times → isTie times i ≡ true
@@ -57,7 +61,33 @@ module _ (bytes xs shovels times : List ℕ) (passed : pickRefusal bytes xs shov
       let lt = rank-lt shovels times i l t in
       (w, lt, ap (chosen shovels times) (mod-eq-of-lt lt) ∙ chosen-is shovels times w i (record { place = l; tie = t; ranked = refl }))
 
--- and so every rank below k is some word's
+  -- where there are no more ties than words, every tie is chosen from some state
+  pub tie-drawn : ties times ≤ 2 ^ cardOf bytes .width → (i : ℕ) → i < length times → isTie times i ≡ true
+      → (ys : List ℕ) × IsState (cardOf bytes) ys × (picking bytes ys shovels times ≡ Shovel (getD shovels i 0) (ties times))
+  tie-drawn few i l t =
+      let card = cardOf bytes in
+      let k : ℕ = ties times in
+      let r : ℕ = rank shovels times (getD shovels i 0) in
+      let call = pick-passed bytes xs shovels times none .0 in
+      let v = passed bytes xs call .0 in
+      let ok = accepted-card bytes v in
+      let lt = rank-lt shovels times i l t in
+      let d = draw-onto card (ok .formed) (ok .period) r (omega arith) in
+      let clear = sym (refusal-list bytes (d .0) shovels times (passes bytes (d .0) v (d .1))) ∙ refusal-list bytes xs shovels times call ∙ none in (
+        d .0,
+        d .1,
+        sym (picking-chosen bytes (d .0) shovels times clear _ _ _
+            (sym (ap (chosen shovels times) (drawn k (d .0) r lt (d .2)) ∙ chosen-is shovels times r i (record { place = l; tie = t; ranked = refl }))) refl refl .0),
+      )
+    where
+      drawn : (k : ℕ) (ys : List ℕ) (r : ℕ) → r < k → word (cardOf bytes) (step (cardOf bytes) ys) ≡ r → drawnRank (cardOf bytes) ys k ≡ r
+      drawn k ys r lt e = go (ℕ-discrete k 1)
+        where
+          go : Dec (k ≡ 1) → drawnRank (cardOf bytes) ys k ≡ r
+          go (yes o) = rw (eq-eqb k 1 o) (omega arith)
+          go (no n) = rw (ne-eqb k 1 n, e) (mod-eq-of-lt lt)
+
+-- every rank below k is some word's
 pub rank-reached : (k r : ℕ) → r < k → (w : ℕ) × (w < k) × (w % k ≡ r)
 rank-reached k r l = (r, l, mod-eq-of-lt l)
 
