@@ -1,5 +1,5 @@
 // Cards (document 01, The card): bytes that set up a generator. Here are the refusal numbers and what the reader and the writer answer; what bytes
-// mean and which are accepted is in specs/, and what holds of that in proofs/. The code is in crate card.
+// mean and which are accepted is in specs/, and what holds of that in proofs/. The code is in crates card_read, card and card_write.
 use tsc::Card;
 
 pub mod refusal;

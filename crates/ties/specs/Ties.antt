@@ -10,10 +10,11 @@ use Rattle.cycle.specs.Notation.{sum, every}
 abbrev pub mostShovels : ℕ
 mostShovels = 64
 
--- how many of 0, 1, .., n - 1 meet p
+-- 1 where b holds, else 0
 abbrev pub one : Bool → ℕ
 one b = cond b 1 0
 
+-- how many of 0, 1, .., n - 1 meet p
 unfoldable pub count : ℕ → (ℕ → Bool) → ℕ
 count n p = sum n (λ i. one (p i))
 
