@@ -1,183 +1,109 @@
--- Counting how often a function on 0 .. n - 1 takes a value: the pigeonhole principle, and sums along a permutation.
-use mathlib.Core.Path.{_≡_, refl, sym, _∙_}
-use mathlib.Core.Logic.{_≢_}
-use mathlib.Core.Bool.{cond}
-use Prim.Native.Nat.{ℕ, zero, suc, _+_, _*_, _≤_, _<_}
-use native.Mathlib.Nat.{zero-add, add-zero, zero-mul, one-mul, mul-one, le-refl, le-trans, le-of-eq, le-step}
-use native.Mathlib.Decide.{ℕ-discrete, decLt, decLe}
+-- Counting the numbers below n that meet a test.
+use mathlib.Core.Path.{_≡_, refl, sym, ap, _∙_}
+use mathlib.Core.Bool.{Bool, true, false}
+use Prim.Native.Nat.{ℕ, zero, suc, _+_, _≤_, _<_}
+use native.Mathlib.Nat.{le-refl}
+use native.Mathlib.Decide.{ℕ-discrete, le-ind}
+use native.Mathlib.Numerals.{add-one}
 use native.Mathlib.Omega.{arith}
-use borrow.Author.Tests.{eq-eqb, ne-eqb}
-use lib.Dec.{eqb}
-use Rattle.cycle.specs.Notation.{sum}
-use Rattle.cycle.proofs.Sum.{sum-ext, sum-one, sum-scale, sum-swap, term-le-sum, le-sum, sum-le}
+use Rattle.cycle.specs.Notation.{sum, one, count}
+use Rattle.cycle.proofs.Sum.{sum-ext, sum-add, sum-zero, sum-mono, sum-le, term-le-sum}
 
--- ---- Kronecker's delta: 1 where the numbers are equal, else 0
+-- ---- a test's value
 
-delta : ℕ → ℕ → ℕ
-delta x y = cond (eqb x y) 1 0
+pub one-le : (b : Bool) → one b ≤ 1
+one-le true = le-refl 1
+one-le false = omega arith
 
-delta-same : {x y : ℕ} → x ≡ y → delta x y ≡ 1
-unfolding delta
-delta-same e = simp (eq-eqb _ _ e)
+one-mono : (a b : Bool) → (a ≡ true → b ≡ true) → one a ≤ one b
+one-mono false b h = omega arith
+one-mono true b h = rw (h refl) (le-refl 1)
 
-delta-other : {x y : ℕ} → x ≢ y → delta x y ≡ 0
-unfolding delta
-delta-other ne = simp (ne-eqb _ _ ne)
-
-delta-le : (x y : ℕ) → delta x y ≤ 1
-delta-le x y = go (ℕ-discrete x y)
-  where
-    go : Dec (x ≡ y) → delta x y ≤ 1
-    go (yes e) = le-of-eq (delta-same e)
-    go (no ne) = omega (arith, delta-other ne)
-
-delta-eq : (x y : ℕ) → 0 < delta x y → x ≡ y
-delta-eq x y h = go (ℕ-discrete x y)
-  where
-    go : Dec (x ≡ y) → x ≡ y
-    go (yes e) = e
-    go (no ne) = absurd (omega (arith, delta-other ne))
-
--- a sum that delta picks one term from, or none
-sum-pick-none : (n v : ℕ) (h : ℕ → ℕ) → n ≤ v → sum n (λ x. delta v x * h x) ≡ 0
-unfolding sum
-sum-pick-none zero v h l = refl
-sum-pick-none (suc n) v h l =
-    let d : delta v n ≡ 0 = delta-other (omega arith) in
-    rw (d, zero-mul, add-zero) (sum-pick-none n v h (omega arith))
-
-sum-pick : (n v : ℕ) (h : ℕ → ℕ) → v < n → sum n (λ x. delta v x * h x) ≡ h v
-unfolding sum
-sum-pick zero v h l = absurd (omega arith)
-sum-pick (suc n) v h l = go (ℕ-discrete v n) (λ k. sum-pick n v h k)
-  where
-    go : Dec (v ≡ n) → (v < n → sum n (λ x. delta v x * h x) ≡ h v) → sum n (λ x. delta v x * h x) + delta v n * h n ≡ h v
-    go (yes e) ih = rw (sum-pick-none n v h (omega arith), zero-add, delta-same e, one-mul, e)
-    go (no ne) ih = rw (delta-other ne, zero-mul, add-zero) (ih (omega arith))
-
-sum-delta-le : (q v : ℕ) → sum q (λ x. delta v x) ≤ 1
-sum-delta-le q v = rw (sum-ext q (λ x. delta v x) (λ x. delta v x * 1) (λ x l. sym (mul-one (delta v x)))) (go (decLt v q))
-  where
-    go : Dec (v < q) → sum q (λ x. delta v x * 1) ≤ 1
-    go (yes l) = le-of-eq (sum-pick q v (λ x. 1) l)
-    go (no g) = omega (arith, sum-pick-none q v (λ x. 1) (omega arith))
+-- tests that hold together are the same
+pub same-test : (a b : Bool) → (a ≡ true → b ≡ true) → (b ≡ true → a ≡ true) → a ≡ b
+same-test true b f g = sym (f refl)
+same-test false true f g = g refl
+same-test false false f g = refl
 
 -- ---- counts
 
--- how often f is x on 0 .. n - 1
-count : ℕ → (ℕ → ℕ) → ℕ → ℕ
-count n f x = sum n (λ k. delta (f k) x)
-
-count-pos : (n : ℕ) (f : ℕ → ℕ) (k x : ℕ) → k < n → f k ≡ x → 1 ≤ count n f x
-unfolding count
-count-pos n f k x l e = le-trans (le-of-eq (sym (delta-same e))) (term-le-sum n (λ j. delta (f j) x) k l)
-
--- a sum along f is a sum over the values of f, each as often as f takes it
-sum-by-value : (n q : ℕ) (f h : ℕ → ℕ) → ((k : ℕ) → k < n → f k < q) → sum n (λ k. h (f k)) ≡ sum q (λ x. count n f x * h x)
-unfolding count
-sum-by-value n q f h b =
-    sum-ext n (λ k. h (f k)) (λ k. sum q (λ x. delta (f k) x * h x)) (λ k l. sym (sum-pick q (f k) h (b k l)))
-    ∙ sum-swap n q (λ k x. delta (f k) x * h x)
-    ∙ sum-ext q (λ x. sum n (λ k. delta (f k) x * h x)) (λ x. sum n (λ k. delta (f k) x) * h x) (λ x l.
-    sum-scale n (h x) (λ k. delta (f k) x))
-
-sum-count : (n q : ℕ) (f : ℕ → ℕ) → ((k : ℕ) → k < n → f k < q) → sum q (count n f) ≡ n
-sum-count n q f b =
-    sum-ext q (count n f) (λ x. count n f x * 1) (λ x l. sym (mul-one (count n f x))) ∙ sym (sum-by-value n q f (λ x. 1) b)
-    ∙ sum-one n
-
--- f on 0 .. n - 1 that takes every value below q: then q is at most n
-pub le-of-surjective : (n q : ℕ) (f : ℕ → ℕ) → ((x : ℕ) → x < q → (k : ℕ) × (k < n) × (f k ≡ x)) → q ≤ n
-unfolding count
-le-of-surjective n q f h =
-    le-trans (le-sum q (count n f) (λ x l. count-pos n f (h x l .0) x (h x l .1) (h x l .2)))
-    (rw (sum-swap q n (λ x k. delta (f k) x)) (sum-le n (λ k. sum q (λ x. delta (f k) x)) (λ k l. sum-delta-le q (f k))))
-
--- every term at least 1 and n in all: every term is 1
-all-one : (n : ℕ) (c : ℕ → ℕ) → ((x : ℕ) → x < n → 1 ≤ c x) → sum n c ≤ n → (x : ℕ) → x < n → c x ≡ 1
-unfolding sum
-all-one zero c h s x l = absurd (omega arith)
-all-one (suc n) c h s x l =
-    let g : n ≤ sum n c = le-sum n c (λ y k. h y (omega arith)) in
-    let t : 1 ≤ c n = h n (le-refl (suc n)) in
-    go t g (ℕ-discrete x n) (λ k. all-one n c (λ y j. h y (omega arith)) (omega arith) x k)
-  where
-    go : 1 ≤ c n → n ≤ sum n c → Dec (x ≡ n) → (x < n → c x ≡ 1) → c x ≡ 1
-    go t g (yes e) ih = rw e (omega arith)
-    go t g (no ne) ih = ih (omega arith)
-
--- a sum along an f that takes every value below n is the sum over 0 .. n - 1
-pub sum-permute : (n : ℕ) (f h : ℕ → ℕ) → ((k : ℕ) → k < n → f k < n) → ((x : ℕ) → x < n → (k : ℕ) × (k < n) × (f k ≡ x))
-    → sum n (λ k. h (f k)) ≡ sum n h
-sum-permute n f h b s =
-    let all : sum n (count n f) ≤ n = le-of-eq (sum-count n n f b) in
-    sum-by-value n n f h b
-    ∙ sum-ext n (λ x. count n f x * h x) h (λ x l.
-    rw (all-one n (count n f) (λ y j. count-pos n f (s y j .0) y (s y j .1) (s y j .2)) all x l, one-mul))
-
--- ---- the pigeonhole principle
-
-one-of : (n : ℕ) (f : ℕ → ℕ) (x : ℕ) → 1 ≤ count n f x → (k : ℕ) × (k < n) × (f k ≡ x)
+pub count-none : (p : ℕ → Bool) → count 0 p ≡ 0
 unfolding count sum
-one-of zero f x h = absurd (omega arith)
-one-of (suc n) f x h = go (decLt 0 (delta (f n) x)) (λ j. one-of n f x j)
-  where
-    go : Dec (0 < delta (f n) x) → (1 ≤ count n f x → (k : ℕ) × (k < n) × (f k ≡ x)) → (k : ℕ) × (k < suc n) × (f k ≡ x)
-    go (yes p) ih = (n, le-refl (suc n), delta-eq (f n) x p)
-    go (no p) ih = let r = ih (omega arith) in (r .0, le-step (r .1), r .2)
+count-none p = refl
 
--- f takes one value at two places below n
-abbrev pub Repeats : ℕ → (ℕ → ℕ) → Type 0
-Repeats n f = (i : ℕ) × (j : ℕ) × (i < j) × (j < n) × (f i ≡ f j)
-
-two-of : (n : ℕ) (f : ℕ → ℕ) (x : ℕ) → 2 ≤ count n f x → Repeats n f
+pub count-next : (n : ℕ) (p : ℕ → Bool) → count (suc n) p ≡ count n p + one (p n)
 unfolding count sum
-two-of zero f x h = absurd (omega arith)
-two-of (suc n) f x h = go (decLe 2 (count n f x)) (λ j. two-of n f x j)
-  where
-    go : Dec (2 ≤ count n f x) → (2 ≤ count n f x → Repeats n f) → Repeats (suc n) f
-    go (yes p) ih = let r = ih p in (r .0, r .1, r .2, le-step (r .3), r .4)
-    go (no p) ih =
-        let l : delta (f n) x ≤ 1 = delta-le (f n) x in
-        let r = one-of n f x (omega arith) in
-        (r .0, n, r .1, le-refl (suc n), r .2 ∙ sym (delta-eq (f n) x (omega arith)))
+count-next n p = refl
 
-some-two : (q : ℕ) (g : ℕ → ℕ) → q < sum q g → (x : ℕ) × (2 ≤ g x)
-unfolding sum
-some-two zero g h = absurd (omega arith)
-some-two (suc q) g h = go (decLe 2 (g q)) (λ j. some-two q g j)
-  where
-    go : Dec (2 ≤ g q) → (q < sum q g → (x : ℕ) × (2 ≤ g x)) → (x : ℕ) × (2 ≤ g x)
-    go (yes p) ih = (q, p)
-    go (no p) ih = ih (omega arith)
+pub count-ext : (n : ℕ) (p q : ℕ → Bool) → ((i : ℕ) → i < n → p i ≡ q i) → count n p ≡ count n q
+unfolding count
+count-ext n p q h = sum-ext n (λ i. one (p i)) (λ i. one (q i)) (λ i l. ap one (h i l))
 
-pub pigeonhole : (q : ℕ) (f : ℕ → ℕ) → ((k : ℕ) → k < suc q → f k < q) → Repeats (suc q) f
-pigeonhole q f b =
-    let r = some-two q (count (suc q) f) (le-of-eq (sym (sum-count (suc q) q f b))) in
-    two-of (suc q) f (r .0) (r .1)
+pub count-mono : (n : ℕ) (p q : ℕ → Bool) → ((i : ℕ) → i < n → p i ≡ true → q i ≡ true) → count n p ≤ count n q
+unfolding count
+count-mono n p q h = sum-mono n (λ i. one (p i)) (λ i. one (q i)) (λ i l. one-mono (p i) (q i) (h i l))
 
--- every term at most 1 and n in all: every term is at least 1
-none-zero : (n : ℕ) (c : ℕ → ℕ) → ((x : ℕ) → c x ≤ 1) → n ≤ sum n c → (x : ℕ) → x < n → 1 ≤ c x
-unfolding sum
-none-zero zero c h s x l = absurd (omega arith)
-none-zero (suc n) c h s x l =
-    let g : sum n c ≤ n = sum-le n c (λ y k. h y) in
-    let t : c n ≤ 1 = h n in
-    go t g (ℕ-discrete x n) (λ k. none-zero n c h (omega arith) x k)
-  where
-    go : c n ≤ 1 → sum n c ≤ n → Dec (x ≡ n) → (x < n → 1 ≤ c x) → 1 ≤ c x
-    go t g (yes e) ih = rw e (omega arith)
-    go t g (no ne) ih = ih (omega arith)
+-- what one test counts, two others count between them
+pub count-add : (n : ℕ) (p q r : ℕ → Bool) → ((i : ℕ) → i < n → one (p i) ≡ one (q i) + one (r i)) → count n p ≡ count n q + count n r
+unfolding count
+count-add n p q r h = sum-ext n (λ i. one (p i)) (λ i. one (q i) + one (r i)) h ∙ sum-add n (λ i. one (q i)) (λ i. one (r i))
 
--- an f of 0 .. n - 1 to itself that repeats no value takes every value
-pub surjective-of-injective : (n : ℕ) (f : ℕ → ℕ) → ((k : ℕ) → k < n → f k < n) → (Repeats n f → ⊥)
-    → (x : ℕ) → x < n → (k : ℕ) × (k < n) × (f k ≡ x)
-surjective-of-injective n f b d x l =
-    one-of n f x (none-zero n (count n f) once (le-of-eq (sym (sum-count n n f b))) x l)
+pub count-le : (n : ℕ) (p : ℕ → Bool) → count n p ≤ n
+unfolding count
+count-le n p = sum-le n (λ i. one (p i)) (λ i l. one-le (p i))
+
+-- a count kept in a loop, and what the next number adds to it
+pub counted-next : (i : ℕ) (p : ℕ → Bool) {k o : ℕ} → k ≡ count i p → o ≡ one (p i) → k + o ≡ count (i + 1) p
+counted-next i p e f = rw (e, f, add-one i) (sym (count-next i p))
+
+pub counted-fits : (i : ℕ) (p : ℕ → Bool) {k o : ℕ} → k ≡ count i p → o ≡ one (p i) → k + o ≤ i + 1
+counted-fits i p e f = rw (counted-next i p e f) (count-le (i + 1) p)
+
+pub count-pos : (n : ℕ) (p : ℕ → Bool) (i : ℕ) → i < n → p i ≡ true → 0 < count n p
+unfolding count
+count-pos n p i l h = omega (arith, term-le-sum n (λ i. one (p i)) i l, ap one h)
+
+pub count-never : (n : ℕ) (p : ℕ → Bool) → ((i : ℕ) → i < n → p i ≡ false) → count n p ≡ 0
+unfolding count
+count-never n p h = sum-ext n (λ i. one (p i)) (λ i. 0) (λ i l. ap one (h i l)) ∙ sum-zero n
+
+-- one of them, where there are any
+pub count-some : (n : ℕ) (p : ℕ → Bool) → 0 < count n p → (i : ℕ) × (i < n) × (p i ≡ true)
+count-some zero p h = absurd (omega (arith, count-none p))
+count-some (suc n) p h = go (p n) refl (λ l. count-some n p l)
   where
-    once : (y : ℕ) → count n f y ≤ 1
-    once y = go (decLe 2 (count n f y))
-      where
-        go : Dec (2 ≤ count n f y) → count n f y ≤ 1
-        go (yes p) = absurd (d (two-of n f y p))
-        go (no p) = omega arith
+    go : (b : Bool) → p n ≡ b → (0 < count n p → (i : ℕ) × (i < n) × (p i ≡ true)) → (i : ℕ) × (i < suc n) × (p i ≡ true)
+    go true e ih = (n, le-refl (suc n), e)
+    go false e ih = let r = ih (omega (arith, count-next n p, ap one e)) in (r .0, omega (arith, r .1), r .2)
+
+-- fewer, where q holds with p and once without it
+pub count-less : (n : ℕ) (p q : ℕ → Bool) → ((i : ℕ) → i < n → p i ≡ true → q i ≡ true) → (i : ℕ) → i < n → p i ≡ false → q i ≡ true → count n p < count n q
+count-less zero p q h i l e f = absurd (omega arith)
+count-less (suc n) p q h i l e f = go (ℕ-discrete i n) (λ k. count-less n p q (λ j lj. h j (omega arith)) i k e f)
+  where
+    go : Dec (i ≡ n) → (i < n → count n p < count n q) → count (suc n) p < count (suc n) q
+    go (yes k) ih =
+        omega (
+          arith,
+          count-next n p,
+          count-next n q,
+          count-mono n p q (λ j lj. h j (omega arith)),
+          ap (λ (j : ℕ). one (p j)) (sym k) ∙ ap one e,
+          ap (λ (j : ℕ). one (q j)) (sym k) ∙ ap one f,
+        )
+    go (no ne) ih = omega (arith, count-next n p, count-next n q, ih (omega arith), one-mono (p n) (q n) (h n (le-refl (suc n))))
+
+pub count-prefix : (m n : ℕ) (p : ℕ → Bool) → m ≤ n → count m p ≤ count n p
+count-prefix m n p l = le-ind (λ (n : ℕ). count m p ≤ count n p) (le-refl (count m p)) (λ k g h. omega (arith, h, count-next k p)) n l
+
+-- two of them: the later one and one before it
+pub count-two : (n : ℕ) (p : ℕ → Bool) → 1 < count n p → (j : ℕ) × (j < n) × (p j ≡ true) × (0 < count j p)
+count-two zero p h = absurd (omega (arith, count-none p))
+count-two (suc n) p h = go (p n) refl (λ l. count-two n p l)
+  where
+    go : (b : Bool) → p n ≡ b → (1 < count n p → (j : ℕ) × (j < n) × (p j ≡ true) × (0 < count j p)) → (j : ℕ) × (j < suc n) × (p j ≡ true) × (0 < count j p)
+    go true e ih = (n, le-refl (suc n), e, omega (arith, count-next n p, ap one e))
+    go false e ih = let r = ih (omega (arith, count-next n p, ap one e)) in (r .0, omega (arith, r .1), r .2, r .3)
+
+pub two-counted : (n : ℕ) (p : ℕ → Bool) (j : ℕ) → j < n → p j ≡ true → 0 < count j p → 1 < count n p
+two-counted n p j l h c = omega (arith, count-prefix (suc j) n p l, count-next j p, ap one h)

@@ -6,7 +6,7 @@ use native.Mathlib.Decide.{decLt}
 use native.Mathlib.Omega.{arith}
 use Rattle.cycle.specs.Notation.{sum, iterate}
 use Rattle.cycle.specs.Cycle.{SingleCycle}
-use Rattle.cycle.proofs.Count.{le-of-surjective, pigeonhole, sum-permute}
+use Rattle.cycle.proofs.Pigeonhole.{le-of-surjective, pigeonhole, sum-permute}
 use Rattle.cycle.proofs.Iterate.{iterate-add, iterate-rounds, iterate-mod, MapsBelow, iterate-below}
 
 -- from z, f comes by every number below N

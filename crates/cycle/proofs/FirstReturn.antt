@@ -7,7 +7,7 @@ use native.Mathlib.Omega.{arith}
 use borrow.Author.Tests.{eq-eqb, ne-eqb}
 use Rattle.cycle.specs.Notation.{iterate}
 use Rattle.cycle.specs.Cycle.{SingleCycle, returnFrom, firstReturn}
-use Rattle.cycle.proofs.Count.{Repeats, surjective-of-injective}
+use Rattle.cycle.proofs.Pigeonhole.{Repeats, surjective-of-injective}
 use Rattle.cycle.proofs.Iterate.{MapsBelow, iterate-below}
 use Rattle.cycle.proofs.Cycle.{return-of-repeat, visits-once}
 

@@ -3,6 +3,7 @@ pub mod Every
 pub mod Parity
 pub mod Sum
 pub mod Count
+pub mod Pigeonhole
 pub mod Digits
 pub mod Bits
 pub mod Iterate

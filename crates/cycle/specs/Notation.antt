@@ -1,5 +1,5 @@
--- Notation: a finite sum, a test of all numbers below n, a list by its entries or filled up with zeros, a function applied repeatedly, a bit.
-use mathlib.Core.Bool.{Bool, true, _&&_}
+-- Notation: a finite sum, a test of all numbers below n, how many of them meet one, a list by its entries or filled up with zeros, a function applied repeatedly, a bit.
+use mathlib.Core.Bool.{Bool, true, cond, _&&_}
 use mathlib.Core.List.{List, [], _∷_, _++_}
 use Prim.Native.Nat.{ℕ, zero, suc, _+_, _-_, _/_, _%_, _^_}
 use lib.ListN.{length, replicate}
@@ -13,6 +13,14 @@ sum (suc n) f = sum n f + f n
 unfoldable pub every : ℕ → (ℕ → Bool) → Bool
 every zero p = true
 every (suc n) p = every n p && p n
+
+-- 1 where b holds, else 0
+abbrev pub one : Bool → ℕ
+one b = cond b 1 0
+
+-- how many of 0, 1, .., n - 1 meet p
+unfoldable pub count : ℕ → (ℕ → Bool) → ℕ
+count n p = sum n (λ i. one (p i))
 
 -- the list f 0, f 1, .., f (n - 1)
 unfoldable pub tabulate : ℕ → (ℕ → ℕ) → List ℕ

@@ -20,7 +20,8 @@ use Rattle.generator.proofs.Opening.{passed, passes}
 use Rattle.generator.specs.Calls.{callChecks}
 use Rattle.ties.specs.Ties.{mostShovels, isTie, ties, rank, chosen}
 use Rattle.ties.specs.Order.{Permutes, reordered, SameShovels}
-use Rattle.ties.proofs.Rank.{TieAt, ties-some, ties-le, rank-lt, tie-of-rank, chosen-is}
+use Rattle.ties.proofs.Least.{ties-some, ties-le}
+use Rattle.ties.proofs.Rank.{TieAt, rank-lt, tie-of-rank, chosen-is}
 use Rattle.ties.proofs.Order.{length-reordered, ties-reordered, chosen-reordered, twice-reordered}
 use Rattle.tie_list.specs.Checks.{listChecks}
 use Rattle.tie_list.proofs.Allowed.{Allowed}
@@ -52,14 +53,6 @@ module _ (bytes xs shovels times : List ℕ) (none : pickRefusal bytes xs shovel
       let r : ℕ = drawnRank (cardOf bytes) xs (ties times) in
       let t = tie-of-rank shovels times (allowed .once) (allowed .even) r (drawn-rank-lt (cardOf bytes) xs (ties times) (ties-from-one .0)) in
       (t .0, t .1, sym (picking-chosen bytes xs shovels times none _ _ _ (sym (chosen-is shovels times r (t .0) (t .1))) refl refl .0))
-
-  -- every tie is chosen by some word, and that one is below k
-  pub tie-reached : (i : ℕ) → i < length times → isTie times i ≡ true
-      → (w : ℕ) × (w < ties times) × (chosen shovels times (w % ties times) ≡ getD shovels i 0)
-  tie-reached i l t =
-      let w : ℕ = rank shovels times (getD shovels i 0) in
-      let lt = rank-lt shovels times i l t in
-      (w, lt, ap (chosen shovels times) (mod-eq-of-lt lt) ∙ chosen-is shovels times w i (record { place = l; tie = t; ranked = refl }))
 
   -- where there are no more ties than words, every tie is chosen from some state
   pub tie-drawn : ties times ≤ 2 ^ cardOf bytes .width → (i : ℕ) → i < length times → isTie times i ≡ true

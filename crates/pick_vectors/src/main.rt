@@ -6,16 +6,12 @@ use std::num::wrapping_add_u32;
 
 // ---- one pick
 
-fn number(x: u16) -> u64 {
-    x as u64
-}
-
 // The answer, and the state after it.
 fn print_pick(card: &[u8], state: &mut [u32], shovels: &[u16], times: &[u32]) {
     match call::pick(card, state, shovels, times) {
         Pick::Shovel(shovel, ties) => {
             io::write_all(1, b"shovel ");
-            io::print_decimal(1, number(shovel));
+            io::print_decimal(1, shovel as u64);
             io::write_all(1, b" equals ");
             io::print_decimal(1, ties as u64);
         }

@@ -1,4 +1,4 @@
 -- Laws for the functions on lists.
 pub mod Twice
-pub mod Least
+pub mod Counted
 pub mod Allowed

@@ -10,8 +10,9 @@ use borrow.Author.Tests.{eqb-true, eq-eqb, ne-eqb, lt-ltb, ltb-true, le-ltb, ltb
 use lib.Dec.{eqb, leb}
 use lib.ListN.{length, getD}
 use Rattle.cycle.proofs.Every.{every-of, every-not}
-use Rattle.ties.specs.Ties.{count, occurs, twice}
-use Rattle.ties.proofs.Counts.{count-never, count-pos, count-two, two-counted}
+use Rattle.cycle.specs.Notation.{count}
+use Rattle.ties.specs.Ties.{occurs, twice}
+use Rattle.cycle.proofs.Count.{count-never, count-pos, count-two, two-counted}
 use Rattle.tie_list.specs.Steps.{repeatsAt}
 
 module _ (xs : List ℕ) where

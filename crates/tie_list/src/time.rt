@@ -4,8 +4,9 @@ ghost use mathlib.Core.Bool.{cond};
 ghost use Prim.Native.Nat.{_<_};
 ghost use lib.Dec.{eqb, ltb};
 ghost use lib.ListN.{length};
-ghost use Rattle.ties.specs.Ties.{one, ties};
-ghost use Rattle.tie_list.specs.Steps.{LeastOf};
+ghost use Rattle.cycle.specs.Notation.{one};
+ghost use Rattle.ties.specs.Ties.{ties};
+ghost use Rattle.ties.specs.Least.{LeastOf};
 
 // The lesser of two times.
 fn lesser(t: u32, least: u32) -> u32

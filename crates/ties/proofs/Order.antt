@@ -6,12 +6,24 @@ use Prim.Native.Nat.{ℕ, _<_}
 use native.Mathlib.Omega.{arith}
 use lib.Dec.{eqb, leb, ltb}
 use lib.ListN.{length, getD}
-use Rattle.cycle.specs.Notation.{every}
+use Rattle.cycle.specs.Notation.{every, one, count}
+use Rattle.cycle.proofs.Every.{every-at, every-of}
+use Rattle.cycle.proofs.Count.{same-test, count-ext}
+use Rattle.cycle.proofs.Pigeonhole.{sum-permute}
 use Rattle.cycle.proofs.Digits.{length-tabulate, getD-tabulate}
 use Rattle.ties.specs.Ties.{isTie, ties, rank, chosen, occurs, twice}
 use Rattle.ties.specs.Order.{Permutes, reordered}
-use Rattle.ties.proofs.Counts.{count-permute, every-permute}
 use Rattle.ties.proofs.Rank.{TieAt, tie-of-rank, chosen-is}
+
+count-permute : (n : ℕ) (f : ℕ → ℕ) (p q : ℕ → Bool) → Permutes n f → ((i : ℕ) → i < n → p i ≡ q (f i)) → count n p ≡ count n q
+unfolding count
+count-permute n f p q s h = count-ext n p (λ i. q (f i)) h ∙ sum-permute n f (λ i. one (q i)) (s .below) (s .onto)
+
+every-permute : (n : ℕ) (f : ℕ → ℕ) (p q : ℕ → Bool) → Permutes n f → ((i : ℕ) → i < n → p i ≡ q (f i)) → every n p ≡ every n q
+every-permute n f p q s h =
+    same-test (every n p) (every n q)
+    (λ e. every-of n q (λ j l. let r = s .onto j l in ap q (sym (r .2)) ∙ sym (h (r .0) (r .1)) ∙ every-at n p e (r .0) (r .1)))
+    (λ e. every-of n p (λ i l. h i l ∙ every-at n q e (f i) (s .below i l)))
 
 pub length-reordered : (f : ℕ → ℕ) (xs : List ℕ) → length (reordered f xs) ≡ length xs
 length-reordered f xs = length-tabulate (length xs) (λ i. getD xs (f i) 0)

@@ -4,19 +4,11 @@ use mathlib.Core.List.{List}
 use Prim.Native.Nat.{ℕ, zero, suc}
 use lib.Dec.{eqb, leb, ltb}
 use lib.ListN.{length, getD}
-use Rattle.cycle.specs.Notation.{sum, every}
+use Rattle.cycle.specs.Notation.{every, count}
 
 -- the most shovels of a pick
 abbrev pub mostShovels : ℕ
 mostShovels = 64
-
--- 1 where b holds, else 0
-abbrev pub one : Bool → ℕ
-one b = cond b 1 0
-
--- how many of 0, 1, .., n - 1 meet p
-unfoldable pub count : ℕ → (ℕ → Bool) → ℕ
-count n p = sum n (λ i. one (p i))
 
 -- the first of 0, 1, .. that meets p, or n where none below n does
 unfoldable pub first : ℕ → (ℕ → Bool) → ℕ

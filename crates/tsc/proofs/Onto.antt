@@ -1,5 +1,5 @@
 -- Every number of n bits is the word of some state and, where the premises of coverage hold, is drawn from some state.
-use mathlib.Core.Path.{_≡_, refl, sym, ap, _∙_, fun-ext}
+use mathlib.Core.Path.{_≡_, sym, ap, _∙_, fun-ext}
 use mathlib.Core.Bool.{Bool, true, false, cond}
 use mathlib.Core.List.{List}
 use Prim.Native.Nat.{ℕ, _+_, _%_, _^_, _<_}
@@ -12,7 +12,7 @@ use lib.ListN.{getD, List·getD-eq-default}
 use lib.Pow.{pow-pos}
 use Rattle.cycle.specs.Notation.{bit, tabulate}
 use Rattle.cycle.proofs.Bits.{bits-ext}
-use Rattle.cycle.proofs.Count.{surjective-of-injective}
+use Rattle.cycle.proofs.Pigeonhole.{surjective-of-injective}
 use Rattle.cycle.proofs.Digits.{length-tabulate, getD-tabulate}
 use Rattle.tsc.specs.declared.Card.{Card}
 use Rattle.tsc.specs.Word.{_⊞_, _⋘_, filter1, filter2, word}
@@ -58,19 +58,18 @@ module _ (n : ℕ) (pos : 0 < n) where
   plus-zero x l = ap (λ (a : ℕ). a % 2 ^ n) (add-zero x) ∙ mod-eq-of-lt l
 
   -- a filter of the words 0, x, 0, 0, .. is a rotation of x
-  filter1-onto : (w : ℕ) → w < 2 ^ n → (x : ℕ) × (x < 2 ^ n) × (filter1 n (second x) ≡ w)
-  unfolding filter1 second
-  filter1-onto w l =
-      let r = rotate-onto 15 w l in
-      let none = pow-pos n in
-      (r .0, r .1, simp (rotate-zero 9, rotate-zero 7, zero-plus (r .0) (r .1), zero-plus 0 none, r .2, plus-zero w l))
+  module _ (x : ℕ) (l : x < 2 ^ n) where
+    none : 0 < 2 ^ n
+    none = pow-pos n
 
-  filter2-onto : (w : ℕ) → w < 2 ^ n → (x : ℕ) × (x < 2 ^ n) × (filter2 n (second x) ≡ w)
-  unfolding filter2 second
-  filter2-onto w l =
-      let r = rotate-onto 14 w l in
-      let none = pow-pos n in
-      (r .0, r .1, simp (rotate-zero 11, rotate-zero 13, rotate-zero 12, rotate-zero 22, zero-plus (r .0) (r .1), zero-plus 0 none, r .2, plus-zero w l))
+    filter1-second : filter1 n (second x) ≡ _⋘_ n x 15
+    unfolding filter1 second
+    filter1-second = simp (rotate-zero 9, rotate-zero 7, zero-plus x l, zero-plus 0 none, plus-zero (_⋘_ n x 15) (rotate-lt n x 15 pos l))
+
+    filter2-second : filter2 n (second x) ≡ _⋘_ n x 14
+    unfolding filter2 second
+    filter2-second =
+        simp (rotate-zero 11, rotate-zero 12, rotate-zero 13, rotate-zero 22, zero-plus x l, zero-plus 0 none, plus-zero (_⋘_ n x 14) (rotate-lt n x 14 pos l))
 
 module _ (card : Card) (wf : WellFormed card) where
   -- such a state; past its m words there is 0 as well
@@ -93,17 +92,20 @@ module _ (card : Card) (wf : WellFormed card) where
 
   pub word-onto : (w : ℕ) → w < 2 ^ card .width → (xs : List ℕ) × IsState card xs × (word card xs ≡ w)
   unfolding word
-  word-onto w l = go (eqb (card .filter) 2) refl
+  word-onto w l =
+      let two = eqb (card .filter) 2 in
+      let r = rotate-onto n pos (cond two 14 15) w l in
+      (words (r .0), state (r .0) (r .1), rw (fun-ext (at (r .0))) (turned two (r .0) (r .1)) ∙ r .2)
     where
       n : ℕ
       n = card .width
 
-      read : (x : ℕ) → (λ k. getD (words x) k 0) ≡ second x
-      read x = fun-ext (at x)
+      pos : 0 < n
+      pos = omega (arith, wf .width)
 
-      go : (b : Bool) → eqb (card .filter) 2 ≡ b → (xs : List ℕ) × IsState card xs × (word card xs ≡ w)
-      go true e = let r = filter2-onto n (omega (arith, wf .width)) w l in (words (r .0), state (r .0) (r .1), rw (e, read (r .0)) (r .2))
-      go false e = let r = filter1-onto n (omega (arith, wf .width)) w l in (words (r .0), state (r .0) (r .1), rw (e, read (r .0)) (r .2))
+      turned : (b : Bool) (x : ℕ) → x < 2 ^ n → cond b (filter2 n (second x)) (filter1 n (second x)) ≡ _⋘_ n x (cond b 14 15)
+      turned true x lx = filter2-second n pos x lx
+      turned false x lx = filter1-second n pos x lx
 
   pub draw-onto : FullPeriod card → (w : ℕ) → w < 2 ^ card .width → (xs : List ℕ) × IsState card xs × (word card (step card xs) ≡ w)
   draw-onto ok w l =

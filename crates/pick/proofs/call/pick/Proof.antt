@@ -5,7 +5,7 @@ use Rattle.tsc.specs.declared.Card.{Card}
 use Rattle.generator.proofs.Opening.{begun, begun-refused}
 use Rattle.generator.proofs.Called.{ready, of-values}
 use Rattle.ties.specs.Ties.{mostShovels, chosen}
-use Rattle.ties.proofs.Rank.{ties-some, ties-le}
+use Rattle.ties.proofs.Least.{ties-some, ties-le}
 use Rattle.tie_list.proofs.Allowed.{Allowed, list-allowed}
 use Rattle.pick.specs.Picks.{pickRefusal, drawnRank, drawnState}
 use Rattle.pick.proofs.Picking.{refusal-call, refusal-list, picking-refused, picking-chosen}

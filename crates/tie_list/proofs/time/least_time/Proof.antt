@@ -2,8 +2,8 @@ use mathlib.Core.Path.{_≡_, subst}
 use Prim.Native.Nat.{ℕ, _-_, _≤_}
 use native.Mathlib.Omega.{arith}
 use lib.ListN.{length}
-use Rattle.tie_list.specs.Steps.{LeastOf}
-use Rattle.tie_list.proofs.Least.{least-first, least-next}
+use Rattle.ties.specs.Least.{LeastOf}
+use Rattle.ties.proofs.Least.{least-first, least-next}
 use Rattle.tie_list.proofs.time.least_time.Statement.{statement}
 use Rattle.tie_list.proofs.time.least_time.Tie as tie
 

@@ -3,9 +3,9 @@ use Prim.Native.Nat.{ℕ, _-_, _≤_}
 use native.Mathlib.Omega.{arith}
 use lib.Dec.{eqb}
 use lib.ListN.{length, getD}
-use Rattle.ties.specs.Ties.{count}
-use Rattle.ties.proofs.Counts.{count-none, counted-fits, counted-next}
-use Rattle.tie_list.proofs.Least.{ties-counted}
+use Rattle.cycle.specs.Notation.{count}
+use Rattle.cycle.proofs.Count.{count-none, counted-fits, counted-next}
+use Rattle.ties.proofs.Least.{ties-counted}
 use Rattle.tie_list.proofs.time.ties_of.Statement.{statement}
 use Rattle.tie_list.proofs.time.ties_of.Tie as tie
 
