@@ -1,6 +1,6 @@
 # Thin targets: README.md says what each is for.
 SHELL = /bin/bash
-.PHONY: run test fmt vectors
+.PHONY: run test lib example bindings difftest bench fmt vectors
 
 # the card that the program is fed, as bytes in hex
 CARD = $(shell grep -v '^\#' cards/program.hex)
@@ -13,6 +13,37 @@ run:
 
 test:
 	bash .ci/run
+
+# the library for C and whatever can call C: proved, then compiled
+lib: target/lib/libtiedraw.so
+
+target/lib/libtiedraw.a: crates.txt $(shell find crates -name '*.rt' -o -name '*.antt')
+	@echo "Proving and building the library; a minute or two the first time." >&2
+	@mkdir -p target/lib && rt staticlib tiedraw > target/lib.log 2>&1 || { cat target/lib.log; exit 1; }
+	@cp target/staticlib/libtiedraw.a $@
+
+target/lib/libtiedraw.so: target/lib/libtiedraw.a
+	@gcc -shared -Wl,-soname,libtiedraw.so -Wl,-z,defs -Wl,--whole-archive $< -Wl,--no-whole-archive -o $@
+
+# a server and its standby in C
+example: lib
+	@gcc -std=c99 -Wall -Wextra -pedantic -Werror -O2 -Iinclude examples/c/standby.c target/lib/libtiedraw.a -o target/standby
+	@target/standby
+
+# the tests of the Rust and Python bindings
+bindings: lib
+	cd bindings/rust && cargo test --quiet
+	cd bindings/python && python3 -m unittest --quiet
+
+# the library against the second program; SEED and INPUTS may be given
+difftest: lib
+	cd harness && cargo build --release --quiet
+	harness/target/release/difftest $(SEED) $(INPUTS)
+
+# nanoseconds a call, beside Rust in the same run
+bench: lib
+	cd harness && cargo build --release --quiet
+	harness/target/release/bench
 
 fmt:
 	rt fmt

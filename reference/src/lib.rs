@@ -27,7 +27,7 @@ pub struct Card {
 }
 
 /// 2^n - 1.
-fn mask(width: u8) -> u32 {
+pub fn mask(width: u8) -> u32 {
     u32::MAX >> (32 - width)
 }
 
@@ -161,8 +161,8 @@ pub fn write(card: &Card) -> Result<Vec<u8>, u8> {
     Ok(encode(card))
 }
 
-/// The bytes of a card: the map, then the fields that stand, from bit 0 up.
-fn encode(card: &Card) -> Vec<u8> {
+/// The bytes of a card, whether or not a check accepts it: the map, then the fields that stand, from bit 0 up.
+pub fn encode(card: &Card) -> Vec<u8> {
     let table_stands = card.words != 4 || card.table != TSC1_TABLE;
     let constant = card.constant.to_le_bytes();
     let fields: [(bool, &[u8]); 8] = [

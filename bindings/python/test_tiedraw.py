@@ -1,0 +1,71 @@
+"""The examples of document 01 through the Python module."""
+
+import unittest
+
+import tiedraw
+from tiedraw import Refusal, Refused, Values
+
+PROGRAM = bytes.fromhex("27 02 02 01 02 03 00 01 00 00 00")
+
+
+class Document(unittest.TestCase):
+    def refused(self, refusal, call, *arguments):
+        with self.assertRaises(Refused) as caught:
+            call(*arguments)
+        self.assertEqual(caught.exception.refusal, refusal)
+
+    def test_the_program_draws_as_printed(self):
+        desk = tiedraw.Generator(PROGRAM, [0, 0])
+        for state, word in [((1, 2), 0), ((2, 3), 0), ((1, 1), 3), ((2, 0), 2)]:
+            self.assertEqual((desk.draw(), desk.state), (word, state))
+        for state in [(1, 1), (2, 3), (1, 2), (0, 0)]:
+            desk.step_back()
+            self.assertEqual(desk.state, state)
+
+    def test_tsc1(self):
+        word, state = tiedraw.draw(b"\0", [0] * 4)
+        self.assertEqual(state, (0xFFFFFFFF, 0x12488421, 0xEDB77BDE, 0xEDB77BDE))
+        self.assertEqual(word, 0x0B857478)
+        self.assertEqual(tiedraw.write(Values()), b"\0")
+
+    def test_a_tie_goes_by_rank_and_not_by_place(self):
+        for times in [{7: 300, 4: 300}, {4: 300, 7: 300}]:
+            for state, shovel, after in [((0, 0), 4, (1, 2)), ((2, 3), 7, (1, 1))]:
+                desk = tiedraw.Generator(PROGRAM, state)
+                self.assertEqual(desk.pick(times), (shovel, 2))
+                self.assertEqual(desk.state, after)
+        self.assertEqual(tiedraw.pick(PROGRAM, [0, 0], [4, 7], [300, 299]), ((7, 1), (0, 0)))
+
+    def test_what_is_unsound_is_refused_and_changes_nothing(self):
+        self.refused(Refusal.TRUNCATED, tiedraw.check, b"")
+        self.refused(Refusal.NOT_SINGLE_CYCLE, tiedraw.check, bytes.fromhex("05 02 00 01 02 03"))
+        self.refused(Refusal.WORD_COUNT, tiedraw.Generator, PROGRAM, [0])
+        self.refused(Refusal.WORD_TOO_WIDE, tiedraw.Generator, PROGRAM, [0, 4])
+        self.refused(Refusal.LENGTH_MISMATCH, tiedraw.pick, PROGRAM, [0, 0], [1], [])
+        desk = tiedraw.Generator(PROGRAM, [2, 3])
+        self.refused(Refusal.NO_SHOVEL, desk.pick, {})
+        self.refused(Refusal.TOO_MANY_SHOVELS, desk.pick, {shovel: 1 for shovel in range(65)})
+        self.assertEqual(desk.state, (2, 3))
+
+    def test_values_become_a_card(self):
+        values = Values(words=2, width=2, table=[1, 2, 3, 0], constant=1)
+        self.assertEqual(tiedraw.write(values), PROGRAM)
+        self.refused(Refusal.BUFFER_TOO_SMALL, tiedraw.write, values, 10)
+        self.refused(Refusal.OUT_OF_RANGE, tiedraw.write, Values(table=[0] * 17))
+
+    def test_no_number_is_cut_off(self):
+        for call in [
+            lambda: tiedraw.draw(PROGRAM, [0, 2**32]),
+            lambda: tiedraw.pick(PROGRAM, [0, 0], [65536], [1]),
+            lambda: tiedraw.write(Values(words=260)),
+            lambda: tiedraw.write(Values(odd_power=-1)),
+        ]:
+            self.assertRaises(ValueError, call)
+
+    def test_a_refusal_tells_its_number_and_trade_word(self):
+        with self.assertRaisesRegex(Refused, r"refusal 9 \(powers\)"):
+            tiedraw.check(bytes([8, 2]))
+
+
+if __name__ == "__main__":
+    unittest.main()

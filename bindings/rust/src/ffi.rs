@@ -1,0 +1,51 @@
+//! The functions and structs of `include/tiedraw.h`, as they stand there.
+
+#[repr(C)]
+pub struct Word {
+    pub word: u32,
+    pub refusal: u8,
+}
+
+#[repr(C)]
+pub struct Choice {
+    pub shovel: u16,
+    pub ties: u8,
+    pub refusal: u8,
+}
+
+#[repr(C)]
+pub struct Written {
+    pub length: usize,
+    pub refusal: u8,
+}
+
+extern "C" {
+    pub fn tiedraw_check(card: *const u8, card_len: usize) -> u8;
+    pub fn tiedraw_step(card: *const u8, card_len: usize, state: *mut u32, words: usize) -> u8;
+    pub fn tiedraw_step_back(card: *const u8, card_len: usize, state: *mut u32, words: usize)
+        -> u8;
+    pub fn tiedraw_draw(card: *const u8, card_len: usize, state: *mut u32, words: usize) -> Word;
+    pub fn tiedraw_pick(
+        card: *const u8,
+        card_len: usize,
+        state: *mut u32,
+        words: usize,
+        shovels: *const u16,
+        shovel_count: usize,
+        times: *const u32,
+        time_count: usize,
+    ) -> Choice;
+    pub fn tiedraw_write(
+        words: u8,
+        width: u8,
+        table: *const u8,
+        table_len: usize,
+        odd_power: u8,
+        even_power: u8,
+        constant: u32,
+        filter: u8,
+        sum_term: u8,
+        page: *mut u8,
+        page_len: usize,
+    ) -> Written;
+}

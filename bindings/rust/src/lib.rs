@@ -1,0 +1,194 @@
+//! Tie draws for mine dispatch, proved: a safe wrapper over `include/tiedraw.h`, on the standard library alone.
+//!
+//! [`Generator`] holds an accepted card and a state of its size, so that its draws and steps can't be refused; a list of
+//! [`Shovel`]s can't have more numbers than times. The functions of this module are the library's own, on slices, for
+//! callers who keep card and state themselves.
+//!
+//! ```
+//! use tiedraw::{Card, Generator, Shovel};
+//! let card = Card::new(&[0x27, 2, 2, 1, 2, 3, 0, 1, 0, 0, 0])?;
+//! let mut server = Generator::new(card, &[0, 0])?;
+//! let choice = server.pick(&[Shovel { number: 7, time: 300 }, Shovel { number: 4, time: 300 }])?;
+//! assert_eq!((choice.shovel, choice.ties, server.state()), (4, 2, &[1, 2][..]));
+//! # Ok::<(), tiedraw::Refusal>(())
+//! ```
+
+pub mod ffi;
+mod refusal;
+
+pub use refusal::Refusal;
+
+/// No accepted card has more bytes.
+pub const MOST_CARD_BYTES: usize = 26;
+
+/// What a pick answers: the shovel's number, and how many shovels had the least time.
+#[derive(Clone, Copy, Debug, PartialEq, Eq)]
+pub struct Choice {
+    pub shovel: u16,
+    pub ties: u8,
+}
+
+/// The eight values of a card. A table shorter than 16 entries counts as followed by zeros.
+#[derive(Clone, Debug, PartialEq, Eq)]
+pub struct Values {
+    pub words: u8,
+    pub width: u8,
+    pub table: Vec<u8>,
+    pub odd_power: u8,
+    pub even_power: u8,
+    pub constant: u32,
+    pub filter: u8,
+    pub sum_term: u8,
+}
+
+// ---- The library's calls, on slices. A slice is never null, is aligned, and a lent one is nobody else's.
+
+/// Accepts a card, or refuses it by 1 to 9.
+pub fn check(card: &[u8]) -> Result<(), Refusal> {
+    Refusal::result(unsafe { ffi::tiedraw_check(card.as_ptr(), card.len()) })
+}
+
+/// One step of the state.
+pub fn step(card: &[u8], state: &mut [u32]) -> Result<(), Refusal> {
+    Refusal::result(unsafe {
+        ffi::tiedraw_step(card.as_ptr(), card.len(), state.as_mut_ptr(), state.len())
+    })
+}
+
+/// One step back of the state.
+pub fn step_back(card: &[u8], state: &mut [u32]) -> Result<(), Refusal> {
+    Refusal::result(unsafe {
+        ffi::tiedraw_step_back(card.as_ptr(), card.len(), state.as_mut_ptr(), state.len())
+    })
+}
+
+/// One step of the state, and its word.
+pub fn draw(card: &[u8], state: &mut [u32]) -> Result<u32, Refusal> {
+    let answer =
+        unsafe { ffi::tiedraw_draw(card.as_ptr(), card.len(), state.as_mut_ptr(), state.len()) };
+    Refusal::result(answer.refusal).map(|()| answer.word)
+}
+
+/// The shovel of least time; ties are broken by a draw.
+pub fn pick(
+    card: &[u8],
+    state: &mut [u32],
+    shovels: &[u16],
+    times: &[u32],
+) -> Result<Choice, Refusal> {
+    let answer = unsafe {
+        ffi::tiedraw_pick(
+            card.as_ptr(),
+            card.len(),
+            state.as_mut_ptr(),
+            state.len(),
+            shovels.as_ptr(),
+            shovels.len(),
+            times.as_ptr(),
+            times.len(),
+        )
+    };
+    let choice = Choice {
+        shovel: answer.shovel,
+        ties: answer.ties,
+    };
+    Refusal::result(answer.refusal).map(|()| choice)
+}
+
+/// Writes a card at the front of the page, and answers its length.
+pub fn write(values: &Values, page: &mut [u8]) -> Result<usize, Refusal> {
+    let answer = unsafe {
+        ffi::tiedraw_write(
+            values.words,
+            values.width,
+            values.table.as_ptr(),
+            values.table.len(),
+            values.odd_power,
+            values.even_power,
+            values.constant,
+            values.filter,
+            values.sum_term,
+            page.as_mut_ptr(),
+            page.len(),
+        )
+    };
+    Refusal::result(answer.refusal).map(|()| answer.length)
+}
+
+// ---- Values that are known to be sound.
+
+/// An accepted card.
+#[derive(Clone, Debug, PartialEq, Eq)]
+pub struct Card(Vec<u8>);
+
+impl Card {
+    /// Of these bytes, or refusal 1 to 9.
+    pub fn new(bytes: &[u8]) -> Result<Card, Refusal> {
+        check(bytes).map(|()| Card(bytes.to_vec()))
+    }
+
+    /// Of these values, or refusal 2 or 6 to 9.
+    pub fn from_values(values: &Values) -> Result<Card, Refusal> {
+        let mut page = [0; MOST_CARD_BYTES];
+        let length = write(values, &mut page)?;
+        Card::new(&page[..length])
+    }
+
+    pub fn bytes(&self) -> &[u8] {
+        &self.0
+    }
+}
+
+/// A shovel that a truck may be sent to, and the seconds of travel to it.
+#[derive(Clone, Copy, Debug, PartialEq, Eq)]
+pub struct Shovel {
+    pub number: u16,
+    pub time: u32,
+}
+
+/// An accepted card and a state of its size.
+#[derive(Clone, Debug, PartialEq, Eq)]
+pub struct Generator {
+    card: Card,
+    state: Vec<u32>,
+}
+
+impl Generator {
+    /// At this state, or refusal 10 or 11.
+    pub fn new(card: Card, state: &[u32]) -> Result<Generator, Refusal> {
+        step(card.bytes(), &mut state.to_vec())?;
+        Ok(Generator {
+            card,
+            state: state.to_vec(),
+        })
+    }
+
+    pub fn card(&self) -> &Card {
+        &self.card
+    }
+
+    pub fn state(&self) -> &[u32] {
+        &self.state
+    }
+
+    /// One step. It can't be refused, and neither can the next two.
+    pub fn step(&mut self) {
+        step(self.card.bytes(), &mut self.state).expect("a state of an accepted card");
+    }
+
+    pub fn step_back(&mut self) {
+        step_back(self.card.bytes(), &mut self.state).expect("a state of an accepted card");
+    }
+
+    /// One step, and its word.
+    pub fn draw(&mut self) -> u32 {
+        draw(self.card.bytes(), &mut self.state).expect("a state of an accepted card")
+    }
+
+    /// The shovel of least time, or refusal 13 to 15. Several at that time are ties, and a draw decides.
+    pub fn pick(&mut self, shovels: &[Shovel]) -> Result<Choice, Refusal> {
+        let numbers: Vec<u16> = shovels.iter().map(|shovel| shovel.number).collect();
+        let times: Vec<u32> = shovels.iter().map(|shovel| shovel.time).collect();
+        pick(self.card.bytes(), &mut self.state, &numbers, &times)
+    }
+}

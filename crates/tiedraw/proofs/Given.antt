@@ -1,0 +1,30 @@
+-- The writer's values as C hands them over: a table that the array can hold, and one that it can't.
+use mathlib.Core.Path.{_≡_, refl, ap, _∙_}
+use mathlib.Core.List.{List}
+use Prim.Native.Nat.{ℕ, _^_, _<_, _≤_}
+use native.Mathlib.Omega.{arith}
+use lib.ListN.{length, take}
+use lib.Seq.{take-all}
+use borrow.Author.Tests.{lt-ltb, le-ltb}
+use Rattle.tsc.specs.declared.Card.{Card}
+use Rattle.tsc.specs.Constants.{mostWords}
+use Rattle.card_format.specs.declared.Written.the-variants.{Refused}
+use Rattle.card_format.specs.Refusals.{number, outOfRange}
+use Rattle.card_format.specs.Reading.{padded}
+use Rattle.card_format.specs.Writing.{writing, pageAfter}
+use Rattle.tiedraw.specs.Answers.{given, writtenLength, writtenFrom, pageFrom}
+
+module _ (card : Card) (table page : List ℕ) where
+  -- an overlong table: refusal 2, and the page as it was
+  pub overlong-refused : 2 ^ mostWords < length table → (writtenLength (Refused (number outOfRange)) ≡ writtenFrom card table (length page)) × (page ≡ pageFrom card table page)
+  unfolding writtenFrom pageFrom
+  overlong-refused long = rw (lt-ltb (2 ^ mostWords) (length table) long) (refl, refl)
+
+  -- else the writer's own answer and page
+  pub fitting-written : length table ≤ 2 ^ mostWords → (writtenLength (writing card (length page)) ≡ writtenFrom card table (length page)) × (pageAfter card page ≡ pageFrom card table page)
+  unfolding writtenFrom pageFrom
+  fitting-written fits = rw (le-ltb (2 ^ mostWords) (length table) fits) (refl, refl)
+
+-- a table filled from all the entries given
+pub filled-all : (table filled : List ℕ) → filled ≡ padded (take (length table) table) → filled ≡ padded table
+filled-all table filled e = e ∙ ap padded (take-all (length table) table (omega arith))

@@ -1,0 +1,60 @@
+-- The calls' answers as C has them (include/tiedraw.h): the values and the refusal, 0 for none. On a refusal the values are 0.
+use mathlib.Core.Bool.{Bool, cond}
+use mathlib.Core.List.{List}
+use Prim.Native.Nat.{ℕ, _^_}
+use lib.Dec.{ltb}
+use lib.ListN.{length}
+use Rattle.tsc.specs.declared.Card.{Card}
+use Rattle.tsc.specs.Constants.{mostWords}
+use Rattle.card_format.specs.declared.Written.{Written}
+use Rattle.card_format.specs.declared.Written.the-variants.{Length, Refused}
+use Rattle.card_format.specs.Refusals.{number, outOfRange}
+use Rattle.card_format.specs.Reading.{padded}
+use Rattle.card_format.specs.Writing.{writing, pageAfter}
+use Rattle.generator.specs.declared.Draw.{Draw}
+use Rattle.generator.specs.declared.Draw.the-variants as draw
+use Rattle.pick.specs.declared.Pick.{Pick}
+use Rattle.pick.specs.declared.Pick.the-variants as pick
+use Rattle.tiedraw.specs.declared.DrawnWord.{DrawnWord}
+use Rattle.tiedraw.specs.declared.Choice.{Choice}
+use Rattle.tiedraw.specs.declared.WrittenLength.{WrittenLength}
+
+-- a draw's answer
+abbrev pub drawn : Draw → DrawnWord
+drawn (draw.Word w) = record { word = w; refusal = 0 }
+drawn (draw.Refused r) = record { word = 0; refusal = r }
+
+-- a pick's answer
+abbrev pub choice : Pick → Choice
+choice (pick.Shovel s k) = record { shovel = s; ties = k; refusal = 0 }
+choice (pick.Refused r) = record { shovel = 0; ties = 0; refusal = r }
+
+-- the writer's answer
+abbrev pub writtenLength : Written → WrittenLength
+writtenLength (Length n) = record { length = n; refusal = 0 }
+writtenLength (Refused r) = record { length = 0; refusal = r }
+
+-- the writer's eight values, as C hands them over: a table shorter than the array counts as followed by zeros
+abbrev pub given : ℕ → ℕ → List ℕ → ℕ → ℕ → ℕ → ℕ → ℕ → Card
+given words width table oddPower evenPower constant filter sumTerm = record {
+  words = words;
+  width = width;
+  table = padded table;
+  «odd_power» = oddPower;
+  «even_power» = evenPower;
+  constant = constant;
+  filter = filter;
+  «sum_term» = sumTerm;
+}
+
+-- whether a table is longer than the array
+abbrev pub overlong : List ℕ → Bool
+overlong table = ltb (2 ^ mostWords) (length table)
+
+-- what is answered for these values, this table among them, and a page of `room` bytes: an overlong table is refused by 2
+unfoldable pub writtenFrom : Card → List ℕ → ℕ → WrittenLength
+writtenFrom card table room = cond (overlong table) (writtenLength (Refused (number outOfRange))) (writtenLength (writing card room))
+
+-- the page after the call
+unfoldable pub pageFrom : Card → List ℕ → List ℕ → List ℕ
+pageFrom card table page = cond (overlong table) page (pageAfter card page)

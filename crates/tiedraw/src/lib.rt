@@ -1,0 +1,169 @@
+// The calls for C and whatever can call C (include/tiedraw.h): thin, under their plain names. A slice is a pointer and a length there.
+ghost use mathlib.Core.Path.{_≡_};
+ghost use mathlib.Core.Logic.{_↔_};
+ghost use mathlib.Core.List.{List};
+ghost use Prim.Native.Nat.{ℕ};
+ghost use lib.ListN.{length};
+ghost use Rattle.tsc.specs.Coverage.{IsState, Covers, stepBack};
+ghost use Rattle.card_format.specs.Reading.{cardOf, SoundForm};
+ghost use Rattle.card_format.specs.Verdict.{verdict};
+ghost use Rattle.card_format.specs.Writing.{writing, pageAfter};
+ghost use Rattle.generator.specs.Calls.{refusalFor, stepped, steppedBack, drawing, OnlyBefore};
+ghost use Rattle.pick.specs.Picks.{picking, picked};
+ghost use Rattle.tiedraw.specs.Answers.{drawn, choice, writtenLength, given, writtenFrom, pageFrom};
+use card::check;
+use card_fields::table;
+use card_format::Written;
+use card_format::refusal;
+use card_write::write;
+use generator::Draw;
+use generator::call;
+use pick::Pick;
+use tsc::Card;
+use tsc::TABLE_SIZE;
+
+// What a draw answers, tiedraw_word: 0 and the word, or the refusal and 0.
+#[repr(C)]
+pub struct DrawnWord {
+    pub word: u32,
+    pub refusal: u8,
+}
+
+// What a pick answers, tiedraw_choice: 0, the shovel and how many ties there were; or the refusal and zeros.
+#[repr(C)]
+pub struct Choice {
+    pub shovel: u16,
+    pub ties: u8,
+    pub refusal: u8,
+}
+
+// What the writer answers, tiedraw_written: 0 and the length, or the refusal and 0.
+#[repr(C)]
+pub struct WrittenLength {
+    pub length: usize,
+    pub refusal: u8,
+}
+
+// 0 for an accepted card, or refusal 1 to 9. DEMAND 3, as of card::check.
+#[no_mangle]
+pub extern "C" fn tiedraw_check(card: &[u8]) -> u8
+    ensures told { λ r. ⌜ r ≡ verdict (now (card .entry)) ⌝ }
+    ensures covers { λ r. ⌜ (SoundForm (now (card .entry)) → (start : List ℕ) → IsState (cardOf (now (card .entry))) start → (r ≡ 0) ↔ Covers (cardOf (now (card .entry))) start) ⌝ }
+{
+    check::check(card)
+}
+
+// 0 and the state stepped, or refusal 1 to 11. The step back undoes it.
+#[no_mangle]
+pub extern "C" fn tiedraw_step(card: &[u8], state: &mut [u32]) -> u8
+    ensures answer { λ r. ⌜ r ≡ refusalFor (now (card .entry)) (now (state .entry)) ⌝ }
+    ensures after { λ r. ⌜ now (state .exit) ≡ stepped (now (card .entry)) (now (state .entry)) ⌝ }
+    ensures undone { λ r. ⌜ (r ≡ 0 → IsState (cardOf (now (card .entry))) (now (state .exit)) × (stepBack (cardOf (now (card .entry))) (now (state .exit)) ≡ now (state .entry))) ⌝ }
+{
+    call::step(card, state)
+}
+
+// 0 and the one state whose step it was, or refusal 1 to 11.
+#[no_mangle]
+pub extern "C" fn tiedraw_step_back(card: &[u8], state: &mut [u32]) -> u8
+    ensures answer { λ r. ⌜ r ≡ refusalFor (now (card .entry)) (now (state .entry)) ⌝ }
+    ensures after { λ r. ⌜ now (state .exit) ≡ steppedBack (now (card .entry)) (now (state .entry)) ⌝ }
+    ensures only { λ r. ⌜ (r ≡ 0 → OnlyBefore (cardOf (now (card .entry))) (now (state .exit)) (now (state .entry))) ⌝ }
+{
+    call::step_back(card, state)
+}
+
+// The word of the step, or refusal 1 to 11.
+#[no_mangle]
+pub extern "C" fn tiedraw_draw(card: &[u8], state: &mut [u32]) -> DrawnWord
+    ensures answer { λ r. ⌜ r ≡ drawn (drawing (now (card .entry)) (now (state .entry))) ⌝ }
+    ensures after { λ r. ⌜ now (state .exit) ≡ stepped (now (card .entry)) (now (state .entry)) ⌝ }
+{
+    match call::draw(card, state) {
+        Draw::Word(word) => DrawnWord {
+            word: word,
+            refusal: 0,
+        },
+        Draw::Refused(number) => DrawnWord {
+            word: 0,
+            refusal: number,
+        },
+    }
+}
+
+// The chosen shovel and the number of ties, or refusal 1 to 15.
+#[no_mangle]
+pub extern "C" fn tiedraw_pick(
+    card: &[u8],
+    state: &mut [u32],
+    shovels: &[u16],
+    times: &[u32],
+) -> Choice
+    ensures answer { λ r. ⌜ r ≡ choice (picking (now (card .entry)) (now (state .entry)) (now (shovels .entry)) (now (times .entry))) ⌝ }
+    ensures after { λ r. ⌜ now (state .exit) ≡ picked (now (card .entry)) (now (state .entry)) (now (shovels .entry)) (now (times .entry)) ⌝ }
+{
+    match pick::call::pick(card, state, shovels, times) {
+        Pick::Shovel(number, ties) => Choice {
+            shovel: number,
+            ties: ties,
+            refusal: 0,
+        },
+        Pick::Refused(number) => Choice {
+            shovel: 0,
+            ties: 0,
+            refusal: number,
+        },
+    }
+}
+
+// A card by value, written: the writer's answer for C.
+fn write_card(card: Card, page: &mut [u8]) -> WrittenLength
+    ensures { λ r. ⌜ r ≡ writtenLength (writing card (length (now (page .entry)))) ⌝ }
+    ensures { λ _. ⌜ now (page .exit) ≡ pageAfter card (now (page .entry)) ⌝ }
+{
+    match write::write(card, page) {
+        Written::Length(length) => WrittenLength {
+            length: length,
+            refusal: 0,
+        },
+        Written::Refused(number) => WrittenLength {
+            length: 0,
+            refusal: number,
+        },
+    }
+}
+
+// The length of the card written, or refusal 2, 6 to 9 or 16. A table longer than the array is refused by 2, and a shorter one counts as followed by zeros.
+#[no_mangle]
+pub extern "C" fn tiedraw_write(
+    words: u8,
+    width: u8,
+    table: &[u8],
+    odd_power: u8,
+    even_power: u8,
+    constant: u32,
+    filter: u8,
+    sum_term: u8,
+    page: &mut [u8],
+) -> WrittenLength
+    ensures answer { λ r. ⌜ r ≡ writtenFrom (given words width (now (table .entry)) «odd_power» «even_power» constant filter «sum_term») (now (table .entry)) (length (now (page .entry))) ⌝ }
+    ensures after { λ r. ⌜ now (page .exit) ≡ pageFrom (given words width (now (table .entry)) «odd_power» «even_power» constant filter «sum_term») (now (table .entry)) (now (page .entry)) ⌝ }
+{
+    if TABLE_SIZE < table.len() {
+        return WrittenLength {
+            length: 0,
+            refusal: refusal::OUT_OF_RANGE,
+        };
+    }
+    let card = Card {
+        words: words,
+        width: width,
+        table: table::table_from(table, table.len()),
+        odd_power: odd_power,
+        even_power: even_power,
+        constant: constant,
+        filter: filter,
+        sum_term: sum_term,
+    };
+    write_card(card, page)
+}

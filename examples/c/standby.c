@@ -1,0 +1,72 @@
+/* A dispatch server and its standby, each with its own copy of the state and its own order of the list: they send every truck to
+   the same shovel. At the end the lots of the shift are taken back one by one, and bad input shows what a refusal is. */
+#include <stdio.h>
+#include <stdlib.h>
+#include <string.h>
+
+#include "tiedraw.h"
+
+enum { WORDS = 4, SHOVELS = 5, TRUCKS = 8 };
+
+/* TSC-1: every field of the card is absent. */
+static const uint8_t card[] = {0x00};
+
+static void stop_unless(int holds, const char *what) {
+    if (!holds) {
+        fprintf(stderr, "standby: %s\n", what);
+        exit(1);
+    }
+}
+
+/* Seconds of travel: shovel 30 is far, but nearest for every fourth truck. */
+static uint32_t travel_time(uint32_t truck, uint16_t shovel) {
+    if (shovel == 30)
+        return truck % 4 == 0 ? 240 : 420;
+    return 300;
+}
+
+/* A truck's shovel, as one server picks it from its own list. */
+static tiedraw_choice pick(uint32_t *state, const uint16_t *shovels, uint32_t truck) {
+    uint32_t times[SHOVELS];
+    for (int i = 0; i < SHOVELS; i++)
+        times[i] = travel_time(truck, shovels[i]);
+    tiedraw_choice choice = tiedraw_pick(card, sizeof card, state, WORDS, shovels, SHOVELS, times, SHOVELS);
+    stop_unless(choice.refusal == 0, "a pick was refused");
+    return choice;
+}
+
+int main(void) {
+    const uint16_t shovels[SHOVELS] = {12, 7, 30, 4, 21};
+    const uint16_t standby_shovels[SHOVELS] = {4, 7, 12, 21, 30};
+    uint32_t state[WORDS] = {0}, standby_state[WORDS], start[WORDS];
+
+    stop_unless(tiedraw_check(card, sizeof card) == 0, "the card was refused");
+    for (int i = 1; i <= 3; i++) {
+        tiedraw_word drawn = tiedraw_draw(card, sizeof card, state, WORDS);
+        stop_unless(drawn.refusal == 0, "a draw was refused");
+        printf("draw %d: word %08x\n", i, drawn.word);
+    }
+    memcpy(start, state, sizeof state);
+    memcpy(standby_state, state, sizeof state);
+
+    int lots = 0;
+    for (uint32_t truck = 1; truck <= TRUCKS; truck++) {
+        tiedraw_choice server = pick(state, shovels, truck);
+        tiedraw_choice standby = pick(standby_state, standby_shovels, truck);
+        printf("truck %u: shovel %2u of %u, standby server: shovel %2u\n", truck, server.shovel, server.ties, standby.shovel);
+        stop_unless(server.shovel == standby.shovel && memcmp(state, standby_state, sizeof state) == 0, "the servers differ");
+        lots += server.ties > 1;
+    }
+
+    for (int i = 0; i < lots; i++)
+        stop_unless(tiedraw_step_back(card, sizeof card, state, WORDS) == 0, "a step back was refused");
+    stop_unless(memcmp(state, start, sizeof state) == 0, "the steps back lead elsewhere");
+    printf("%d steps back: the shift's first state\n", lots);
+
+    const uint8_t even_odd_power[] = {0x08, 0x02};
+    tiedraw_word refused = tiedraw_draw(even_odd_power, sizeof even_odd_power, state, WORDS);
+    stop_unless(refused.refusal == TIEDRAW_POWER_PARITY && memcmp(state, start, sizeof state) == 0, "a bad card was not refused");
+    printf("a card whose odd power is even: refusal %u, and the state is as it was\n", refused.refusal);
+    printf("no card at all: refusal %u\n", tiedraw_draw(NULL, 0, state, WORDS).refusal);
+    return 0;
+}

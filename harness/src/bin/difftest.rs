@@ -1,0 +1,171 @@
+//! The library against the second program on random inputs, and the check against walks counted out. `difftest [SEED [INPUTS]]`.
+
+use harness::calls::{compare, CALLS};
+use harness::hex;
+use harness::inputs::{sound_form, Input};
+use harness::random::Random;
+use std::process::exit;
+use std::sync::atomic::{AtomicUsize, Ordering};
+
+const SEED: u64 = 20261115;
+const INPUTS: usize = 2_000_000;
+/// inputs, or cards, of one random stream
+const BLOCK: usize = 1000;
+/// cards of each size whose walks are counted out
+const CARDS: usize = 3000;
+/// the most bits of a state for that
+const MOST_BITS: u8 = 12;
+
+/// The refusals that each call has: all of them must come up.
+const TELLS: [&[usize]; 6] = [
+    &[1, 2, 3, 4, 5, 6, 7, 8, 9],
+    &[1, 2, 3, 4, 5, 6, 7, 8, 9, 10, 11],
+    &[1, 2, 3, 4, 5, 6, 7, 8, 9, 10, 11],
+    &[1, 2, 3, 4, 5, 6, 7, 8, 9, 10, 11],
+    &[1, 2, 3, 4, 5, 6, 7, 8, 9, 10, 11, 12, 13, 14, 15],
+    &[2, 6, 7, 8, 9, 16],
+];
+
+/// How often each call told each refusal.
+type Tally = [[usize; 17]; 6];
+
+/// Runs the blocks on all cores. A difference is printed, and the run fails.
+fn run_blocks<T: Send>(blocks: usize, work: impl Fn(usize) -> Result<T, String> + Sync) -> Vec<T> {
+    let next = AtomicUsize::new(0);
+    let worker = || {
+        let mut results = Vec::new();
+        loop {
+            let block = next.fetch_add(1, Ordering::Relaxed);
+            if block >= blocks {
+                return results;
+            }
+            match work(block) {
+                Ok(result) => results.push(result),
+                Err(difference) => {
+                    println!("DIFFERENCE in block {block}: {difference}");
+                    exit(1);
+                }
+            }
+        }
+    };
+    let cores = std::thread::available_parallelism().map_or(1, usize::from);
+    std::thread::scope(|scope| {
+        let workers: Vec<_> = (0..cores).map(|_| scope.spawn(worker)).collect();
+        workers
+            .into_iter()
+            .flat_map(|worker| worker.join().unwrap())
+            .collect()
+    })
+}
+
+fn compare_block(seed: u64, block: usize) -> Result<Tally, String> {
+    let mut random = Random::new(seed, block as u64);
+    let mut tally = [[0; 17]; 6];
+    for _ in 0..BLOCK {
+        let refusals = compare(&Input::random(&mut random))?;
+        for (call, refusal) in refusals.into_iter().enumerate() {
+            tally[call][usize::from(refusal)] += 1;
+        }
+    }
+    Ok(tally)
+}
+
+fn compare_inputs(seed: u64, inputs: usize) {
+    let blocks = inputs.div_ceil(BLOCK);
+    let mut total = [[0; 17]; 6];
+    for tally in run_blocks(blocks, |block| compare_block(seed, block)) {
+        for (sums, counts) in total.iter_mut().zip(tally) {
+            for (sum, count) in sums.iter_mut().zip(counts) {
+                *sum += count;
+            }
+        }
+    }
+    println!(
+        "{} inputs, each through {} calls: no difference",
+        blocks * BLOCK,
+        CALLS.len()
+    );
+    println!("answers, then refusals 1 to 16:");
+    for (name, sums) in CALLS.iter().zip(total) {
+        let counts: Vec<String> = sums.iter().map(|sum| format!("{sum:>6}")).collect();
+        println!("{name:>9} {}", counts.join(" "));
+    }
+    for (call, tells) in TELLS.iter().enumerate() {
+        if let Some(refusal) = tells.iter().find(|&&refusal| total[call][refusal] == 0) {
+            println!("{} never told {refusal}: too few inputs", CALLS[call]);
+            exit(1);
+        }
+    }
+}
+
+/// Whether the walk from a state brings up every state once and then returns, counted out with the second program's step.
+fn covers(card: &reference::Card, start: &[u32]) -> bool {
+    let width = usize::from(card.width);
+    let number = |state: &[u32]| state.iter().fold(0, |sum, &x| sum << width | x as usize);
+    let mut seen = vec![false; 1 << (width * start.len())];
+    let mut state = start.to_vec();
+    for _ in 0..seen.len() {
+        if std::mem::replace(&mut seen[number(&state)], true) {
+            return false;
+        }
+        state = reference::step(card, &state);
+    }
+    state == start
+}
+
+/// The verdicts on some cards of one size, each held to its walk from a random start: how many are accepted.
+fn walk_block(seed: u64, block: usize, words: u8, width: u8) -> Result<usize, String> {
+    let mut random = Random::new(
+        seed ^ u64::from(words) << 40 ^ u64::from(width) << 48,
+        block as u64,
+    );
+    let mut accepted = 0;
+    for _ in 0..BLOCK {
+        let card = sound_form(words, width, &mut random);
+        let bytes = reference::encode(&card);
+        let start: Vec<u32> = (0..words)
+            .map(|_| random.next() as u32 & reference::mask(width))
+            .collect();
+        let verdict = tiedraw::check(&bytes);
+        if verdict.is_ok() != covers(&card, &start) {
+            return Err(format!(
+                "card {}: {verdict:?}, but the walk from {start:x?} says otherwise",
+                hex(&bytes)
+            ));
+        }
+        accepted += usize::from(verdict.is_ok());
+    }
+    Ok(accepted)
+}
+
+fn count_out_walks(seed: u64) {
+    println!("walks counted out, {CARDS} cards of sound form for each size:");
+    for words in 2..=4 {
+        for width in (2..=32).take_while(|width| words * width <= MOST_BITS) {
+            let accepted: usize =
+                run_blocks(CARDS / BLOCK, |block| walk_block(seed, block, words, width))
+                    .into_iter()
+                    .sum();
+            println!(
+                "{words} words of {width} bits: {accepted} accepted, all of full length; {} refused, none of full length",
+                CARDS - accepted
+            );
+        }
+    }
+}
+
+fn main() {
+    let mut arguments = std::env::args().skip(1);
+    let mut number = |otherwise: u64| match arguments.next() {
+        None => otherwise,
+        Some(text) => text.parse().unwrap_or_else(|_| {
+            eprintln!("difftest: {text} is no number");
+            exit(2)
+        }),
+    };
+    let seed = number(SEED);
+    let inputs = number(INPUTS as u64) as usize;
+    println!("seed {seed}");
+    compare_inputs(seed, inputs);
+    count_out_walks(seed);
+}

@@ -1,0 +1,186 @@
+//! The six calls, by the library and by the second program, and everything that a caller can observe of them.
+
+use crate::hex;
+use crate::inputs::Input;
+use reference::Card;
+use tiedraw::ffi;
+
+/// The answer's values, the refusal, and what was lent after the call.
+#[derive(Debug, PartialEq)]
+pub struct Observed {
+    pub values: [u64; 2],
+    pub refusal: u8,
+    pub lent: Vec<u32>,
+}
+
+pub const CALLS: [&str; 6] = ["check", "step", "step_back", "draw", "pick", "write"];
+
+fn observed(values: [u64; 2], refusal: u8, lent: Vec<u32>) -> Observed {
+    Observed {
+        values,
+        refusal,
+        lent,
+    }
+}
+
+// ---- The library.
+
+/// What stands around everything that is lent, and must stand there afterwards.
+const GUARD: u32 = 0xa5c3_96e1;
+
+/// Lends a copy of the words between guards, and gives back the words after the call. An empty slice is lent as null.
+fn lend<T: Copy + PartialEq + std::fmt::Debug, R>(
+    words: &[T],
+    guard: T,
+    call: impl FnOnce(*mut T, usize) -> R,
+) -> (R, Vec<T>) {
+    let mut all = vec![guard; words.len() + 8];
+    let inside = 4..4 + words.len();
+    all[inside.clone()].copy_from_slice(words);
+    let start = match words.len() {
+        0 => std::ptr::null_mut(),
+        _ => all[inside.clone()].as_mut_ptr(),
+    };
+    let answer = call(start, words.len());
+    assert!(
+        all[..4]
+            .iter()
+            .chain(&all[inside.end..])
+            .all(|x| *x == guard),
+        "written outside what was lent"
+    );
+    (answer, all[inside].to_vec())
+}
+
+/// The pointer of what is only read; null for an empty slice.
+fn shared<T>(slice: &[T]) -> *const T {
+    match slice.len() {
+        0 => std::ptr::null(),
+        _ => slice.as_ptr(),
+    }
+}
+
+/// Call number `call` of the library.
+pub fn library(call: usize, input: &Input) -> Observed {
+    let (card, n) = (shared(&input.card), input.card.len());
+    if call == 5 {
+        return library_write(&input.values, &input.page);
+    }
+    let ((values, refusal), lent) = lend(&input.state, GUARD, |state, m| match CALLS[call] {
+        "check" => ([0, 0], unsafe { ffi::tiedraw_check(card, n) }),
+        "step" => ([0, 0], unsafe { ffi::tiedraw_step(card, n, state, m) }),
+        "step_back" => ([0, 0], unsafe { ffi::tiedraw_step_back(card, n, state, m) }),
+        "draw" => {
+            let answer = unsafe { ffi::tiedraw_draw(card, n, state, m) };
+            ([answer.word.into(), 0], answer.refusal)
+        }
+        _ => {
+            let (shovels, times) = (&input.shovels, &input.times);
+            let (s, k, t, l) = (shared(shovels), shovels.len(), shared(times), times.len());
+            let answer = unsafe { ffi::tiedraw_pick(card, n, state, m, s, k, t, l) };
+            ([answer.shovel.into(), answer.ties.into()], answer.refusal)
+        }
+    });
+    observed(values, refusal, lent)
+}
+
+fn library_write(v: &Card, page: &[u8]) -> Observed {
+    let (answer, lent) = lend(page, GUARD as u8, |page, room| unsafe {
+        ffi::tiedraw_write(
+            v.words,
+            v.width,
+            shared(&v.table),
+            v.table.len(),
+            v.odd_power,
+            v.even_power,
+            v.constant,
+            v.filter,
+            v.sum_term,
+            page,
+            room,
+        )
+    });
+    let lent = lent.into_iter().map(u32::from).collect();
+    observed([answer.length as u64, 0], answer.refusal, lent)
+}
+
+// ---- The second program.
+
+/// Call number `call` of the second program.
+pub fn second_program(call: usize, input: &Input) -> Observed {
+    let card = &input.card;
+    let mut state = input.state.clone();
+    let answer = match CALLS[call] {
+        "check" => Err(reference::check(card)),
+        "step" => Err(reference::call_step(card, &mut state)),
+        "step_back" => Err(reference::call_step_back(card, &mut state)),
+        "draw" => reference::call_draw(card, &mut state).map(|word| [word.into(), 0]),
+        "pick" => reference::pick::call_pick(card, &mut state, &input.shovels, &input.times)
+            .map(|(shovel, ties)| [shovel.into(), ties as u64]),
+        _ => return second_write(&input.values, &input.page),
+    };
+    match answer {
+        Ok(values) => observed(values, 0, state),
+        Err(refusal) => observed([0, 0], refusal, state),
+    }
+}
+
+/// The second program writes cards whose table has 2^m entries. This puts the rest of document 01's writer around it: unused entries
+/// must be 0, and a page too small is 16; and the library's rule for tables that are not 16 entries long.
+fn second_write(values: &Card, page: &[u8]) -> Observed {
+    let mut page: Vec<u32> = page.iter().map(|&byte| byte.into()).collect();
+    match written(values, page.len()) {
+        Err(refusal) => observed([0, 0], refusal, page),
+        Ok(bytes) => {
+            for (place, byte) in page.iter_mut().zip(&bytes) {
+                *place = u32::from(*byte);
+            }
+            observed([bytes.len() as u64, 0], 0, page)
+        }
+    }
+}
+
+fn written(values: &Card, room: usize) -> Result<Vec<u8>, u8> {
+    if values.table.len() > 16 || !(2..=4).contains(&values.words) {
+        return Err(2);
+    }
+    let mut table = values.table.clone();
+    table.resize(16, 0);
+    let unused = table.split_off(1 << values.words);
+    if unused.iter().any(|&entry| entry != 0) {
+        return Err(2);
+    }
+    let bytes = reference::write(&Card {
+        table,
+        ..values.clone()
+    })?;
+    match bytes.len() > room {
+        true => Err(16),
+        false => Ok(bytes),
+    }
+}
+
+// ---- The comparison.
+
+/// The refusals of the six calls on one input; or a text that says the input and how the two sides differ.
+pub fn compare(input: &Input) -> Result<[u8; 6], String> {
+    let mut refusals = [0; 6];
+    for (call, name) in CALLS.iter().enumerate() {
+        let left = library(call, input);
+        let right = second_program(call, input);
+        let kept = match *name {
+            "write" => left
+                .lent
+                .iter()
+                .copied()
+                .eq(input.page.iter().map(|&byte| byte.into())),
+            _ => left.lent == input.state,
+        };
+        if left != right || left.refusal != 0 && !kept {
+            let card = hex(&input.card);
+            return Err(format!("{name}: the library\n  {left:x?}\nthe second program\n  {right:x?}\ncard {card}\n{input:x?}"));
+        }
+        refusals[call] = left.refusal;
+    }
+    Ok(refusals)
+}

@@ -1,0 +1,223 @@
+//! Random inputs: cards valid and damaged, states and lists of right and wrong size, values and pages for the writer.
+
+use crate::random::Random;
+use reference::{encode, mask, Card, TSC1_CONSTANT, TSC1_TABLE};
+
+/// One input: each of the library's calls takes some of it.
+#[derive(Clone, Debug)]
+pub struct Input {
+    pub card: Vec<u8>,
+    pub state: Vec<u32>,
+    pub shovels: Vec<u16>,
+    pub times: Vec<u32>,
+    /// for the writer; the table has any number of entries
+    pub values: Card,
+    pub page: Vec<u8>,
+}
+
+impl Input {
+    pub fn random(random: &mut Random) -> Input {
+        let sound = sound_values(random);
+        let card = card_bytes(&sound, random);
+        let read = reference::read(&card).unwrap_or_else(|_| sound.clone());
+        let state = state_words(&read, random);
+        let (shovels, times) = lists(random);
+        let values = writer_values(sound, random);
+        let page = page_for(&values, random);
+        Input {
+            card,
+            state,
+            shovels,
+            times,
+            values,
+            page,
+        }
+    }
+}
+
+/// Values that the check accepts: the swaps (Sattolo) make a random single cycle. Some fields have their absent values.
+pub fn accepted_values(words: u8, width: u8, random: &mut Random) -> Card {
+    let mut table: Vec<u8> = (0..1 << words).collect();
+    for place in (1..table.len()).rev() {
+        table.swap(place, random.below(place));
+    }
+    if words == 4 && random.once_in(3) {
+        table = TSC1_TABLE.to_vec();
+    }
+    let mut constant = random.next() as u32 & mask(width) | 1;
+    if random.once_in(3) && TSC1_CONSTANT <= mask(width) {
+        constant = TSC1_CONSTANT;
+    }
+    Card {
+        words,
+        width,
+        table,
+        odd_power: [1, 255, random.byte() | 1][random.below(3)],
+        even_power: [0, 2, 254, random.byte() & 254][random.below(4)],
+        constant,
+        filter: random.within(1, 2) as u8,
+        sum_term: random.below(2) as u8,
+    }
+}
+
+/// Values of sound form: accepted ones, half of them with one thing changed that 7, 8 or 9 may turn down.
+pub fn sound_form(words: u8, width: u8, random: &mut Random) -> Card {
+    let mut card = accepted_values(words, width, random);
+    let place = random.below(card.table.len());
+    match random.below(10) {
+        0 => card.table[place] = random.below(card.table.len()) as u8,
+        1 => card.table.rotate_left(place),
+        2 => card.table.swap(0, place),
+        3 => card.constant = random.next() as u32 & mask(width),
+        4 => card.odd_power = random.byte(),
+        5 => card.even_power = random.byte(),
+        _ => {}
+    }
+    card
+}
+
+fn sound_values(random: &mut Random) -> Card {
+    let words = random.within(2, 4) as u8;
+    let width = [32, random.within(2, 32)][random.below(2)] as u8;
+    sound_form(words, width, random)
+}
+
+/// A card's bytes: as they are, damaged by one byte, cut short, with bytes behind, random, or with a field given that is absent.
+fn card_bytes(sound: &Card, random: &mut Random) -> Vec<u8> {
+    let mut bytes = encode(sound);
+    let place = random.below(bytes.len());
+    match random.below(16) {
+        0 => bytes[place] = random.byte(),
+        1 => bytes[place] ^= 1 << random.below(8),
+        2 => bytes.truncate(place),
+        3 => bytes.extend((0..random.within(1, 40)).map(|_| random.byte())),
+        4 => bytes = (0..random.below(40)).map(|_| random.byte()).collect(),
+        5 => bytes = small_card(random),
+        6 => bytes = idle_card(sound, random),
+        _ => {}
+    }
+    bytes
+}
+
+/// A random map with plausible fields after it.
+fn small_card(random: &mut Random) -> Vec<u8> {
+    let mut bytes = vec![random.byte() & [0xff, 0xdb, 0x03, 0xc3][random.below(4)]];
+    bytes.extend((0..random.below(12)).map(|_| random.below(5) as u8));
+    bytes
+}
+
+/// A card with one more field than it needs, which has its absent value.
+fn idle_card(sound: &Card, random: &mut Random) -> Vec<u8> {
+    let absent: [&[u8]; 8] = [
+        &[4],
+        &[32],
+        &TSC1_TABLE,
+        &[1],
+        &[2],
+        &TSC1_CONSTANT.to_le_bytes(),
+        &[1],
+        &[1],
+    ];
+    let bytes = encode(sound);
+    let bit = random.below(8);
+    let stands = |k: usize| bytes[0] >> k & 1 == 1;
+    if stands(bit) {
+        return bytes;
+    }
+    let before = |k: usize| match (stands(k), k) {
+        (false, _) => 0,
+        (true, 2) => sound.table.len(),
+        (true, 5) => 4,
+        (true, _) => 1,
+    };
+    let at = 1 + (0..bit).map(before).sum::<usize>();
+    let mut idle = bytes;
+    idle[0] |= 1 << bit;
+    idle.splice(at..at, absent[bit].iter().copied());
+    idle
+}
+
+/// State words: mostly a state of the card's size; else of another size, or with high bits.
+fn state_words(card: &Card, random: &mut Random) -> Vec<u32> {
+    let size = match random.below(12) {
+        0 => random.below(7),
+        _ => usize::from(card.words),
+    };
+    let kind = random.below(12);
+    let word = |random: &mut Random| match kind {
+        0 => 0,
+        1 => mask(card.width),
+        2 => random.next() as u32,
+        _ => random.next() as u32 & mask(card.width),
+    };
+    let mut state: Vec<u32> = (0..size).map(|_| word(random)).collect();
+    if size > 0 && random.once_in(16) {
+        state[random.below(size)] = mask(card.width).wrapping_add(1);
+    }
+    state
+}
+
+/// Shovels and times: few and many, up to 66; times of few values or of any; repeated numbers; lists of different lengths.
+fn lists(random: &mut Random) -> (Vec<u16>, Vec<u32>) {
+    let count = match random.below(10) {
+        0 => random.within(63, 66),
+        1 => 0,
+        2..=4 => random.within(1, 3),
+        _ => random.within(1, 64),
+    };
+    let first = random.next() as u16;
+    let stride = random.next() as u16 | 1; // odd, so that no number stands twice
+    let mut shovels: Vec<u16> = (0..count as u16)
+        .map(|i| first.wrapping_add(i.wrapping_mul(stride)))
+        .collect();
+    for place in (1..count).rev() {
+        shovels.swap(place, random.below(place + 1));
+    }
+    if count > 1 && random.once_in(12) {
+        shovels[random.below(count)] = shovels[random.below(count)];
+    }
+    let values = [1, 2, 4, usize::MAX][random.below(4)];
+    let base = [0, u32::MAX, random.next() as u32][random.below(3)];
+    let time = |random: &mut Random| base.wrapping_add((random.next() as usize % values) as u32);
+    let mut times: Vec<u32> = (0..count).map(|_| time(random)).collect();
+    match random.below(24) {
+        0 => times.push(base),
+        1 => _ = times.pop(),
+        _ => {}
+    }
+    (shovels, times)
+}
+
+/// The writer's values: those of a card, with the table as it is or filled up, cut or overlong; some with a value out of range.
+fn writer_values(mut values: Card, random: &mut Random) -> Card {
+    match random.below(10) {
+        0 => values.table.resize(16, 0),
+        1 => values.table.resize(random.below(20), random.byte() % 2),
+        2 => values.table.extend((0..random.below(4)).map(|_| 0)),
+        _ => {}
+    }
+    let any = random.byte();
+    match random.below(24) {
+        0 => values.words = [0, 1, 5, any][random.below(4)],
+        1 => values.width = [0, 1, 33, any][random.below(4)],
+        2 => values.filter = [0, 3, any][random.below(3)],
+        3 => values.sum_term = [2, any][random.below(2)],
+        4 => values.constant = random.next() as u32,
+        5 if !values.table.is_empty() => {
+            let place = random.below(values.table.len());
+            values.table[place] = any;
+        }
+        _ => {}
+    }
+    values
+}
+
+/// A page of a length around the one needed, or of any up to 40, with random bytes on it.
+fn page_for(values: &Card, random: &mut Random) -> Vec<u8> {
+    let needed = encode(values).len();
+    let length = match random.below(4) {
+        0 => random.below(40),
+        _ => (needed + random.below(5)).saturating_sub(2),
+    };
+    (0..length).map(|_| random.byte()).collect()
+}

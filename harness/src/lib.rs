@@ -1,0 +1,11 @@
+//! The library compared with the second program, by running: random inputs, both sides' calls, and the comparison.
+
+pub mod calls;
+pub mod inputs;
+pub mod random;
+
+/// Bytes in hex, one space apart.
+pub fn hex(bytes: &[u8]) -> String {
+    let digits: Vec<String> = bytes.iter().map(|byte| format!("{byte:02x}")).collect();
+    digits.join(" ")
+}
