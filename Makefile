@@ -1,6 +1,6 @@
 # Thin targets: README.md says what each is for.
 SHELL = /bin/bash
-.PHONY: run test lib example bindings difftest bench fmt vectors
+.PHONY: run test lib example bindings difftest bench pictures fmt vectors
 
 # the card that the program is fed, as bytes in hex
 CARD = $(shell grep -v '^\#' cards/program.hex)
@@ -44,6 +44,10 @@ difftest: lib
 bench: lib
 	cd harness && cargo build --release --quiet
 	harness/target/release/bench
+
+# the pictures of docs/PROOFS.md, drawn anew
+pictures:
+	python3 docs/pictures/pictures.py
 
 fmt:
 	rt fmt

@@ -1,2 +1,3 @@
--- What the proofs of the calls rest on.
+-- What the proofs of the calls rest on, and demand 1 as C sees it.
 pub mod Given
+pub mod Refused
