@@ -25,63 +25,24 @@ pub enum Refusal {
 use Refusal::*;
 
 /// Each refusal with its trade word and when it is told, by its number from 1.
+#[rustfmt::skip]
 const ALL: [(Refusal, &str, &str); 16] = [
-    (
-        Truncated,
-        "short",
-        "the bytes end before the map, or within a field",
-    ),
-    (
-        OutOfRange,
-        "range",
-        "a field or table entry is outside the allowed values",
-    ),
-    (
-        Redundant,
-        "idle",
-        "a field is given that equals its absent value",
-    ),
-    (
-        TableMissing,
-        "tableless",
-        "the words are not 4, and no table is given",
-    ),
+    (Truncated, "short", "the bytes end before the map, or within a field"),
+    (OutOfRange, "range", "a field or table entry is outside the allowed values"),
+    (Redundant, "idle", "a field is given that equals its absent value"),
+    (TableMissing, "tableless", "the words are not 4, and no table is given"),
     (TrailingBytes, "long", "bytes are left after the last field"),
     (ConstantTooWide, "wide", "the constant is wider than a word"),
-    (
-        NotSingleCycle,
-        "broken ring",
-        "the table is not a single cycle",
-    ),
+    (NotSingleCycle, "broken ring", "the table is not a single cycle"),
     (EvenConstant, "even constant", "the constant is even"),
-    (
-        PowerParity,
-        "powers",
-        "the odd power is even, or the even power is odd",
-    ),
-    (
-        WordCount,
-        "word count",
-        "the state has not as many words as the card says",
-    ),
-    (
-        WordTooWide,
-        "high bits",
-        "a state word is wider than the card says",
-    ),
-    (
-        LengthMismatch,
-        "uneven",
-        "shovels and times differ in count",
-    ),
+    (PowerParity, "powers", "the odd power is even, or the even power is odd"),
+    (WordCount, "word count", "the state has not as many words as the card says"),
+    (WordTooWide, "high bits", "a state word is wider than the card says"),
+    (LengthMismatch, "uneven", "shovels and times differ in count"),
     (NoShovel, "no shovel", "the list is empty"),
     (TooManyShovels, "crowd", "more than 64 shovels"),
     (DuplicateShovel, "twice", "a shovel number stands twice"),
-    (
-        BufferTooSmall,
-        "small page",
-        "the page has fewer bytes than the card needs",
-    ),
+    (BufferTooSmall, "small page", "the page has fewer bytes than the card needs"),
 ];
 
 impl Refusal {

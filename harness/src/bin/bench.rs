@@ -7,9 +7,10 @@ use std::time::Instant;
 
 const STEPS: usize = 10_000_000;
 const CALLS: usize = 1_000_000;
-/// parts that each measurement is taken in; the quickest counts, since whatever else the machine does only adds to it
-const PARTS: usize = 10;
-/// the target for each ratio
+/// Everything is measured in so many parts, by turns; the quickest part counts, since whatever else
+/// the machine does only adds to it.
+const PARTS: usize = 20;
+/// the target for both ratios
 const MOST_RATIO: f64 = 2.0;
 
 const P1: &[u8] = &[0];
@@ -19,32 +20,82 @@ const P2: &[u8] = &[
 /// TSC-1 with odd power 255 and even power 254
 const WORST_POWERS: &[u8] = &[0x18, 255, 254];
 
-/// Nanoseconds of one of `count` calls.
-fn time(name: &str, count: usize, mut call: impl FnMut()) -> f64 {
-    let mut best = f64::INFINITY;
-    for _ in 0..PARTS {
-        let start = Instant::now();
-        for _ in 0..count / PARTS {
-            call();
-        }
-        best = best.min(start.elapsed().as_nanos() as f64 / (count / PARTS) as f64);
+/// What is measured: a call, how often it is made in all, and how.
+struct Subject {
+    name: String,
+    calls: usize,
+    run: Box<dyn FnMut(usize)>,
+}
+
+fn subject(name: &str, calls: usize, mut call: impl FnMut() + 'static) -> Subject {
+    Subject {
+        name: name.to_string(),
+        calls,
+        run: Box::new(move |times| (0..times).for_each(|_| call())),
     }
-    println!("{best:>9.1} ns  {name}");
+}
+
+/// Nanoseconds of one call of each.
+fn measure(subjects: &mut [Subject]) -> Vec<f64> {
+    let mut best = vec![f64::INFINITY; subjects.len()];
+    for _ in 0..PARTS {
+        for (subject, best) in subjects.iter_mut().zip(&mut best) {
+            let calls = subject.calls / PARTS;
+            let start = Instant::now();
+            (subject.run)(calls);
+            *best = best.min(start.elapsed().as_nanos() as f64 / calls as f64);
+        }
+    }
     best
 }
 
-fn time_draw(name: &str, card: &[u8]) -> f64 {
+// ---- The library.
+
+fn draw(name: &str, card: &'static [u8]) -> Subject {
     let mut state = [1, 2, 3, 4];
-    time(name, STEPS, || {
+    subject(name, STEPS, move || {
         black_box(tiedraw::draw(black_box(card), &mut state).unwrap());
     })
 }
 
+fn check(name: &str, card: &'static [u8]) -> Subject {
+    subject(name, CALLS, move || {
+        tiedraw::check(black_box(card)).unwrap()
+    })
+}
+
+fn step(name: &str, card: &'static [u8]) -> Subject {
+    let mut state = [1, 2, 3, 4];
+    subject(name, CALLS, move || {
+        tiedraw::step(black_box(card), &mut state).unwrap()
+    })
+}
+
+fn step_back(name: &str, card: &'static [u8]) -> Subject {
+    let mut state = [1, 2, 3, 4];
+    subject(name, CALLS, move || {
+        tiedraw::step_back(black_box(card), &mut state).unwrap()
+    })
+}
+
+fn pick(name: &str, count: u16, ties: u16) -> Subject {
+    let mut state = [1, 2, 3, 4];
+    let shovels: Vec<u16> = (0..count).rev().collect();
+    let times: Vec<u32> = (0..count)
+        .map(|i| if i < ties { 300 } else { 400 })
+        .collect();
+    subject(name, CALLS, move || {
+        black_box(tiedraw::pick(P1, &mut state, black_box(&shovels), &times).unwrap());
+    })
+}
+
+// ---- Rust.
+
 /// The second program's step and word, for a card that it has read.
-fn time_second_program(name: &str, bytes: &[u8], count: usize) -> f64 {
+fn second_program(name: &str, bytes: &[u8], steps: usize) -> Subject {
     let card = reference::accept(bytes).unwrap();
     let mut state = vec![1, 2, 3, 4];
-    time(name, count, || {
+    subject(name, steps, move || {
         state = reference::step(black_box(&card), &state);
         black_box(reference::word(&card, &state));
     })
@@ -59,7 +110,8 @@ fn power(table: &[u8], k: u8) -> [u8; 16] {
     result
 }
 
-/// A step column by column as one would write it by hand for speed: four words, the table's powers worked out beforehand, no allocation.
+/// A step column by column as one would write it by hand for speed: four words, the table's powers
+/// worked out beforehand, no allocation.
 fn step_by_hand(card: &Card, powers: &[[u8; 16]; 2], x: &[u32; 4]) -> [u32; 4] {
     let selector = reference::selector(card, x);
     let mut after = [0; 4];
@@ -74,39 +126,17 @@ fn step_by_hand(card: &Card, powers: &[[u8; 16]; 2], x: &[u32; 4]) -> [u32; 4] {
     after
 }
 
-fn time_by_hand(name: &str, bytes: &[u8]) -> f64 {
+fn by_hand(name: &str, bytes: &[u8]) -> Subject {
     let card = reference::accept(bytes).unwrap();
     let powers = [card.even_power, card.odd_power].map(|k| power(&card.table, k));
     let mut state = [1, 2, 3, 4];
-    time(name, STEPS, || {
+    subject(name, STEPS, move || {
         state = step_by_hand(black_box(&card), &powers, &state);
         black_box(reference::word(&card, &state));
     })
 }
 
-fn time_calls() {
-    let mut state = [1, 2, 3, 4];
-    for (name, card) in [("P1, 1 byte", P1), ("P2, 23 bytes", P2)] {
-        time(&format!("check: read and check, {name}"), CALLS, || {
-            tiedraw::check(black_box(card)).unwrap()
-        });
-        time(
-            &format!("step: read, check and step, {name}"),
-            CALLS,
-            || tiedraw::step(black_box(card), &mut state).unwrap(),
-        );
-        time(&format!("step_back: the same back, {name}"), CALLS, || {
-            tiedraw::step_back(black_box(card), &mut state).unwrap()
-        });
-    }
-    let shovels: Vec<u16> = (0..64).rev().collect();
-    for (name, ties) in [("1 tie", 1), ("64 ties", 64)] {
-        let times: Vec<u32> = (0..64).map(|i| if i < ties { 300 } else { 400 }).collect();
-        time(&format!("pick of 64 shovels, {name}, P1"), CALLS, || {
-            black_box(tiedraw::pick(P1, &mut state, black_box(&shovels), &times).unwrap());
-        });
-    }
-}
+// ---- The report.
 
 /// A ratio, and whether it is within the target.
 fn within(name: &str, ratio: f64) -> bool {
@@ -117,30 +147,42 @@ fn within(name: &str, ratio: f64) -> bool {
 }
 
 fn main() {
-    println!("{STEPS} steps");
-    let draw = time_draw("draw: a call of the library, P1", P1);
-    let draw_tsc2 = time_draw("draw: a call of the library, P2", P2);
-    let draw_worst = time_draw("draw: a call of the library, worst powers", WORST_POWERS);
-    let second = time_second_program(
-        "second program, P1: step and word, column by column, of a card already read",
-        P1,
-        STEPS,
-    );
-    let hand = time_by_hand(
-        "Rust by hand, P1: the same with the table's powers worked out beforehand",
-        P1,
-    );
-    println!("{CALLS} calls");
-    time_calls();
-    time_second_program("second program, worst powers", WORST_POWERS, CALLS / 10);
-    println!("ratios");
-    println!("{:>9.2}     draw on P2 to draw on P1", draw_tsc2 / draw);
+    let mut subjects = [
+        draw("draw: a call of the library, P1", P1),
+        draw("draw: a call of the library, worst powers", WORST_POWERS),
+        second_program(
+            "second program, P1: step and word, the card already read",
+            P1,
+            STEPS,
+        ),
+        by_hand(
+            "Rust by hand, P1: the same, the table's powers already worked out",
+            P1,
+        ),
+        draw("draw, P2", P2),
+        check("check: read and check, P1, 1 byte", P1),
+        check("check: read and check, P2, 23 bytes", P2),
+        step("step: read, check and step, P1", P1),
+        step("step: read, check and step, P2", P2),
+        step_back("step_back: read, check and step back, P1", P1),
+        step_back("step_back: read, check and step back, P2", P2),
+        pick("pick: one shovel of 5 is nearest, P1", 5, 1),
+        pick("pick: 2 of 5 shovels tie, P1", 5, 2),
+        pick("pick: one shovel of 64 is nearest, P1", 64, 1),
+        pick("pick: 64 of 64 shovels tie, P1", 64, 64),
+        second_program("second program, worst powers", WORST_POWERS, CALLS / 10),
+    ];
+    let best = measure(&mut subjects);
+    for (subject, best) in subjects.iter().zip(&best) {
+        println!("{best:>9.1} ns  {} ({} times)", subject.name, subject.calls);
+    }
+    let by_hand = best[0] / best[3];
+    println!("{by_hand:>9.2}     draw on P1 to the step by hand");
     let held = [
-        within("draw on P1 to the second program's step", draw / second),
-        within("draw on P1 to the step by hand", draw / hand),
+        within("draw on P1 to the second program's step", best[0] / best[2]),
         within(
             "draw with the worst powers to draw on P1",
-            draw_worst / draw,
+            best[1] / best[0],
         ),
     ];
     exit(i32::from(held.contains(&false)));
