@@ -5,35 +5,26 @@ use crate::inputs::Input;
 use reference::Card;
 use tiedraw::ffi;
 
-/// The answer's values, the refusal, and what was lent after the call.
+/// The answer's values, the refusal, what was lent after the call, and whether all around it is as it was.
 #[derive(Debug, PartialEq)]
 pub struct Observed {
     pub values: [u64; 2],
     pub refusal: u8,
     pub lent: Vec<u32>,
+    pub around: bool,
 }
 
 pub const CALLS: [&str; 6] = ["check", "step", "step_back", "draw", "pick", "write"];
 
-fn observed(values: [u64; 2], refusal: u8, lent: Vec<u32>) -> Observed {
-    Observed {
-        values,
-        refusal,
-        lent,
-    }
-}
-
 // ---- The library.
 
-/// What stands around everything that is lent, and must stand there afterwards.
-const GUARD: u32 = 0xa5c3_96e1;
-
-/// Lends a copy of the words between guards, and gives back the words after the call. An empty slice is lent as null.
-fn lend<T: Copy + PartialEq + std::fmt::Debug, R>(
+/// Lends a copy of the words between guards, and gives back the words after the call, and whether
+/// the guards are as they were. An empty slice is lent as null.
+fn lend<T: Copy + PartialEq, R>(
     words: &[T],
     guard: T,
     call: impl FnOnce(*mut T, usize) -> R,
-) -> (R, Vec<T>) {
+) -> (R, Vec<T>, bool) {
     let mut all = vec![guard; words.len() + 8];
     let inside = 4..4 + words.len();
     all[inside.clone()].copy_from_slice(words);
@@ -42,14 +33,8 @@ fn lend<T: Copy + PartialEq + std::fmt::Debug, R>(
         _ => all[inside.clone()].as_mut_ptr(),
     };
     let answer = call(start, words.len());
-    assert!(
-        all[..4]
-            .iter()
-            .chain(&all[inside.end..])
-            .all(|x| *x == guard),
-        "written outside what was lent"
-    );
-    (answer, all[inside].to_vec())
+    let lent = all.drain(inside).collect();
+    (answer, lent, all.iter().all(|x| *x == guard))
 }
 
 /// The pointer of what is only read; null for an empty slice.
@@ -63,10 +48,7 @@ fn shared<T>(slice: &[T]) -> *const T {
 /// Call number `call` of the library.
 pub fn library(call: usize, input: &Input) -> Observed {
     let (card, n) = (shared(&input.card), input.card.len());
-    if call == 5 {
-        return library_write(&input.values, &input.page);
-    }
-    let ((values, refusal), lent) = lend(&input.state, GUARD, |state, m| match CALLS[call] {
+    let on_state = |state, m| match CALLS[call] {
         "check" => ([0, 0], unsafe { ffi::tiedraw_check(card, n) }),
         "step" => ([0, 0], unsafe { ffi::tiedraw_step(card, n, state, m) }),
         "step_back" => ([0, 0], unsafe { ffi::tiedraw_step_back(card, n, state, m) }),
@@ -80,12 +62,21 @@ pub fn library(call: usize, input: &Input) -> Observed {
             let answer = unsafe { ffi::tiedraw_pick(card, n, state, m, s, k, t, l) };
             ([answer.shovel.into(), answer.ties.into()], answer.refusal)
         }
-    });
-    observed(values, refusal, lent)
+    };
+    if CALLS[call] == "write" {
+        return library_write(&input.values, &input.page);
+    }
+    let ((values, refusal), lent, around) = lend(&input.state, 0xa5c3_96e1, on_state);
+    Observed {
+        values,
+        refusal,
+        lent,
+        around,
+    }
 }
 
 fn library_write(v: &Card, page: &[u8]) -> Observed {
-    let (answer, lent) = lend(page, GUARD as u8, |page, room| unsafe {
+    let (answer, lent, around) = lend(page, 0xa5, |page, room| unsafe {
         ffi::tiedraw_write(
             v.words,
             v.width,
@@ -100,11 +91,24 @@ fn library_write(v: &Card, page: &[u8]) -> Observed {
             room,
         )
     });
-    let lent = lent.into_iter().map(u32::from).collect();
-    observed([answer.length as u64, 0], answer.refusal, lent)
+    Observed {
+        values: [answer.length as u64, 0],
+        refusal: answer.refusal,
+        lent: lent.into_iter().map(u32::from).collect(),
+        around,
+    }
 }
 
 // ---- The second program.
+
+fn expected(answer: Result<[u64; 2], u8>, lent: Vec<u32>) -> Observed {
+    Observed {
+        values: answer.unwrap_or([0, 0]),
+        refusal: answer.err().unwrap_or(0),
+        lent,
+        around: true,
+    }
+}
 
 /// Call number `call` of the second program.
 pub fn second_program(call: usize, input: &Input) -> Observed {
@@ -119,25 +123,20 @@ pub fn second_program(call: usize, input: &Input) -> Observed {
             .map(|(shovel, ties)| [shovel.into(), ties as u64]),
         _ => return second_write(&input.values, &input.page),
     };
-    match answer {
-        Ok(values) => observed(values, 0, state),
-        Err(refusal) => observed([0, 0], refusal, state),
-    }
+    expected(answer, state)
 }
 
 /// The second program writes cards whose table has 2^m entries. This puts the rest of document 01's writer around it: unused entries
 /// must be 0, and a page too small is 16; and the library's rule for tables that are not 16 entries long.
 fn second_write(values: &Card, page: &[u8]) -> Observed {
     let mut page: Vec<u32> = page.iter().map(|&byte| byte.into()).collect();
-    match written(values, page.len()) {
-        Err(refusal) => observed([0, 0], refusal, page),
-        Ok(bytes) => {
-            for (place, byte) in page.iter_mut().zip(&bytes) {
-                *place = u32::from(*byte);
-            }
-            observed([bytes.len() as u64, 0], 0, page)
+    let answer = written(values, page.len()).map(|bytes| {
+        for (place, byte) in page.iter_mut().zip(&bytes) {
+            *place = u32::from(*byte);
         }
-    }
+        [bytes.len() as u64, 0]
+    });
+    expected(answer, page)
 }
 
 fn written(values: &Card, room: usize) -> Result<Vec<u8>, u8> {

@@ -2,7 +2,7 @@
 ghost use mathlib.Core.Path.{_≡_};
 ghost use mathlib.Core.Logic.{_↔_};
 ghost use mathlib.Core.List.{List};
-ghost use Prim.Native.Nat.{ℕ};
+ghost use Prim.Native.Nat.{ℕ, _^_, _<_};
 ghost use lib.ListN.{length};
 ghost use Rattle.tsc.specs.Coverage.{IsState, Covers, stepBack};
 ghost use Rattle.card_format.specs.Reading.{cardOf, SoundForm};
@@ -73,11 +73,12 @@ pub extern "C" fn tiedraw_step_back(card: &[u8], state: &mut [u32]) -> u8
     call::step_back(card, state)
 }
 
-// The word of the step, or refusal 1 to 11.
+// The word of the step, or refusal 1 to 11. A word is below 2^n.
 #[no_mangle]
 pub extern "C" fn tiedraw_draw(card: &[u8], state: &mut [u32]) -> DrawnWord
     ensures answer { λ r. ⌜ r ≡ drawn (drawing (now (card .entry)) (now (state .entry))) ⌝ }
     ensures after { λ r. ⌜ now (state .exit) ≡ stepped (now (card .entry)) (now (state .entry)) ⌝ }
+    ensures narrow { λ r. ⌜ r .word < 2 ^ cardOf (now (card .entry)) .width ⌝ }
 {
     match call::draw(card, state) {
         Draw::Word(word) => DrawnWord {

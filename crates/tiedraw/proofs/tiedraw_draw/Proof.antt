@@ -1,4 +1,5 @@
 use mathlib.Core.Path.{sym, ap, _∙_}
+use lib.Pow.{pow-pos}
 use native.Mathlib.Omega.{arith}
 use Rattle.tiedraw.specs.Answers.{drawn}
 use borrow.Author.Needs.{needs}
@@ -18,13 +19,13 @@ same-length : tie.Need-same-length
 same-length c = omega arith
 
 returns : tie.Need-returns
-returns c = (ap drawn (sym (c .before .word .given .1) ∙ c .before .before .before .before .before .draw .ensures .0), c .before .before .before .before .before .draw .ensures .1 .0)
+returns c = (ap drawn (sym (c .before .word .given .1) ∙ c .before .before .before .before .before .draw .ensures .0), (c .before .before .before .before .before .draw .ensures .1 .0, c .before .before .before .before .before .draw .ensures .1 .1 _ (c .before .word .given .1)))
 
 same-length-2 : tie.Need-same-length-2
 same-length-2 c = omega arith
 
 returns-2 : tie.Need-returns-2
-returns-2 c = (ap drawn (sym (c .before .number .given .1) ∙ c .before .before .before .before .before .draw .ensures .0), c .before .before .before .before .before .draw .ensures .1 .0)
+returns-2 c = (ap drawn (sym (c .before .number .given .1) ∙ c .before .before .before .before .before .draw .ensures .0), (c .before .before .before .before .before .draw .ensures .1 .0, pow-pos _))
 
 pub tiedraw-draw-spec : {M : Type 1} → statement M
 tiedraw-draw-spec =
