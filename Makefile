@@ -30,12 +30,18 @@ example: lib
 	@gcc -std=c99 -Wall -Wextra -pedantic -Werror -O2 -Iinclude examples/c/standby.c target/lib/libtiedraw.a -o target/standby
 	@target/standby
 
+# what follows is run with the library just built
+difftest bench bindings: export TIEDRAW_LIB_DIR = $(CURDIR)/target/lib
+difftest bench bindings: export TIEDRAW_LIBRARY = $(CURDIR)/target/lib/libtiedraw.so
+
 # the tests of the Rust and Python bindings
 bindings: lib
 	cd bindings/rust && cargo test --quiet
 	cd bindings/python && python3 -m unittest --quiet
 
-# the library against the second program; SEED and INPUTS may be given
+# the library against the second program
+SEED = 20261115
+INPUTS = 2000000
 difftest: lib
 	cd harness && cargo build --release --quiet
 	harness/target/release/difftest $(SEED) $(INPUTS)

@@ -4,14 +4,15 @@
  * A pit's card (bytes) sets up a generator; a state (words of 32 bits) is where it stands. The caller keeps both
  * and lends them to each call. Two servers with the same card and state draw the same lots.
  *
- * Whatever is handed over, a call returns with an answer or with the refusal number of the first check that
- * applies, in the order 1 to 16. A refusal changes nothing: state and page are as they were lent, and the other
- * fields of the answer are 0.
+ * Whatever is handed over, a call returns with an answer, or with the refusal number of the first check that
+ * applies. A card's fields are checked in turn, each by 1, 2, 3, and 4 at the table's place; then come 5 to 16 in
+ * order. A refusal changes nothing: state and page are as they were lent, and the other fields of the answer are 0.
  *
  * An array is a pointer and a count of entries; a count of 0 allows a null pointer. The caller answers for what C
  * can't check: each array has as many entries as its count says, is aligned for its type, stays valid and is
  * written by nobody else until the call returns; and `state` and `page` overlap no other array of the call. Calls
- * keep nothing, allocate nothing and use no global data, so that any number of threads may call at once.
+ * keep nothing, allocate nothing and use no global data, so that any number of threads may call at once, each on a
+ * state of its own. The library needs memcpy and memset of the C library, and nothing else.
  */
 #ifndef TIEDRAW_H
 #define TIEDRAW_H
@@ -23,10 +24,23 @@
 extern "C" {
 #endif
 
-/* Refusals: the number, and when it is told. In words: short, range, idle, and so on. m is the card's count of
-   state words, n the bits of each, C its constant. */
+/*
+ * A card is a map byte and then the fields whose bit is 1, from bit 0 up. m, n and C are the first, second and sixth.
+ *
+ *   bit  field         bytes               allowed                          if absent
+ *   0    words m       1                   2 to 4                           4
+ *   1    width n       1                   2 to 32                          32
+ *   2    table         2^m                 entries below 2^m, one cycle (7) TSC-1's, for m = 4 alone
+ *   3    odd power     1                   0 to 255, odd (9)                1
+ *   4    even power    1                   0 to 255, even (9)               2
+ *   5    constant C    4, low byte first   below 2^n (6), odd (8)           12488421 hex
+ *   6    filter        1                   1 or 2                           1
+ *   7    sum term      1                   0 or 1                           1
+ */
+
+/* Refusals: the number, the trade word before the colon, and when it is told. */
 enum tiedraw_refusal {
-    TIEDRAW_TRUNCATED = 1,           /* short: the card's bytes end before its map, or within a field */
+    TIEDRAW_TRUNCATED = 1,           /* short: the bytes end before the map, or before the last byte of a field */
     TIEDRAW_OUT_OF_RANGE = 2,        /* range: a field or table entry outside the allowed values */
     TIEDRAW_REDUNDANT = 3,           /* idle: a field is given that equals its absent value */
     TIEDRAW_TABLE_MISSING = 4,       /* tableless: m is not 4, and no table is given */
@@ -65,14 +79,15 @@ uint8_t tiedraw_step_back(const uint8_t *card, size_t card_len, uint32_t *state,
 tiedraw_word tiedraw_draw(const uint8_t *card, size_t card_len, uint32_t *state, size_t words);
 
 /* The shovel with the least time. Where `ties` of them have it, and that is more than one, a step is made, and the
-   one whose rank by ascending number is the word modulo `ties` is chosen: so the order of the list makes no
-   difference. With one alone the state is not moved. Or refusal 1 to 15. */
+   word modulo `ties` is the rank of the one chosen, rank 0 being the lowest number: so the order of the list makes
+   no difference. With one alone the state is not moved. Or refusal 1 to 15. */
 tiedraw_choice tiedraw_pick(const uint8_t *card, size_t card_len, uint32_t *state, size_t words,
                             const uint16_t *shovels, size_t shovel_count, const uint32_t *times, size_t time_count);
 
-/* Writes the card of these values at the front of the page, and answers its length; bytes past it are untouched.
-   The table has 2^words entries and room for 16: a shorter one counts as followed by zeros, a longer one is refused
-   by 2. Or refusal 2, 6 to 9 or 16. */
+/* Writes the card of these values at the front of the page, and answers its length; bytes past it are untouched. A
+   field is written only where it differs from its absent value. The table has up to 16 entries: what is not handed
+   over counts as 0, entries past 2^words must be 0 (2), and more than 16 are refused by 2; no table at all is one of
+   zeros, not TSC-1's. Or refusal 2, 6 to 9 or 16. */
 tiedraw_written tiedraw_write(uint8_t words, uint8_t width, const uint8_t *table, size_t table_len,
                               uint8_t odd_power, uint8_t even_power, uint32_t constant, uint8_t filter,
                               uint8_t sum_term, uint8_t *page, size_t page_len);

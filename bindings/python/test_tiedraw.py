@@ -1,5 +1,10 @@
 """The examples of document 01 through the Python module."""
 
+import array
+import copy
+import pathlib
+import pickle
+import re
 import unittest
 
 import tiedraw
@@ -21,6 +26,8 @@ class Document(unittest.TestCase):
         for state in [(1, 1), (2, 3), (1, 2), (0, 0)]:
             desk.step_back()
             self.assertEqual(desk.state, state)
+        desk.step()
+        self.assertEqual(desk.state, (1, 2))
 
     def test_tsc1(self):
         word, state = tiedraw.draw(b"\0", [0] * 4)
@@ -62,9 +69,29 @@ class Document(unittest.TestCase):
         ]:
             self.assertRaises(ValueError, call)
 
+    def test_what_is_checked_is_what_is_kept(self):
+        desk = tiedraw.Generator(array.array("H", [0]), array.array("L", [0] * 4))
+        self.assertEqual((desk.card, desk.draw()), (b"\0", 0x0B857478))
+        self.assertRaises(TypeError, tiedraw.Generator, PROGRAM, {0, 1})
+        self.assertRaises(TypeError, tiedraw.Generator, PROGRAM, {0: 5, 1: 9})
+
     def test_a_refusal_tells_its_number_and_trade_word(self):
-        with self.assertRaisesRegex(Refused, r"refusal 9 \(powers\)"):
+        with self.assertRaisesRegex(Refused, r"refusal 9 \(powers\): the odd power is even") as caught:
             tiedraw.check(bytes([8, 2]))
+        for again in [pickle.loads(pickle.dumps(caught.exception)), copy.copy(caught.exception)]:
+            self.assertEqual((again.refusal, str(again)), (Refusal.POWER_PARITY, str(caught.exception)))
+
+    def test_refusals_are_the_same_in_every_language(self):
+        here = [(refusal.name, refusal.value, refusal.trade_word) for refusal in Refusal]
+        root = pathlib.Path(__file__).resolve().parents[2]
+        header = re.findall(r"TIEDRAW_(\w+) = (\d+),? +/\* ([a-z ]+):", (root / "include/tiedraw.h").read_text())
+        self.assertEqual([(name, int(number), word) for name, number, word in header], here)
+        rattle = (root / "crates/card_format/src/refusal.rt").read_text()
+        constants = re.findall(r"// ([a-z ]+)\npub const (\w+): u8 = (\d+);", rattle)
+        self.assertEqual([(name, int(number), word) for word, name, number in constants], here)
+        rust = re.findall(r'    \((\w+), "([a-z ]+)", "(.*)"\),', (root / "bindings/rust/src/refusal.rs").read_text())
+        shouted = [(re.sub(r"(?<=[a-z])(?=[A-Z])", "_", name).upper(), word, when) for name, word, when in rust]
+        self.assertEqual(shouted, [(refusal.name, refusal.trade_word, refusal.when) for refusal in Refusal])
 
 
 if __name__ == "__main__":

@@ -6,7 +6,8 @@
     desk.state                      # (1, 2)
 
 A Generator holds an accepted card and a state of its size, so its draws and steps can't be refused. The functions check, step,
-step_back, draw, pick and write are the library's own; they take the state as a sequence and return the new one. A refusal raises Refused.
+step_back, draw, pick and write are the library's own; they take the state as a sequence and return the new one. A refusal raises Refused;
+a number that is too wide to be handed over, as a shovel number of 65536, raises ValueError.
 
 The library is the file that TIEDRAW_LIBRARY names, or the one that `make lib` builds.
 """
@@ -15,36 +16,38 @@ import ctypes
 import enum
 import os
 import pathlib
+from collections.abc import Mapping, Sequence, Set
 from ctypes import POINTER, c_size_t, c_uint8, c_uint16, c_uint32
-from typing import Mapping, NamedTuple, Sequence
+from typing import NamedTuple
 
 MOST_CARD_BYTES = 26
 
 
 class Refusal(enum.IntEnum):
-    """Why a call was refused, by the library's numbers; `trade_word` is the trade's word for it."""
+    """Why a call was refused, by the library's numbers: `trade_word` is the trade's word for it, `when` says when it is told."""
 
-    TRUNCATED = 1, "short"
-    OUT_OF_RANGE = 2, "range"
-    REDUNDANT = 3, "idle"
-    TABLE_MISSING = 4, "tableless"
-    TRAILING_BYTES = 5, "long"
-    CONSTANT_TOO_WIDE = 6, "wide"
-    NOT_SINGLE_CYCLE = 7, "broken ring"
-    EVEN_CONSTANT = 8, "even constant"
-    POWER_PARITY = 9, "powers"
-    WORD_COUNT = 10, "word count"
-    WORD_TOO_WIDE = 11, "high bits"
-    LENGTH_MISMATCH = 12, "uneven"
-    NO_SHOVEL = 13, "no shovel"
-    TOO_MANY_SHOVELS = 14, "crowd"
-    DUPLICATE_SHOVEL = 15, "twice"
-    BUFFER_TOO_SMALL = 16, "small page"
+    TRUNCATED = 1, "short", "the bytes end before the map, or before the last byte of a field"
+    OUT_OF_RANGE = 2, "range", "a field or table entry is outside the allowed values"
+    REDUNDANT = 3, "idle", "a field is given that equals its absent value"
+    TABLE_MISSING = 4, "tableless", "the words are not 4, and no table is given"
+    TRAILING_BYTES = 5, "long", "bytes are left after the last field"
+    CONSTANT_TOO_WIDE = 6, "wide", "the constant is wider than a word"
+    NOT_SINGLE_CYCLE = 7, "broken ring", "the table is not a single cycle"
+    EVEN_CONSTANT = 8, "even constant", "the constant is even"
+    POWER_PARITY = 9, "powers", "the odd power is even, or the even power is odd"
+    WORD_COUNT = 10, "word count", "the state has not as many words as the card says"
+    WORD_TOO_WIDE = 11, "high bits", "a state word is wider than the card says"
+    LENGTH_MISMATCH = 12, "uneven", "shovels and times differ in count"
+    NO_SHOVEL = 13, "no shovel", "the list is empty"
+    TOO_MANY_SHOVELS = 14, "crowd", "more than 64 shovels"
+    DUPLICATE_SHOVEL = 15, "twice", "a shovel number stands twice"
+    BUFFER_TOO_SMALL = 16, "small page", "the page has fewer bytes than the card needs"
 
-    def __new__(cls, number, trade_word):
+    def __new__(cls, number, trade_word, when):
         self = int.__new__(cls, number)
         self._value_ = number
         self.trade_word = trade_word
+        self.when = when
         return self
 
 
@@ -52,8 +55,11 @@ class Refused(Exception):
     """A refused call. Nothing has changed."""
 
     def __init__(self, refusal: Refusal):
-        super().__init__(f"refusal {refusal.value} ({refusal.trade_word})")
+        super().__init__(refusal)
         self.refusal = refusal
+
+    def __str__(self):
+        return f"refusal {self.refusal.value} ({self.refusal.trade_word}): {self.refusal.when}"
 
 
 class Choice(NamedTuple):
@@ -95,7 +101,17 @@ _CARD = [POINTER(c_uint8), c_size_t]
 _STATE = [POINTER(c_uint32), c_size_t]
 _LISTS = [POINTER(c_uint16), c_size_t, POINTER(c_uint32), c_size_t]
 _BUILT = pathlib.Path(__file__).resolve().parents[2] / "target" / "lib" / "libtiedraw.so"
-_library = ctypes.CDLL(os.environ.get("TIEDRAW_LIBRARY", str(_BUILT)))
+
+
+def _load():
+    path = os.environ.get("TIEDRAW_LIBRARY") or str(_BUILT)
+    try:
+        return ctypes.CDLL(path)
+    except OSError as error:
+        raise ImportError(f"no library {path}: `make lib` builds it, or TIEDRAW_LIBRARY names it") from error
+
+
+_library = _load()
 
 
 def _function(name, answer, parameters):
@@ -117,7 +133,7 @@ _write = _function(
 )
 
 
-def _number(kind, name: str, number: int):
+def _number(kind, name: str, number: int) -> int:
     """A number for C. ctypes would cut off what is too wide; here that is an error."""
     if kind(number).value != number:
         raise ValueError(f"{name} is {number}: more than {8 * ctypes.sizeof(kind)} bits, or negative")
@@ -125,7 +141,9 @@ def _number(kind, name: str, number: int):
 
 
 def _array(kind, name: str, numbers: Sequence[int]):
-    """An array for C, of numbers that fit."""
+    """An array for C, of numbers that fit, in the order in which they stand."""
+    if isinstance(numbers, (Mapping, Set)):
+        raise TypeError(f"{name}s have an order: a {type(numbers).__name__} has not")
     return (kind * len(numbers))(*(_number(kind, name, number) for number in numbers))
 
 
@@ -160,13 +178,13 @@ def step_back(card: bytes, state: Sequence[int]) -> tuple:
     return _on_state(_step_back, card, state)[1]
 
 
-def draw(card: bytes, state: Sequence[int]) -> tuple:
+def draw(card: bytes, state: Sequence[int]) -> tuple[int, tuple]:
     """The word of a step, and the state after it."""
     answer, after = _on_state(_draw, card, state)
     return answer.word, after
 
 
-def pick(card: bytes, state: Sequence[int], shovels: Sequence[int], times: Sequence[int]) -> tuple:
+def pick(card: bytes, state: Sequence[int], shovels: Sequence[int], times: Sequence[int]) -> tuple[Choice, tuple]:
     """The chosen shovel and the number of ties, and the state after the pick."""
     numbers = _array(c_uint16, "a shovel number", shovels)
     seconds = _array(c_uint32, "a time", times)
@@ -202,12 +220,15 @@ def write(values: Values, room: int = MOST_CARD_BYTES) -> bytes:
 
 
 class Generator:
-    """An accepted card and a state of its size; anything else raises Refused when it is made."""
+    """An accepted card and a state of its size; anything else raises Refused when it is made.
+
+    Threads don't share one: a draw reads the state and stores the next, and two at once may draw the same lot.
+    """
 
     def __init__(self, card: bytes, state: Sequence[int]):
-        step(card, state)
-        self._card = bytes(card)
-        self._state = tuple(state)
+        self._card = bytes(_array(c_uint8, "a card's byte", card))
+        self._state = tuple(_array(c_uint32, "a state word", state))
+        step(self._card, self._state)
 
     @property
     def card(self) -> bytes:

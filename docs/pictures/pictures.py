@@ -51,7 +51,7 @@ def crates():
 
 def kind(name):
     source = ROOT / "crates" / name / "src"
-    if (source / "main.rt").exists() or name in ("printing", "inspect"):
+    if (source / "main.rt").exists():
         return "program"
     lines = [line for file in source.glob("*.rt") for line in file.read_text().splitlines()]
     if any('extern "C" fn' in line for line in lines):

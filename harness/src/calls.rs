@@ -3,6 +3,7 @@
 use crate::hex;
 use crate::inputs::Input;
 use reference::Card;
+use std::hint::black_box;
 use tiedraw::ffi;
 
 /// The answer's values, the refusal, what was lent after the call, and whether all around it is as it was.
@@ -161,25 +162,28 @@ fn written(values: &Card, room: usize) -> Result<Vec<u8>, u8> {
 
 // ---- The comparison.
 
-/// The refusals of the six calls on one input; or a text that says the input and how the two sides differ.
-pub fn compare(input: &Input) -> Result<[u8; 6], String> {
+/// The refusals of the six calls on one input, and how many ties the pick had; or a text that says
+/// the input and how the two sides differ.
+pub fn compare(input: &Input) -> Result<([u8; 6], u64), String> {
     let mut refusals = [0; 6];
+    let mut ties = 0;
     for (call, name) in CALLS.iter().enumerate() {
-        let left = library(call, input);
+        let handed = input.clone();
+        let left = library(call, &handed);
         let right = second_program(call, input);
-        let kept = match *name {
-            "write" => left
-                .lent
-                .iter()
-                .copied()
-                .eq(input.page.iter().map(|&byte| byte.into())),
-            _ => left.lent == input.state,
+        let page: Vec<u32> = input.page.iter().map(|&byte| byte.into()).collect();
+        let before = if *name == "write" {
+            &page
+        } else {
+            &input.state
         };
-        if left != right || left.refusal != 0 && !kept {
+        let kept = left.refusal == 0 || left.lent == *before;
+        if left != right || !kept || black_box(&handed) != input {
             let card = hex(&input.card);
             return Err(format!("{name}: the library\n  {left:x?}\nthe second program\n  {right:x?}\ncard {card}\n{input:x?}"));
         }
         refusals[call] = left.refusal;
+        ties = left.values[1].max(ties);
     }
-    Ok(refusals)
+    Ok((refusals, ties))
 }

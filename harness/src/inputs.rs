@@ -4,7 +4,7 @@ use crate::random::Random;
 use reference::{encode, mask, Card, TSC1_CONSTANT, TSC1_TABLE};
 
 /// One input: each of the library's calls takes some of it.
-#[derive(Clone, Debug)]
+#[derive(Clone, Debug, PartialEq)]
 pub struct Input {
     pub card: Vec<u8>,
     pub state: Vec<u32>,
@@ -44,7 +44,7 @@ pub fn accepted_values(words: u8, width: u8, random: &mut Random) -> Card {
     if words == 4 && random.once_in(3) {
         table = TSC1_TABLE.to_vec();
     }
-    let mut constant = random.next() as u32 & mask(width) | 1;
+    let mut constant = random.word() as u32 & mask(width) | 1;
     if random.once_in(3) && TSC1_CONSTANT <= mask(width) {
         constant = TSC1_CONSTANT;
     }
@@ -68,7 +68,7 @@ pub fn sound_form(words: u8, width: u8, random: &mut Random) -> Card {
         0 => card.table[place] = random.below(card.table.len()) as u8,
         1 => card.table.rotate_left(place),
         2 => card.table.swap(0, place),
-        3 => card.constant = random.next() as u32 & mask(width),
+        3 => card.constant = random.word() as u32 & mask(width),
         4 => card.odd_power = random.byte(),
         5 => card.even_power = random.byte(),
         _ => {}
@@ -139,16 +139,18 @@ fn idle_card(sound: &Card, random: &mut Random) -> Vec<u8> {
 
 /// State words: mostly a state of the card's size; else of another size, or with high bits.
 fn state_words(card: &Card, random: &mut Random) -> Vec<u32> {
-    let size = match random.below(12) {
-        0 => random.below(7),
-        _ => usize::from(card.words),
+    let right = usize::from(card.words);
+    let size = match random.below(24) {
+        0 | 1 => random.below(7),
+        2 => right + [256, 65536][random.below(2)],
+        _ => right,
     };
     let kind = random.below(12);
     let word = |random: &mut Random| match kind {
         0 => 0,
         1 => mask(card.width),
-        2 => random.next() as u32,
-        _ => random.next() as u32 & mask(card.width),
+        2 => random.word() as u32,
+        _ => random.word() as u32 & mask(card.width),
     };
     let mut state: Vec<u32> = (0..size).map(|_| word(random)).collect();
     if size > 0 && random.once_in(16) {
@@ -157,18 +159,25 @@ fn state_words(card: &Card, random: &mut Random) -> Vec<u32> {
     state
 }
 
-/// Shovels and times: few and many, up to 66; times of few values or of any; repeated numbers; lists of different lengths.
-fn lists(random: &mut Random) -> (Vec<u16>, Vec<u32>) {
-    let count = match random.below(10) {
-        0 => random.within(63, 66),
-        1 => 0,
-        2..=4 => random.within(1, 3),
+/// How many shovels: few and many, around 64, and so many that a count cut to 8 or 16 bits would pass.
+fn shovel_count(random: &mut Random) -> usize {
+    match random.below(500) {
+        0 => random.within(1, 64) + 65536,
+        1..=10 => random.within(1, 64) + 256,
+        11..=60 => random.within(63, 66),
+        61..=100 => 0,
+        101..=250 => random.within(1, 3),
         _ => random.within(1, 64),
-    };
-    let first = random.next() as u16;
-    let stride = random.next() as u16 | 1; // odd, so that no number stands twice
-    let mut shovels: Vec<u16> = (0..count as u16)
-        .map(|i| first.wrapping_add(i.wrapping_mul(stride)))
+    }
+}
+
+/// Shovels and times: times of few values or of any; repeated numbers; lists of different lengths.
+fn lists(random: &mut Random) -> (Vec<u16>, Vec<u32>) {
+    let count = shovel_count(random);
+    let first = random.word() as u16;
+    let stride = random.word() as u16 | 1; // odd, so that no number stands twice up to 65,536
+    let mut shovels: Vec<u16> = (0..count)
+        .map(|i| first.wrapping_add((i as u16).wrapping_mul(stride)))
         .collect();
     for place in (1..count).rev() {
         shovels.swap(place, random.below(place + 1));
@@ -177,12 +186,14 @@ fn lists(random: &mut Random) -> (Vec<u16>, Vec<u32>) {
         shovels[random.below(count)] = shovels[random.below(count)];
     }
     let values = [1, 2, 4, usize::MAX][random.below(4)];
-    let base = [0, u32::MAX, random.next() as u32][random.below(3)];
-    let time = |random: &mut Random| base.wrapping_add((random.next() as usize % values) as u32);
+    let base = [0, u32::MAX, random.word() as u32][random.below(3)];
+    let time = |random: &mut Random| base.wrapping_add((random.word() as usize % values) as u32);
     let mut times: Vec<u32> = (0..count).map(|_| time(random)).collect();
-    match random.below(24) {
+    match random.below(48) {
         0 => times.push(base),
         1 => _ = times.pop(),
+        2 => times.clear(),
+        3 => times.resize(count + 256, base),
         _ => {}
     }
     (shovels, times)
@@ -202,7 +213,7 @@ fn writer_values(mut values: Card, random: &mut Random) -> Card {
         1 => values.width = [0, 1, 33, any][random.below(4)],
         2 => values.filter = [0, 3, any][random.below(3)],
         3 => values.sum_term = [2, any][random.below(2)],
-        4 => values.constant = random.next() as u32,
+        4 => values.constant = random.word() as u32,
         5 if !values.table.is_empty() => {
             let place = random.below(values.table.len());
             values.table[place] = any;
@@ -214,10 +225,11 @@ fn writer_values(mut values: Card, random: &mut Random) -> Card {
 
 /// A page of a length around the one needed, or of any up to 40, with random bytes on it.
 fn page_for(values: &Card, random: &mut Random) -> Vec<u8> {
-    let needed = encode(values).len();
+    let mut needed = values.clone();
+    needed.table.resize(1 << values.words.clamp(2, 4), 0);
     let length = match random.below(4) {
         0 => random.below(40),
-        _ => (needed + random.below(5)).saturating_sub(2),
+        _ => (encode(&needed).len() + random.below(5)).saturating_sub(2),
     };
     (0..length).map(|_| random.byte()).collect()
 }

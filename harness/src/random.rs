@@ -3,14 +3,13 @@
 pub struct Random(u64);
 
 impl Random {
-    /// Stream `number` of a seed.
+    /// Stream `number` of a seed. Seed and number are mixed, so that no stream runs into another.
     pub fn new(seed: u64, number: u64) -> Random {
-        let mut random = Random(seed ^ number.wrapping_mul(0x9e37_79b9_7f4a_7c15));
-        random.next();
-        random
+        let mixed = Random(seed).word() ^ number;
+        Random(Random(mixed).word())
     }
 
-    pub fn next(&mut self) -> u64 {
+    pub fn word(&mut self) -> u64 {
         self.0 = self.0.wrapping_add(0x9e37_79b9_7f4a_7c15);
         let mut z = self.0;
         z = (z ^ (z >> 30)).wrapping_mul(0xbf58_476d_1ce4_e5b9);
@@ -19,7 +18,7 @@ impl Random {
     }
 
     pub fn below(&mut self, bound: usize) -> usize {
-        (self.next() % bound as u64) as usize
+        (self.word() % bound as u64) as usize
     }
 
     /// From `low` to `high`, both included.
@@ -28,7 +27,7 @@ impl Random {
     }
 
     pub fn byte(&mut self) -> u8 {
-        self.next() as u8
+        self.word() as u8
     }
 
     /// Once in `times`.

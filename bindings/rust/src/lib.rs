@@ -41,7 +41,10 @@ pub struct Values {
     pub sum_term: u8,
 }
 
-// ---- The library's calls, on slices. A slice is never null, is aligned, and a lent one is nobody else's.
+// ---- The library's calls, on slices.
+//
+// SAFETY, of each call below: a slice has as many entries as its length says and is aligned, stays
+// valid during the call, and `&mut` is nobody else's. The header asks for no more.
 
 /// Accepts a card, or refuses it by 1 to 9.
 pub fn check(card: &[u8]) -> Result<(), Refusal> {
@@ -171,16 +174,17 @@ impl Generator {
         &self.state
     }
 
-    /// One step. It can't be refused, and neither can the next two.
+    /// One step. It can't be refused.
     pub fn step(&mut self) {
         step(self.card.bytes(), &mut self.state).expect("a state of an accepted card");
     }
 
+    /// One step back. It can't be refused.
     pub fn step_back(&mut self) {
         step_back(self.card.bytes(), &mut self.state).expect("a state of an accepted card");
     }
 
-    /// One step, and its word.
+    /// One step, and its word. It can't be refused.
     pub fn draw(&mut self) -> u32 {
         draw(self.card.bytes(), &mut self.state).expect("a state of an accepted card")
     }

@@ -2,6 +2,7 @@
 
 /// Why a call was refused. A refusal changes nothing that was lent.
 #[derive(Clone, Copy, Debug, PartialEq, Eq, Hash)]
+#[non_exhaustive]
 #[repr(u8)]
 pub enum Refusal {
     Truncated = 1,
@@ -27,7 +28,7 @@ use Refusal::*;
 /// Each refusal with its trade word and when it is told, by its number from 1.
 #[rustfmt::skip]
 const ALL: [(Refusal, &str, &str); 16] = [
-    (Truncated, "short", "the bytes end before the map, or within a field"),
+    (Truncated, "short", "the bytes end before the map, or before the last byte of a field"),
     (OutOfRange, "range", "a field or table entry is outside the allowed values"),
     (Redundant, "idle", "a field is given that equals its absent value"),
     (TableMissing, "tableless", "the words are not 4, and no table is given"),
@@ -56,7 +57,7 @@ impl Refusal {
         ALL[self as usize - 1].1
     }
 
-    /// Nothing for 0; the library tells no number past 16.
+    /// Nothing for 0. The library tells no number past the last.
     pub(crate) fn result(number: u8) -> Result<(), Refusal> {
         match number {
             0 => Ok(()),
@@ -73,3 +74,11 @@ impl std::fmt::Display for Refusal {
 }
 
 impl std::error::Error for Refusal {}
+
+#[cfg(test)]
+#[test]
+fn numbers_go_by_place() {
+    for (place, row) in ALL.iter().enumerate() {
+        assert_eq!(usize::from(row.0.number()), place + 1);
+    }
+}

@@ -24,6 +24,8 @@ fn the_program_draws_as_printed() {
         server.step_back();
         assert_eq!(server.state(), state);
     }
+    server.step();
+    assert_eq!(server.state(), [1, 2]);
 }
 
 #[test]

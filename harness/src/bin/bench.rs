@@ -146,32 +146,32 @@ fn within(name: &str, ratio: f64) -> bool {
     held
 }
 
-fn main() {
-    let mut subjects = [
-        draw("draw: a call of the library, P1", P1),
-        draw("draw: a call of the library, worst powers", WORST_POWERS),
-        second_program(
-            "second program, P1: step and word, the card already read",
-            P1,
-            STEPS,
-        ),
-        by_hand(
-            "Rust by hand, P1: the same, the table's powers already worked out",
-            P1,
-        ),
+/// The first four are those of the ratios.
+fn subjects() -> Vec<Subject> {
+    let second = "second program, P1: step and word, the card already read";
+    let hand = "Rust by hand, P1: the same, the table's powers already worked out";
+    vec![
+        draw("draw: read, check, step and word, P1", P1),
+        draw("draw, worst powers", WORST_POWERS),
+        second_program(second, P1, STEPS),
+        by_hand(hand, P1),
         draw("draw, P2", P2),
-        check("check: read and check, P1, 1 byte", P1),
-        check("check: read and check, P2, 23 bytes", P2),
+        check("check: read and check, P1 of 1 byte", P1),
+        check("check, P2 of 23 bytes", P2),
         step("step: read, check and step, P1", P1),
-        step("step: read, check and step, P2", P2),
+        step("step, P2", P2),
         step_back("step_back: read, check and step back, P1", P1),
-        step_back("step_back: read, check and step back, P2", P2),
+        step_back("step_back, P2", P2),
         pick("pick: one shovel of 5 is nearest, P1", 5, 1),
         pick("pick: 2 of 5 shovels tie, P1", 5, 2),
         pick("pick: one shovel of 64 is nearest, P1", 64, 1),
         pick("pick: 64 of 64 shovels tie, P1", 64, 64),
         second_program("second program, worst powers", WORST_POWERS, CALLS / 10),
-    ];
+    ]
+}
+
+fn main() {
+    let mut subjects = subjects();
     let best = measure(&mut subjects);
     for (subject, best) in subjects.iter().zip(&best) {
         println!("{best:>9.1} ns  {} ({} times)", subject.name, subject.calls);

@@ -1,14 +1,13 @@
-//! The library against the second program on random inputs, and the check against walks counted out. `difftest [SEED [INPUTS]]`.
+//! The library against the second program on random inputs, and the check against walks counted out. `difftest SEED INPUTS`.
 
 use harness::calls::{compare, CALLS};
 use harness::hex;
 use harness::inputs::{sound_form, Input};
 use harness::random::Random;
+use std::panic::catch_unwind;
 use std::process::exit;
 use std::sync::atomic::{AtomicUsize, Ordering};
 
-const SEED: u64 = 20261115;
-const INPUTS: usize = 2_000_000;
 /// inputs, or cards, of one random stream
 const BLOCK: usize = 1000;
 /// cards of each size whose walks are counted out
@@ -16,18 +15,39 @@ const CARDS: usize = 3000;
 /// the most bits of a state for that
 const MOST_BITS: u8 = 12;
 
-/// The refusals that each call has: all of them must come up.
+/// The refusals that each call has, 0 for none: all of them must come up.
 const TELLS: [&[usize]; 6] = [
-    &[1, 2, 3, 4, 5, 6, 7, 8, 9],
-    &[1, 2, 3, 4, 5, 6, 7, 8, 9, 10, 11],
-    &[1, 2, 3, 4, 5, 6, 7, 8, 9, 10, 11],
-    &[1, 2, 3, 4, 5, 6, 7, 8, 9, 10, 11],
-    &[1, 2, 3, 4, 5, 6, 7, 8, 9, 10, 11, 12, 13, 14, 15],
-    &[2, 6, 7, 8, 9, 16],
+    &[0, 1, 2, 3, 4, 5, 6, 7, 8, 9],
+    &[0, 1, 2, 3, 4, 5, 6, 7, 8, 9, 10, 11],
+    &[0, 1, 2, 3, 4, 5, 6, 7, 8, 9, 10, 11],
+    &[0, 1, 2, 3, 4, 5, 6, 7, 8, 9, 10, 11],
+    &[0, 1, 2, 3, 4, 5, 6, 7, 8, 9, 10, 11, 12, 13, 14, 15],
+    &[0, 2, 6, 7, 8, 9, 16],
 ];
 
-/// How often each call told each refusal.
-type Tally = [[usize; 17]; 6];
+/// How often each call told each refusal, and how many picks had ties.
+#[derive(Default)]
+struct Tally {
+    told: [[usize; 17]; 6],
+    ties: usize,
+}
+
+impl Tally {
+    fn add(&mut self, other: &Tally) {
+        for (sums, counts) in self.told.iter_mut().zip(other.told) {
+            for (sum, count) in sums.iter_mut().zip(counts) {
+                *sum += count;
+            }
+        }
+        self.ties += other.ties;
+    }
+
+    /// A call and a refusal of its that never came up.
+    fn missing(&self) -> Option<(&str, usize)> {
+        let never = |call: usize| TELLS[call].iter().find(move |&&r| self.told[call][r] == 0);
+        (0..6).find_map(|call| never(call).map(|&refusal| (CALLS[call], refusal)))
+    }
+}
 
 /// Runs the blocks on all cores. A difference is printed, and the run fails.
 fn run_blocks<T: Send>(blocks: usize, work: impl Fn(usize) -> Result<T, String> + Sync) -> Vec<T> {
@@ -58,43 +78,44 @@ fn run_blocks<T: Send>(blocks: usize, work: impl Fn(usize) -> Result<T, String> 
     })
 }
 
+/// A comparison that prints the input also where one side breaks down.
+fn compare_or_tell(input: &Input) -> Result<([u8; 6], u64), String> {
+    catch_unwind(|| compare(input)).unwrap_or_else(|_| Err(format!("broken down on {input:x?}")))
+}
+
 fn compare_block(seed: u64, block: usize) -> Result<Tally, String> {
     let mut random = Random::new(seed, block as u64);
-    let mut tally = [[0; 17]; 6];
+    let mut tally = Tally::default();
     for _ in 0..BLOCK {
-        let refusals = compare(&Input::random(&mut random))?;
+        let (refusals, ties) = compare_or_tell(&Input::random(&mut random))?;
         for (call, refusal) in refusals.into_iter().enumerate() {
-            tally[call][usize::from(refusal)] += 1;
+            tally.told[call][usize::from(refusal)] += 1;
         }
+        tally.ties += usize::from(ties > 1);
     }
     Ok(tally)
 }
 
 fn compare_inputs(seed: u64, inputs: usize) {
     let blocks = inputs.div_ceil(BLOCK);
-    let mut total = [[0; 17]; 6];
+    let mut total = Tally::default();
     for tally in run_blocks(blocks, |block| compare_block(seed, block)) {
-        for (sums, counts) in total.iter_mut().zip(tally) {
-            for (sum, count) in sums.iter_mut().zip(counts) {
-                *sum += count;
-            }
-        }
+        total.add(&tally);
     }
     println!(
-        "{} inputs, each through {} calls: no difference",
+        "{} inputs, each through {} calls: no difference; {} picks with ties",
         blocks * BLOCK,
-        CALLS.len()
+        CALLS.len(),
+        total.ties
     );
     println!("answers, then refusals 1 to 16:");
-    for (name, sums) in CALLS.iter().zip(total) {
+    for (name, sums) in CALLS.iter().zip(total.told) {
         let counts: Vec<String> = sums.iter().map(|sum| format!("{sum:>6}")).collect();
         println!("{name:>9} {}", counts.join(" "));
     }
-    for (call, tells) in TELLS.iter().enumerate() {
-        if let Some(refusal) = tells.iter().find(|&&refusal| total[call][refusal] == 0) {
-            println!("{} never told {refusal}: too few inputs", CALLS[call]);
-            exit(1);
-        }
+    if let Some((call, refusal)) = total.missing() {
+        println!("{call} never told {refusal}: too few inputs");
+        exit(1);
     }
 }
 
@@ -124,7 +145,7 @@ fn walk_block(seed: u64, block: usize, words: u8, width: u8) -> Result<usize, St
         let card = sound_form(words, width, &mut random);
         let bytes = reference::encode(&card);
         let start: Vec<u32> = (0..words)
-            .map(|_| random.next() as u32 & reference::mask(width))
+            .map(|_| random.word() as u32 & reference::mask(width))
             .collect();
         let verdict = tiedraw::check(&bytes);
         if verdict.is_ok() != covers(&card, &start) {
@@ -155,17 +176,15 @@ fn count_out_walks(seed: u64) {
 }
 
 fn main() {
-    let mut arguments = std::env::args().skip(1);
-    let mut number = |otherwise: u64| match arguments.next() {
-        None => otherwise,
-        Some(text) => text.parse().unwrap_or_else(|_| {
-            eprintln!("difftest: {text} is no number");
-            exit(2)
-        }),
+    let numbers: Vec<u64> = std::env::args()
+        .skip(1)
+        .map_while(|text| text.parse().ok())
+        .collect();
+    let [seed, inputs] = numbers[..] else {
+        eprintln!("difftest SEED INPUTS");
+        exit(2)
     };
-    let seed = number(SEED);
-    let inputs = number(INPUTS as u64) as usize;
     println!("seed {seed}");
-    compare_inputs(seed, inputs);
+    compare_inputs(seed, inputs as usize);
     count_out_walks(seed);
 }
