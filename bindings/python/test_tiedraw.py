@@ -93,6 +93,12 @@ class Document(unittest.TestCase):
         shouted = [(re.sub(r"(?<=[a-z])(?=[A-Z])", "_", name).upper(), word, when) for name, word, when in rust]
         self.assertEqual(shouted, [(refusal.name, refusal.trade_word, refusal.when) for refusal in Refusal])
 
+    def test_the_longest_card_is_the_same_in_every_language(self):
+        root = pathlib.Path(__file__).resolve().parents[2]
+        for file in ["include/tiedraw.h", "bindings/rust/src/lib.rs"]:
+            numbers = re.findall(r"MOST_CARD_BYTES[^\d\n]* (\d+)", (root / file).read_text())
+            self.assertEqual(numbers, [str(tiedraw.MOST_CARD_BYTES)])
+
 
 if __name__ == "__main__":
     unittest.main()

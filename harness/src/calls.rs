@@ -8,11 +8,11 @@ use tiedraw::ffi;
 
 /// The answer's values, the refusal, what was lent after the call, and whether all around it is as it was.
 #[derive(Debug, PartialEq)]
-pub struct Observed {
-    pub values: [u64; 2],
-    pub refusal: u8,
-    pub lent: Vec<u32>,
-    pub around: bool,
+struct Observed {
+    values: [u64; 2],
+    refusal: u8,
+    lent: Vec<u32>,
+    around: bool,
 }
 
 pub const CALLS: [&str; 6] = ["check", "step", "step_back", "draw", "pick", "write"];
@@ -47,7 +47,10 @@ fn shared<T>(slice: &[T]) -> *const T {
 }
 
 /// Call number `call` of the library.
-pub fn library(call: usize, input: &Input) -> Observed {
+fn library(call: usize, input: &Input) -> Observed {
+    if CALLS[call] == "write" {
+        return library_write(&input.values, &input.page);
+    }
     let (card, n) = (shared(&input.card), input.card.len());
     let on_state = |state, m| match CALLS[call] {
         "check" => ([0, 0], unsafe { ffi::tiedraw_check(card, n) }),
@@ -64,9 +67,6 @@ pub fn library(call: usize, input: &Input) -> Observed {
             ([answer.shovel.into(), answer.ties.into()], answer.refusal)
         }
     };
-    if CALLS[call] == "write" {
-        return library_write(&input.values, &input.page);
-    }
     let ((values, refusal), lent, around) = lend(&input.state, 0xa5c3_96e1, on_state);
     Observed {
         values,
@@ -112,7 +112,7 @@ fn expected(answer: Result<[u64; 2], u8>, lent: Vec<u32>) -> Observed {
 }
 
 /// Call number `call` of the second program.
-pub fn second_program(call: usize, input: &Input) -> Observed {
+fn second_program(call: usize, input: &Input) -> Observed {
     let card = &input.card;
     let mut state = input.state.clone();
     let answer = match CALLS[call] {

@@ -36,7 +36,7 @@ impl Input {
 }
 
 /// Values that the check accepts: the swaps (Sattolo) make a random single cycle. Some fields have their absent values.
-pub fn accepted_values(words: u8, width: u8, random: &mut Random) -> Card {
+fn accepted_values(words: u8, width: u8, random: &mut Random) -> Card {
     let mut table: Vec<u8> = (0..1 << words).collect();
     for place in (1..table.len()).rev() {
         table.swap(place, random.below(place));
@@ -60,7 +60,7 @@ pub fn accepted_values(words: u8, width: u8, random: &mut Random) -> Card {
     }
 }
 
-/// Values of sound form: accepted ones, half of them with one thing changed that 7, 8 or 9 may turn down.
+/// Values of sound form: accepted ones, six in ten with one thing changed that 7, 8 or 9 may turn down.
 pub fn sound_form(words: u8, width: u8, random: &mut Random) -> Card {
     let mut card = accepted_values(words, width, random);
     let place = random.below(card.table.len());

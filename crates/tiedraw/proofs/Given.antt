@@ -1,9 +1,9 @@
 -- The writer's values as C hands them over: a table that the array can hold, and one that it can't.
 use mathlib.Core.Path.{_≡_, refl, ap, _∙_}
 use mathlib.Core.List.{List}
-use Prim.Native.Nat.{ℕ, _^_, _<_, _≤_}
+use Prim.Native.Nat.{ℕ, _-_, _^_, _<_, _≤_}
 use native.Mathlib.Omega.{arith}
-use lib.ListN.{length, take}
+use lib.ListN.{length, take, replicate, length-append, length-replicate}
 use lib.Seq.{take-all}
 use borrow.Author.Tests.{lt-ltb, le-ltb}
 use Rattle.tsc.specs.declared.Card.{Card}
@@ -14,17 +14,25 @@ use Rattle.card_format.specs.Reading.{padded}
 use Rattle.card_format.specs.Writing.{writing, pageAfter}
 use Rattle.tiedraw.specs.Answers.{writtenLength, writtenFrom, pageFrom}
 
-module _ (card : Card) (table page : List ℕ) where
+module _ (card : Card) (page : List ℕ) where
   -- an overlong table: refusal 2, and the page as it was
-  pub overlong-refused : 2 ^ mostWords < length table → (writtenLength (Refused (number outOfRange)) ≡ writtenFrom card table (length page)) × (page ≡ pageFrom card table page)
+  pub overlong-refused : 2 ^ mostWords < length (card .table) → (writtenLength (Refused (number outOfRange)) ≡ writtenFrom card (length page)) × (page ≡ pageFrom card page)
   unfolding writtenFrom pageFrom
-  overlong-refused long = rw (lt-ltb (2 ^ mostWords) (length table) long) (refl, refl)
+  overlong-refused long = rw (lt-ltb (2 ^ mostWords) (length (card .table)) long) (refl, refl)
 
   -- else the writer's own answer and page
-  pub fitting-written : length table ≤ 2 ^ mostWords → (writtenLength (writing card (length page)) ≡ writtenFrom card table (length page)) × (pageAfter card page ≡ pageFrom card table page)
+  pub fitting-written : length (card .table) ≤ 2 ^ mostWords → (writtenLength (writing card (length page)) ≡ writtenFrom card (length page)) × (pageAfter card page ≡ pageFrom card page)
   unfolding writtenFrom pageFrom
-  fitting-written fits = rw (le-ltb (2 ^ mostWords) (length table) fits) (refl, refl)
+  fitting-written fits = rw (le-ltb (2 ^ mostWords) (length (card .table)) fits) (refl, refl)
 
--- a table filled from all the entries given
-pub filled-all : (table filled : List ℕ) → filled ≡ padded (take (length table) table) → filled ≡ padded table
-filled-all table filled e = e ∙ ap padded (take-all (length table) table (omega arith))
+module _ (table : List ℕ) where
+  -- zeros make no table overlong that was not, and none shorter
+  pub padded-long : 2 ^ mostWords < length table → 2 ^ mostWords < length (padded table)
+  padded-long l = omega (arith, length-append table (replicate (2 ^ mostWords - length table) 0))
+
+  pub padded-fits : length table ≤ 2 ^ mostWords → length (padded table) ≤ 2 ^ mostWords
+  padded-fits l = omega (arith, length-append table (replicate (2 ^ mostWords - length table) 0), length-replicate {A = ℕ} (2 ^ mostWords - length table) 0)
+
+  -- a table filled from all the entries given
+  pub filled-all : (filled : List ℕ) → filled ≡ padded (take (length table) table) → filled ≡ padded table
+  filled-all filled e = e ∙ ap padded (take-all (length table) table (omega arith))

@@ -14,10 +14,14 @@ use Rattle.card_format.specs.declared.Written.{Written}
 use Rattle.card_format.specs.declared.Written.the-variants.{Refused}
 use Rattle.card_format.specs.Refusals.{number, firstOf, outOfRange}
 use Rattle.card_format.specs.Writing.{writeChecks, writing, pageAfter}
+use Rattle.card_format.proofs.Writing.{writing-refused}
 use Rattle.generator.specs.declared.Draw.{Draw}
 use Rattle.generator.specs.Calls.{refusalFor, stepped, steppedBack, drawing}
+use Rattle.generator.proofs.Opening.{unless-refused}
+use Rattle.generator.proofs.Called.{drawing-refused}
 use Rattle.pick.specs.declared.Pick.{Pick}
 use Rattle.pick.specs.Picks.{pickRefusal, picking, picked}
+use Rattle.pick.proofs.Picking.{picking-refused}
 use Rattle.tiedraw.specs.Answers.{drawn, choice, writtenLength, overlong, writtenFrom, pageFrom}
 
 -- what every answer is made by: a value with refusal 0 where none applies, else the refusal
@@ -28,21 +32,19 @@ told refusal r value refused z e = go (ℕ-discrete r 0)
     go (yes p) = rw (eq-eqb r 0 p) (z ∙ sym p)
     go (no n) = rw (ne-eqb r 0 n) e
 
-kept : {A : Type 0} (r : ℕ) (value refused : A) → r ≢ 0 → cond (eqb r 0) value refused ≡ refused
-kept r value refused n = rw (ne-eqb r 0 n) refl
-
 module _ (bytes xs : List ℕ) where
   pub step-refused : refusalFor bytes xs ≢ 0 → (stepped bytes xs ≡ xs) × (steppedBack bytes xs ≡ xs)
   unfolding stepped steppedBack
-  step-refused n = (kept _ _ xs n, kept _ _ xs n)
+  step-refused n = (sym (unless-refused bytes xs _ n), sym (unless-refused bytes xs _ n))
 
   pub draw-told : drawn (drawing bytes xs) .refusal ≡ refusalFor bytes xs
   unfolding drawing
   draw-told = told (λ (d : Draw). drawn d .refusal) (refusalFor bytes xs) _ _ refl refl
 
   pub draw-refused : drawn (drawing bytes xs) .refusal ≢ 0 → (drawn (drawing bytes xs) .word ≡ 0) × (stepped bytes xs ≡ xs)
-  unfolding drawing stepped
-  draw-refused ne = let n : refusalFor bytes xs ≢ 0 = λ z. ne (draw-told ∙ z) in (ap (λ (d : Draw). drawn d .word) (kept (refusalFor bytes xs) _ _ n), kept _ _ xs n)
+  draw-refused ne =
+      let n : refusalFor bytes xs ≢ 0 = λ z. ne (draw-told ∙ z) in
+      (ap (λ (d : Draw). drawn d .word) (sym (drawing-refused bytes xs _ refl n)), step-refused n .0)
 
 module _ (bytes xs shovels times : List ℕ) where
   pub pick-told : choice (picking bytes xs shovels times) .refusal ≡ pickRefusal bytes xs shovels times
@@ -50,33 +52,30 @@ module _ (bytes xs shovels times : List ℕ) where
   pick-told = told (λ (p : Pick). choice p .refusal) (pickRefusal bytes xs shovels times) _ _ refl refl
 
   pub pick-refused : choice (picking bytes xs shovels times) .refusal ≢ 0 → (choice (picking bytes xs shovels times) .shovel ≡ 0) × (choice (picking bytes xs shovels times) .ties ≡ 0) × (picked bytes xs shovels times ≡ xs)
-  unfolding picking picked
   pick-refused ne =
-      let n : pickRefusal bytes xs shovels times ≢ 0 = λ z. ne (pick-told ∙ z) in
-      (ap (λ (p : Pick). choice p .shovel) (kept _ _ _ n), ap (λ (p : Pick). choice p .ties) (kept _ _ _ n), kept _ _ xs n)
+      let p = picking-refused bytes xs shovels times _ (λ z. ne (pick-told ∙ z)) refl in
+      (ap (λ (p : Pick). choice p .shovel) (sym (p .0)), ap (λ (p : Pick). choice p .ties) (sym (p .0)), sym (p .1))
 
-module _ (card : Card) (table page : List ℕ) where
+module _ (card : Card) (page : List ℕ) where
   -- the writer's own refusal, for a table that the array can hold
   writing-told : writtenLength (writing card (length page)) .refusal ≡ firstOf (writeChecks card (length page))
   unfolding writing
   writing-told = told (λ (w : Written). writtenLength w .refusal) (firstOf (writeChecks card (length page))) _ _ refl refl
 
-  writing-refused : writtenLength (writing card (length page)) .refusal ≢ 0 → (writtenLength (writing card (length page)) .length ≡ 0) × (pageAfter card page ≡ page)
-  unfolding writing pageAfter
-  writing-refused ne = let n : firstOf (writeChecks card (length page)) ≢ 0 = λ z. ne (writing-told ∙ z) in (ap (λ (w : Written). writtenLength w .length) (kept _ _ _ n), kept _ _ page n)
-
-  pub write-told : writtenFrom card table (length page) .refusal ≡ cond (overlong table) (number outOfRange) (firstOf (writeChecks card (length page)))
+  pub write-told : writtenFrom card (length page) .refusal ≡ cond (overlong card) (number outOfRange) (firstOf (writeChecks card (length page)))
   unfolding writtenFrom
-  write-told = go (overlong table)
+  write-told = go (overlong card)
     where
-      go : (b : Bool) → cond b (writtenLength (Refused (number outOfRange))) (writtenLength (writing card (length page))) .refusal ≡ cond b (number outOfRange) (firstOf (writeChecks card (length page)))
+      go : (b : Bool) → writtenLength (cond b (Refused (number outOfRange)) (writing card (length page))) .refusal ≡ cond b (number outOfRange) (firstOf (writeChecks card (length page)))
       go true = refl
       go false = writing-told
 
-  pub write-refused : writtenFrom card table (length page) .refusal ≢ 0 → (writtenFrom card table (length page) .length ≡ 0) × (pageFrom card table page ≡ page)
+  pub write-refused : writtenFrom card (length page) .refusal ≢ 0 → (writtenFrom card (length page) .length ≡ 0) × (pageFrom card page ≡ page)
   unfolding writtenFrom pageFrom
-  write-refused = go (overlong table)
+  write-refused = go (overlong card)
     where
-      go : (b : Bool) → let w = cond b (writtenLength (Refused (number outOfRange))) (writtenLength (writing card (length page))) in w .refusal ≢ 0 → (w .length ≡ 0) × (cond b page (pageAfter card page) ≡ page)
+      go : (b : Bool) → let w = writtenLength (cond b (Refused (number outOfRange)) (writing card (length page))) in w .refusal ≢ 0 → (w .length ≡ 0) × (cond b page (pageAfter card page) ≡ page)
       go true ne = (refl, refl)
-      go false ne = writing-refused ne
+      go false ne =
+          let w = writing-refused card page _ (λ z. ne (writing-told ∙ z)) refl in
+          (ap (λ (w : Written). writtenLength w .length) (sym (w .0)), sym (w .1))

@@ -47,14 +47,14 @@ given words width table oddPower evenPower constant filter sumTerm = record {
   «sum_term» = sumTerm;
 }
 
--- whether a table is longer than the array
-abbrev pub overlong : List ℕ → Bool
-overlong table = ltb (2 ^ mostWords) (length table)
+-- whether the table is longer than the array
+abbrev pub overlong : Card → Bool
+overlong card = ltb (2 ^ mostWords) (length (card .table))
 
--- what is answered for these values, this table among them, and a page of `room` bytes: an overlong table is refused by 2
-unfoldable pub writtenFrom : Card → List ℕ → ℕ → WrittenLength
-writtenFrom card table room = cond (overlong table) (writtenLength (Refused (number outOfRange))) (writtenLength (writing card room))
+-- what is answered for these values and a page of `room` bytes: an overlong table is refused by 2
+unfoldable pub writtenFrom : Card → ℕ → WrittenLength
+writtenFrom card room = writtenLength (cond (overlong card) (Refused (number outOfRange)) (writing card room))
 
 -- the page after the call
-unfoldable pub pageFrom : Card → List ℕ → List ℕ → List ℕ
-pageFrom card table page = cond (overlong table) page (pageAfter card page)
+unfoldable pub pageFrom : Card → List ℕ → List ℕ
+pageFrom card page = cond (overlong card) page (pageAfter card page)

@@ -147,8 +147,8 @@ pub extern "C" fn tiedraw_write(
     sum_term: u8,
     page: &mut [u8],
 ) -> WrittenLength
-    ensures answer { λ r. ⌜ r ≡ writtenFrom (given words width (now (table .entry)) «odd_power» «even_power» constant filter «sum_term») (now (table .entry)) (length (now (page .entry))) ⌝ }
-    ensures after { λ r. ⌜ now (page .exit) ≡ pageFrom (given words width (now (table .entry)) «odd_power» «even_power» constant filter «sum_term») (now (table .entry)) (now (page .entry)) ⌝ }
+    ensures answer { λ r. ⌜ r ≡ writtenFrom (given words width (now (table .entry)) «odd_power» «even_power» constant filter «sum_term») (length (now (page .entry))) ⌝ }
+    ensures after { λ r. ⌜ now (page .exit) ≡ pageFrom (given words width (now (table .entry)) «odd_power» «even_power» constant filter «sum_term») (now (page .entry)) ⌝ }
 {
     if TABLE_SIZE < table.len() {
         return WrittenLength {
