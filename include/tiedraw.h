@@ -27,15 +27,15 @@ extern "C" {
 /*
  * A card is a map byte and then the fields whose bit is 1, from bit 0 up. m, n and C are the first, second and sixth.
  *
- *   bit  field         bytes               allowed                          if absent
- *   0    words m       1                   2 to 4                           4
- *   1    width n       1                   2 to 32                          32
- *   2    table         2^m                 entries below 2^m, one cycle (7) TSC-1's, for m = 4 alone
- *   3    odd power     1                   0 to 255, odd (9)                1
- *   4    even power    1                   0 to 255, even (9)               2
- *   5    constant C    4, low byte first   below 2^n (6), odd (8)           12488421 hex
- *   6    filter        1                   1 or 2                           1
- *   7    sum term      1                   0 or 1                           1
+ *   bit  field         bytes               allowed                           if absent
+ *   0    words m       1                   2 to 4                            4
+ *   1    width n       1                   2 to 32                           32
+ *   2    table         2^m                 entries below 2^m, one cycle (7)  TSC-1's, for m = 4 alone
+ *   3    odd power     1                   0 to 255, odd (9)                 1
+ *   4    even power    1                   0 to 255, even (9)                2
+ *   5    constant C    4, low byte first   below 2^n (6), odd (8)            12488421 hex
+ *   6    filter        1                   1 or 2                            1
+ *   7    sum term      1                   0 or 1                            1
  */
 
 /* Refusals: the number, the trade word before the colon, and when it is told. */
