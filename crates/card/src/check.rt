@@ -1,16 +1,12 @@
 // Checking a card: refusals 1 to 9, and demand 3.
 ghost use mathlib.Core.Path.{_≡_};
-ghost use mathlib.Core.Logic.{_↔_};
-ghost use mathlib.Core.List.{List};
-ghost use Prim.Native.Nat.{ℕ, _≤_};
+ghost use Prim.Native.Nat.{_≤_};
 ghost use Rattle.tsc.specs.Constants.{mostWords};
-ghost use Rattle.tsc.specs.Coverage.{IsState, Covers, WellFormed};
-ghost use Rattle.card_format.specs.Refusals.{firstOf};
-ghost use Rattle.card_format.specs.Reading.{cardOf, SoundForm};
-ghost use Rattle.card_format.specs.Verdict.{periodChecks, verdict, accepting};
+ghost use Rattle.tsc.specs.Coverage.{WellFormed};
+ghost use Rattle.refusals.specs.Refusals.{firstOf};
+ghost use Rattle.card_format.specs.Verdict.{periodChecks, verdict, ZeroIffCovers, accepting};
 use card_fields::table;
 use card_format::Reading;
-use card_format::refusal;
 use card_read::read;
 use tsc::Card;
 
@@ -22,16 +18,16 @@ pub fn period_refusal(card: Card) -> u8
     let size = table::entries(card.words as u32);
     let table = card.table;
     if table::first_return(table, size) != size {
-        return refusal::NOT_SINGLE_CYCLE;
+        return refusals::NOT_SINGLE_CYCLE;
     }
     if card.constant % 2 == 0 {
-        return refusal::EVEN_CONSTANT;
+        return refusals::EVEN_CONSTANT;
     }
     if card.odd_power % 2 == 0 {
-        return refusal::POWER_PARITY;
+        return refusals::POWER_PARITY;
     }
     if card.even_power % 2 == 1 {
-        return refusal::POWER_PARITY;
+        return refusals::POWER_PARITY;
     }
     0
 }
@@ -56,7 +52,7 @@ pub fn accept(card: &[u8]) -> Reading
 // orbit passes every state once and then returns.
 pub fn check(card: &[u8]) -> u8
     ensures told { λ r. ⌜ r ≡ verdict (now (card .entry)) ⌝ }
-    ensures covers { λ r. ⌜ (SoundForm (now (card .entry)) → (start : List ℕ) → IsState (cardOf (now (card .entry))) start → (r ≡ 0) ↔ Covers (cardOf (now (card .entry))) start) ⌝ }
+    ensures covers { λ r. ⌜ ZeroIffCovers (now (card .entry)) r ⌝ }
 {
     let found = accept(card);
     found.refusal

@@ -6,7 +6,7 @@ use lib.Dec.{eqb}
 use lib.ListN.{getD}
 use Rattle.card_fields.specs.declared.number.Number.{Number}
 use Rattle.card_fields.specs.declared.number.Number.the-variants.{Value, Refused}
-use Rattle.card_format.specs.Refusals.{firstOf}
+use Rattle.refusals.specs.Refusals.{firstOf}
 use Rattle.card_format.specs.Fields.{Field, numbers}
 use Rattle.card_format.specs.Reading.{partChecks}
 

@@ -6,7 +6,6 @@ ghost use lib.ListN.{length, getD};
 ghost use Rattle.card_format.specs.Fields.{field, tableBit, numbers};
 ghost use Rattle.card_fields.specs.Number.{numberRead};
 use super::field;
-use card_format::refusal;
 
 // What the reader of a numeric field answers.
 pub enum Number {
@@ -39,17 +38,17 @@ pub fn read_number(k: usize, part: &[u8]) -> Number
     ensures { λ r. ⌜ r ≡ numberRead (field 4 k) (now (part .entry)) ⌝ }
 {
     if part.len() < field::SIZE[k] {
-        return Number::Refused(refusal::TRUNCATED);
+        return Number::Refused(refusals::TRUNCATED);
     }
     let v = number_at(k, part);
     if v < field::LEAST[k] {
-        return Number::Refused(refusal::OUT_OF_RANGE);
+        return Number::Refused(refusals::OUT_OF_RANGE);
     }
     if field::MOST[k] < v {
-        return Number::Refused(refusal::OUT_OF_RANGE);
+        return Number::Refused(refusals::OUT_OF_RANGE);
     }
     if v == field::ABSENT[k] {
-        return Number::Refused(refusal::REDUNDANT);
+        return Number::Refused(refusals::REDUNDANT);
     }
     Number::Value(v)
 }

@@ -15,8 +15,8 @@ use Rattle.cycle.proofs.Sum.{sum-ext}
 use Rattle.cycle.proofs.Bits.{bit-lt}
 use Rattle.cycle.proofs.Parity.{two-pos, bit-cases}
 use Rattle.cycle.proofs.Digits.{fromDigits, fromDigits-ext, fromDigits-lt, fromDigits-of, digit-fromDigits, length-tabulate, getD-tabulate, tabulate-ext, tabulate-getD}
-use Rattle.card_format.specs.Refusals.{Check, NoneApplies}
-use Rattle.card_format.specs.Fields.{Field, extent, numbers, bytesOf, same}
+use Rattle.refusals.specs.Refusals.{Check, NoneApplies}
+use Rattle.card_format.specs.Fields.{Field, Bytes, extent, numbers, bytesOf, same}
 use Rattle.card_format.specs.Reading.{partChecks}
 use Rattle.card_format.proofs.Fields.{allowed-at, same-refl, same-true}
 use Rattle.card_format.proofs.Sound.{Fitting}
@@ -36,12 +36,7 @@ length-one [] e = absurd (omega arith)
 length-one (x ∷ []) e = refl
 length-one (x ∷ y ∷ xs) e = absurd (omega arith)
 
--- ---- a list of bytes
-
-abbrev pub Bytes : List ℕ → Type 0
-Bytes b = (i : ℕ) → i < length b → getD b i 0 < 256
-
--- past the end, 0 counts
+-- a byte; past the end, 0 counts
 pub byte-lt : (b : List ℕ) → Bytes b → (i : ℕ) → getD b i 0 < 256
 byte-lt [] h i = lit< tt
 byte-lt (x ∷ xs) h zero = h 0 (omega arith)

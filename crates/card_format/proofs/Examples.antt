@@ -6,7 +6,7 @@ use Rattle.tsc.specs.Columns.{column, fromColumns}
 use Rattle.tsc.specs.Selector.{andWords, sumWords, selector}
 use Rattle.tsc.specs.Step.{step}
 use Rattle.tsc.specs.Word.{_⊞_, _⋘_, filter1, filter2, word}
-use Rattle.card_format.specs.Refusals.{firstOf}
+use Rattle.refusals.specs.Refusals.{firstOf}
 use Rattle.card_format.specs.Fields.{fields, field, numbers, allowed, same}
 use Rattle.card_format.specs.Reading.{offset, valuesAt, wordsOf, cardOf, partChecks, fieldChecks, checksTo, formChecks}
 use Rattle.card_format.specs.Verdict.{periodChecks, verdict}

@@ -16,7 +16,7 @@ use Rattle.cycle.proofs.Digits.{tabulate-ext, tabulate-getD}
 use Rattle.cycle.proofs.Sum.{sum-ext}
 use Rattle.tsc.specs.Constants.{tsc1Constant, tsc1Table, mostWords}
 use Rattle.card_format.specs.Fields.{Field, row, fields, field, tableBit, numbers, allowed, same}
-use Rattle.card_format.specs.Refusals.{firstOf}
+use Rattle.refusals.specs.Refusals.{firstOf}
 use Rattle.card_format.specs.Reading.{partChecks}
 use Rattle.card_format.specs.Writing.{unusedClear}
 

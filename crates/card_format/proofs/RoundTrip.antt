@@ -19,16 +19,16 @@ use Rattle.cycle.proofs.Digits.{tabulate-ext}
 use Rattle.tsc.specs.declared.Card.{Card}
 use Rattle.tsc.specs.Constants.{mostWords}
 use Rattle.card_format.specs.declared.Written.the-variants.{Length, Refused}
-use Rattle.card_format.specs.Refusals.{check, firstOf, NoneApplies, tableMissing}
-use Rattle.card_format.specs.Fields.{Field, fields, field, tableBit, extent, allowed, same}
+use Rattle.refusals.specs.Refusals.{check, firstOf, NoneApplies, tableMissing}
+use Rattle.card_format.specs.Fields.{Field, Bytes, fields, field, tableBit, extent, allowed, same}
 use Rattle.card_format.specs.Reading.{present, offset, valuesAt, wordsOf, values, value, padded, cardFrom, cardOf, partChecks, fieldChecks, checksTo, formChecks, SoundForm}
 use Rattle.card_format.specs.Verdict.{periodChecks, verdict}
 use Rattle.card_format.specs.Writing.{numbersOf, isWritten, fieldBytes, writtenTo, written, unusedClear, inRange, valueChecks, writeChecks, writing, pageAfter}
-use Rattle.card_format.proofs.Refusals.{first-none, none-first, none-left, none-right, none-append}
+use Rattle.refusals.proofs.Refusals.{first-none, none-first, none-left, none-right, none-append}
 use Rattle.card_format.proofs.Sound.{Fitting, offset-suc, sound-fitting, sound-value, value-words, field-none}
 use Rattle.card_format.proofs.Fields.{numeric, same-refl, same-true}
 use Rattle.card_format.proofs.Writing.{numbersOf-single, range-words, room-told, writing-refused, writing-done}
-use Rattle.card_format.proofs.Bytes.{cond-le, length-cond, length-one, Bytes, byte-lt, length-bytesOf, read-differs, read-bytes, written-read, bit-map, map-bit}
+use Rattle.card_format.proofs.Bytes.{cond-le, length-cond, length-one, byte-lt, length-bytesOf, read-differs, read-bytes, written-read, bit-map, map-bit}
 
 -- ---- the numbers of a card: one in each field but the table
 

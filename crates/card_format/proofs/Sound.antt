@@ -15,10 +15,10 @@ use Rattle.cycle.proofs.Every.{every-at}
 use Rattle.cycle.proofs.Digits.{length-tabulate}
 use Rattle.tsc.specs.Step.{entry}
 use Rattle.tsc.specs.Coverage.{WellFormed}
-use Rattle.card_format.specs.Refusals.{NoneApplies, check, tableMissing}
+use Rattle.refusals.specs.Refusals.{NoneApplies, check, tableMissing}
 use Rattle.card_format.specs.Fields.{Field, fields, field, tableBit, extent, numbers, allowed}
 use Rattle.card_format.specs.Reading.{present, offset, valuesAt, wordsOf, values, value, cardOf, partChecks, fieldChecks, checksTo, formChecks, SoundForm}
-use Rattle.card_format.proofs.Refusals.{none-left, none-right}
+use Rattle.refusals.proofs.Refusals.{none-left, none-right}
 use Rattle.card_format.proofs.Fields.{field-fixed, allowed-at}
 
 -- the numbers that stand for a field: allowed, and as many as the field has

@@ -1,5 +1,5 @@
 -- DEMAND 3 on the definitions: for every byte string of sound form and every start in range, the verdict is 0 exactly where the orbit covers.
-use mathlib.Core.Path.{_≡_, refl, sym, ap, _∙_}
+use mathlib.Core.Path.{_≡_, refl, sym, ap, _∙_, subst}
 use mathlib.Core.Logic.{_↔_, _≢_}
 use mathlib.Core.Bool.{Bool, true, false, _||_, true≢false}
 use mathlib.Core.List.{List}
@@ -10,16 +10,16 @@ use lib.Dec.{eqb}
 use Rattle.cycle.specs.Cycle.{firstReturn}
 use Rattle.tsc.specs.declared.Card.{Card}
 use Rattle.tsc.specs.Step.{entry}
-use Rattle.tsc.specs.Coverage.{IsState, Covers, WellFormed, FullPeriod}
+use Rattle.tsc.specs.Coverage.{WellFormed, FullPeriod}
 use Rattle.tsc.proofs.Table.{table-cycle}
 use Rattle.tsc.proofs.Coverage.{coverage}
 use Rattle.tsc.specs.Constants.{mostWords}
 use Rattle.card_format.specs.declared.Reading.{Reading}
 use Rattle.card_format.specs.Fields.{field, fields}
-use Rattle.card_format.specs.Refusals.{firstOf, NoneApplies}
-use Rattle.card_format.specs.Reading.{cardOf, formChecks, SoundForm, refusedWith, answering, reading}
-use Rattle.card_format.specs.Verdict.{periodChecks, cardChecks, verdict, accepting, Accepted}
-use Rattle.card_format.proofs.Refusals.{first-none, none-first, first-append, first-left, none-left, none-right}
+use Rattle.refusals.specs.Refusals.{firstOf, NoneApplies}
+use Rattle.card_format.specs.Reading.{cardOf, formChecks, SoundForm, refusedReading, answering, reading}
+use Rattle.card_format.specs.Verdict.{periodChecks, cardChecks, verdict, ZeroIffCovers, accepting, Accepted}
+use Rattle.refusals.proofs.Refusals.{first-none, none-first, first-append, first-left, none-left, none-right}
 use Rattle.card_format.proofs.Sound.{sound-value, sound-card}
 
 neither : (a b : Bool) → (a || b) ≡ false → (a ≡ false) × (b ≡ false)
@@ -54,7 +54,7 @@ period-none card wf = (forth, back)
         )
 
 -- what is answered with a refusal
-pub answering-refused : (card : Card) (r : ℕ) → r ≢ 0 → refusedWith r ≡ answering r card
+pub answering-refused : (card : Card) (r : ℕ) → r ≢ 0 → refusedReading r ≡ answering r card
 answering-refused card r ne = simp (ne-eqb r 0 ne)
 
 -- a card of sound form is judged by its values
@@ -62,9 +62,8 @@ pub verdict-period : (bytes : List ℕ) → SoundForm bytes → firstOf (periodC
 unfolding verdict
 verdict-period bytes s = sym (first-append (formChecks bytes) (periodChecks (cardOf bytes)) s)
 
--- what the check must answer, for every card of sound form and every start
-pub verdict-covers : (bytes : List ℕ) → SoundForm bytes → (start : List ℕ) → IsState (cardOf bytes) start
-    → (verdict bytes ≡ 0) ↔ Covers (cardOf bytes) start
+-- demand 3 of the verdict
+pub verdict-covers : (bytes : List ℕ) → ZeroIffCovers bytes (verdict bytes)
 verdict-covers bytes s start st =
     let card = cardOf bytes in
     let wf = sound-card bytes s in
@@ -73,10 +72,9 @@ verdict-covers bytes s start st =
       λ c. sym told ∙ first-none (periodChecks card) (period-none card wf .1 (coverage card wf start st .0 c)),
     )
 
--- an answer that is the verdict says of every card of sound form whether its orbit covers
-pub verdict-told : (bytes : List ℕ) (r : ℕ) → r ≡ verdict bytes
-    → (r ≡ verdict bytes) × (SoundForm bytes → (start : List ℕ) → IsState (cardOf bytes) start → (r ≡ 0) ↔ Covers (cardOf bytes) start)
-verdict-told bytes r e = (e, λ s start st. let v = verdict-covers bytes s start st in (λ z. v .0 (sym e ∙ z), λ c. e ∙ v .1 c))
+-- and of an answer that is the verdict
+pub verdict-told : (bytes : List ℕ) (r : ℕ) → r ≡ verdict bytes → (r ≡ verdict bytes) × ZeroIffCovers bytes r
+verdict-told bytes r e = (e, subst (ZeroIffCovers bytes) (sym e) (verdict-covers bytes))
 
 -- ---- what the reader says of the verdict
 

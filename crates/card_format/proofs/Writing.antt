@@ -20,11 +20,11 @@ use Rattle.tsc.specs.declared.Card.{Card}
 use Rattle.tsc.specs.Constants.{mostWords}
 use Rattle.tsc.specs.Coverage.{WellFormed}
 use Rattle.card_format.specs.declared.Written.the-variants.{Length, Refused}
-use Rattle.card_format.specs.Refusals.{firstOf, NoneApplies}
+use Rattle.refusals.specs.Refusals.{firstOf, NoneApplies}
 use Rattle.card_format.specs.Fields.{fields, field, tableBit, extent, bytesOf, allowed, same}
 use Rattle.card_format.specs.Reading.{cardFrom}
 use Rattle.card_format.specs.Writing.{numbersOf, isWritten, fieldBytes, writtenTo, written, inRange, valueChecks, writeChecks, writing, pageAfter}
-use Rattle.card_format.proofs.Refusals.{none-first, first-append, first-left}
+use Rattle.refusals.proofs.Refusals.{none-first, first-append, first-left}
 use Rattle.card_format.proofs.Fields.{allowed-at, each, leasts, mosts, absents, numeric, few-entries}
 use Rattle.card_format.proofs.Bytes.{cond-le, length-cond, length-bytesOf}
 

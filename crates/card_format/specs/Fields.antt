@@ -1,11 +1,15 @@
 -- The fields of a card (document 01, The card).
 use mathlib.Core.Bool.{Bool, true, false, _&&_}
 use mathlib.Core.List.{List, [], _∷_}
-use Prim.Native.Nat.{ℕ, _+_, _-_, _*_, _/_, _%_, _^_}
+use Prim.Native.Nat.{ℕ, _+_, _-_, _*_, _/_, _%_, _^_, _<_}
 use lib.Dec.{eqb, leb}
-use lib.ListN.{getD}
+use lib.ListN.{length, getD}
 use Rattle.cycle.specs.Notation.{sum, tabulate}
 use Rattle.tsc.specs.Constants.{fewestWords, mostWords, narrowestWidth, widestWidth, tsc1Constant, tsc1Table}
+
+-- bytes: numbers below 256
+abbrev pub Bytes : List ℕ → Type 0
+Bytes xs = (i : ℕ) → i < length xs → getD xs i 0 < 256
 
 -- a field is `count` numbers of `size` bytes each, low byte first, each from `least` to `most`; `absent` is what stands for it when its bit is 0
 pub record Field : Type 0 where

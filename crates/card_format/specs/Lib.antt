@@ -1,5 +1,4 @@
 -- Cards as document 01 has them: refusals, fields, what bytes mean, which are accepted, what the writer writes, the P rows.
-pub mod Refusals
 pub mod Fields
 pub mod Reading
 pub mod Verdict

@@ -8,7 +8,7 @@ use Rattle.cycle.specs.Notation.{sum, zeroFilled, bit}
 use Rattle.tsc.specs.declared.Card.{Card}
 use Rattle.tsc.specs.Constants.{mostWords}
 use Rattle.card_format.specs.declared.Reading.{Reading}
-use Rattle.card_format.specs.Refusals.{Check, check, firstOf, NoneApplies, truncated, outOfRange, redundant, tableMissing, trailingBytes, constantTooWide}
+use Rattle.refusals.specs.Refusals.{Check, check, firstOf, NoneApplies, truncated, outOfRange, redundant, tableMissing, trailingBytes, constantTooWide}
 use Rattle.card_format.specs.Fields.{Field, field, tableBit, extent, numbers, allowed, same}
 
 -- whether field k is present
@@ -96,8 +96,8 @@ abbrev pub noCard : Card
 noCard = cardFrom (λ k. 0) (padded [])
 
 -- a refusal, with that card
-abbrev pub refusedWith : ℕ → Reading
-refusedWith r = record { refusal = r; card = noCard }
+abbrev pub refusedReading : ℕ → Reading
+refusedReading r = record { refusal = r; card = noCard }
 
 -- a refusal alone, or, where it is 0, the card
 abbrev pub answering : ℕ → Card → Reading

@@ -8,7 +8,7 @@ use Rattle.cycle.specs.Notation.{sum, every}
 use Rattle.tsc.specs.declared.Card.{Card}
 use Rattle.card_format.specs.declared.Written.{Written}
 use Rattle.card_format.specs.declared.Written.the-variants.{Length, Refused}
-use Rattle.card_format.specs.Refusals.{Check, check, firstOf, outOfRange, bufferTooSmall}
+use Rattle.refusals.specs.Refusals.{Check, check, firstOf, outOfRange, bufferTooSmall}
 use Rattle.card_format.specs.Fields.{field, bytesOf, allowed, same}
 use Rattle.card_format.specs.Reading.{constantCheck}
 use Rattle.card_format.specs.Verdict.{periodChecks}

@@ -1,8 +1,6 @@
-// Cards (document 01, The card): bytes that set up a generator. Here are the refusal numbers and what the reader and the writer answer; what bytes
+// Cards (document 01, The card): bytes that set up a generator. Here is what the reader and the writer answer; what bytes
 // mean and which are accepted is in specs/, and what holds of that in proofs/. The code is in crates card_read, card and card_write.
 use tsc::Card;
-
-pub mod refusal;
 
 // What the reader answers: 0 and the card's values, or the refusal.
 pub struct Reading {

@@ -1,4 +1,4 @@
 -- Laws for the reader.
 pub mod Map
-pub mod Steps
+pub mod FieldRead
 pub mod Reader

@@ -26,7 +26,7 @@ unfolding every lowest ones trailingZeros
 all-lowest = refl
 
 pub record Lowest (n : ℕ) : Type 0 where
-  pub place : trailingZeros 8 n < 8
+  pub within : trailingZeros 8 n < 8
   pub one : bit (trailingZeros 8 n) n ≡ 1
   pub below : (j : ℕ) → j < trailingZeros 8 n → bit j n ≡ 0
   pub less : (j : ℕ) → j < 8 → bit j (bitAnd n (n - 1)) ≡ cond (eqb j (trailingZeros 8 n)) 0 (bit j n)
@@ -42,7 +42,7 @@ lowest-one (suc n) p l =
     let c = and-eq-true-iff _ _ .0 (b .0) in
     let d = and-eq-true-iff _ _ .0 (c .0) in
     record {
-      place = ltb-true _ _ (d .0);
+      within = ltb-true _ _ (d .0);
       one = eqb-true _ _ (d .1);
       below = λ j lj. eqb-true _ _ (every-at _ _ (c .1) j lj);
       less = λ j lj. rw sub-one (eqb-true _ _ (every-at 8 _ (b .1) j lj));
@@ -87,7 +87,7 @@ next-field map left next h p =
     let k = trailingZeros 8 left in
     let n = after low (decLt k next) in (
       n,
-      sym (left-ahead map left next h k (low .place) n) ∙ low .one,
+      sym (left-ahead map left next h k (low .within) n) ∙ low .one,
       record {
         small = omega (arith, and-le-l left (left - 1), h .small);
         bits = λ j lj. low .less j lj ∙ taken low n j lj (decLt j k) (ℕ-discrete j k);
@@ -96,7 +96,7 @@ next-field map left next h p =
   where
     after : Lowest left → Dec (trailingZeros 8 left < next) → next ≤ trailingZeros 8 left
     after low (yes l) =
-        let z : bit (trailingZeros 8 left) left ≡ 0 = rw (lt-ltb _ next l) at (h .bits (trailingZeros 8 left) (low .place)) in
+        let z : bit (trailingZeros 8 left) left ≡ 0 = rw (lt-ltb _ next l) at (h .bits (trailingZeros 8 left) (low .within)) in
         absurd (omega (arith, low .one))
     after low (no nl) = omega arith
 

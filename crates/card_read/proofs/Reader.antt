@@ -17,17 +17,17 @@ use lib.Seq.{getD-set-other, set-getD}
 use Rattle.tsc.specs.Constants.{mostWords, tsc1Table}
 use Rattle.cycle.specs.Notation.{sum}
 use Rattle.card_read.specs.declared.read.Values.{Values}
-use Rattle.card_format.specs.Refusals.{Check, firstOf, NoneApplies}
+use Rattle.refusals.specs.Refusals.{Check, firstOf, NoneApplies}
 use Rattle.card_format.specs.Fields.{Field, field, fields, tableBit, numbers}
-use Rattle.card_format.specs.Reading.{reading, refusedWith, answering, present, offset, valuesAt, wordsOf, values, value, padded, cardFrom, cardOf, partChecks, fieldChecks, checksTo, formChecks, SoundForm}
-use Rattle.card_read.specs.Steps.{fieldRead, missing}
-use Rattle.card_format.proofs.Refusals.{none-first, first-append, first-left, none-append}
+use Rattle.card_format.specs.Reading.{reading, refusedReading, answering, present, offset, valuesAt, wordsOf, values, value, padded, cardFrom, cardOf, partChecks, fieldChecks, checksTo, formChecks, SoundForm}
+use Rattle.card_read.specs.FieldRead.{fieldRead, missing}
+use Rattle.refusals.proofs.Refusals.{none-first, first-append, first-left, none-append}
 use Rattle.card_format.proofs.Fields.{allowed-at, field-fixed, each, absents, numeric, size-one}
 use Rattle.card_format.proofs.Verdict.{answering-refused, words-sound}
 use Rattle.card_format.proofs.RoundTrip.{row-facts}
 use Rattle.card_read.proofs.Map.{Left, lowest-one, left-below, next-field}
 use Rattle.card_format.proofs.Sound.{offset-suc, fields-none, none-fitting, value-words, sound-value}
-use Rattle.card_read.proofs.Steps.{used-fits}
+use Rattle.card_read.proofs.FieldRead.{used-fits}
 
 -- the numbers and the table, once the fields before field k are read
 pub numbersTo : List ℕ → ℕ → List ℕ
@@ -41,7 +41,7 @@ tableTo bytes (suc k) = cond (eqb k tableBit) (padded (values bytes k)) (tableTo
 -- none of the checks before field `next` applies, it is at `at`, and v has the values before it
 pub record Reached (bytes : List ℕ) (next at : ℕ) (v : Values) : Type 0 where
   pub none : NoneApplies (checksTo bytes next)
-  pub place : at ≡ offset (wordsOf bytes) bytes next
+  pub start : at ≡ offset (wordsOf bytes) bytes next
   pub within : at ≤ length bytes
   pub numbers : v .numbers ≡ numbersTo bytes next
   pub table : v .table ≡ tableTo bytes next
@@ -105,7 +105,7 @@ table-absent bytes k a = go (ℕ-discrete k tableBit)
 pub reached-map : (bytes : List ℕ) (v : Values) → 0 < length bytes → v .numbers ≡ absents → v .table ≡ tsc1Table → Reached bytes 0 1 v
 unfolding checksTo offset sum numbersTo tableTo NoneApplies
 reached-map bytes v l en et =
-    record { none = (ne-eqb (length bytes) 0 (λ e. absurd (omega arith)), tt); place = refl; within = l; numbers = en; table = et }
+    record { none = (ne-eqb (length bytes) 0 (λ e. absurd (omega arith)), tt); start = refl; within = l; numbers = en; table = et }
 
 -- past a field that is absent, and needn't be there
 pub reached-absent : (bytes : List ℕ) (k at : ℕ) (v : Values) → k < 8 → Reached bytes k at v → present bytes k ≡ false
@@ -114,7 +114,7 @@ unfolding checksTo fieldChecks NoneApplies
 reached-absent bytes k at v l h a four =
     record {
       none = none-append (checksTo bytes k) (fieldChecks bytes k) (h .none) (rw a (there (ℕ-discrete k tableBit), tt));
-      place = h .place ∙ sym (offset-suc (wordsOf bytes) bytes k ∙ rw a (add-zero _));
+      start = h .start ∙ sym (offset-suc (wordsOf bytes) bytes k ∙ rw a (add-zero _));
       within = h .within;
       numbers = h .numbers ∙ numbers-absent bytes k l a;
       table = h .table ∙ table-absent bytes k a;
@@ -159,7 +159,7 @@ field-known bytes k at v h = go (ℕ-discrete k tableBit)
 field-told : (bytes : List ℕ) (k at : ℕ) (v : Values) → Reached bytes k at v → present bytes k ≡ true
     → fieldRead k (drop at bytes) v .refusal ≡ firstOf (fieldChecks bytes k)
 unfolding fieldRead fieldChecks
-field-told bytes k at v h p = rw (p, field-known bytes k at v h, h .place) refl
+field-told bytes k at v h p = rw (p, field-known bytes k at v h, h .start) refl
 
 pub told-field : (bytes : List ℕ) (k at : ℕ) (v : Values) → k < 8 → Reached bytes k at v → present bytes k ≡ true
     → fieldRead k (drop at bytes) v .refusal ≢ 0 → firstOf (formChecks bytes) ≡ fieldRead k (drop at bytes) v .refusal
@@ -168,7 +168,7 @@ told-field bytes k at v l h p ne = told-at bytes k l (h .none) _ ne (sym (field-
 values-present : (bytes : List ℕ) (k at : ℕ) (v : Values) → Reached bytes k at v → present bytes k ≡ true
     → values bytes k ≡ numbers (field (getD (v .numbers) 0 0) k) (drop at bytes)
 unfolding valuesAt
-values-present bytes k at v h p = rw (p, field-known bytes k at v h, h .place) refl
+values-present bytes k at v h p = rw (p, field-known bytes k at v h, h .start) refl
 
 cond-not : (b : Bool) (x y : List ℕ) → cond (not b) x y ≡ cond b y x
 cond-not true x y = refl
@@ -182,7 +182,7 @@ reached-field bytes k at v l h p z =
     let fits = eq-eqb (firstOf (partChecks (field (getD (v .numbers) 0 0) k) (drop at bytes))) 0 z in
     record {
       none = none-append (checksTo bytes k) (fieldChecks bytes k) (h .none) (none-first _ (sym (field-told bytes k at v h p) ∙ z));
-      place = ap₂ (λ (i j : ℕ). i + j) (h .place) (rw (fits, p, field-known bytes k at v h) refl) ∙ sym (offset-suc (wordsOf bytes) bytes k);
+      start = ap₂ (λ (i j : ℕ). i + j) (h .start) (rw (fits, p, field-known bytes k at v h) refl) ∙ sym (offset-suc (wordsOf bytes) bytes k);
       within = omega (arith, used-fits k (drop at bytes) v, length-drop at bytes, h .within);
       numbers = rw (fits, sym x, h .numbers) (cond-not (eqb k tableBit) _ _);
       table = rw (fits, sym x, h .table) refl;
@@ -238,7 +238,7 @@ pub rest-here : (bytes : List ℕ) (left next at : ℕ) (v : Values) → Rest by
     → Reached bytes (trailingZeros 8 left) at v × (trailingZeros 8 left < 8) × (present bytes (trailingZeros 8 left) ≡ true)
 rest-here bytes left next at v h p m =
     let f = next-field (getD bytes 0 0) left next (h .fields) p in
-    (rest-reached bytes left next at v h (f .0) m, lowest-one left p (h .fields .small) .place, eq-eqb _ 1 (f .1))
+    (rest-reached bytes left next at v h (f .0) m, lowest-one left p (h .fields .small) .within, eq-eqb _ 1 (f .1))
 
 pub rest-next : (bytes : List ℕ) (left next at : ℕ) (v r : Values) → Rest bytes left next at v → 0 < left
     → missing next (trailingZeros 8 left) (getD (v .numbers) 0 0) ≡ false → r ≡ fieldRead (trailingZeros 8 left) (drop at bytes) v → r .refusal ≡ 0
@@ -282,14 +282,14 @@ told-empty bytes e = rw (eq-eqb (length bytes) 0 e) refl
 pub told-end : (bytes : List ℕ) (at : ℕ) (v : Values) → Reached bytes 8 at v
     → firstOf (formChecks bytes) ≡ cond (ltb at (length bytes)) 5 (cond (leb (2 ^ getD (v .numbers) 1 0) (getD (v .numbers) 5 0)) 6 0)
 unfolding formChecks firstOf cardOf numbersTo
-told-end bytes at v h = first-append (checksTo bytes 8) _ (h .none) ∙ sym (rw (h .numbers, h .place) refl)
+told-end bytes at v h = first-append (checksTo bytes 8) _ (h .none) ∙ sym (rw (h .numbers, h .start) refl)
 
 -- the card of the values
 pub card-read : (bytes : List ℕ) (at : ℕ) (v : Values) → Reached bytes 8 at v → cardFrom (λ k. getD (v .numbers) k 0) (v .table) ≡ cardOf bytes
 unfolding cardOf numbersTo tableTo
 card-read bytes at v h = rw (h .numbers, h .table) refl
 
-pub reading-refused : (bytes : List ℕ) (r : ℕ) → r ≢ 0 → firstOf (formChecks bytes) ≡ r → refusedWith r ≡ reading bytes
+pub reading-refused : (bytes : List ℕ) (r : ℕ) → r ≢ 0 → firstOf (formChecks bytes) ≡ r → refusedReading r ≡ reading bytes
 unfolding reading
 reading-refused bytes r ne e = answering-refused (cardOf bytes) r ne ∙ ap (λ (n : ℕ). answering n (cardOf bytes)) (sym e)
 

@@ -5,14 +5,13 @@ ghost use Prim.Native.Nat.{ℕ, _<_, _≤_};
 ghost use lib.ListN.{length, getD};
 ghost use Rattle.tsc.specs.Constants.{mostWords};
 ghost use Rattle.card_format.specs.Fields.{tableBit};
-ghost use Rattle.card_format.specs.Reading.{cardFrom, refusedWith, reading};
-ghost use Rattle.card_read.specs.Steps.{refusedAt, fieldRead, missing};
+ghost use Rattle.card_format.specs.Reading.{cardFrom, refusedReading, reading};
+ghost use Rattle.card_read.specs.FieldRead.{refusedAt, fieldRead, missing};
 use card_fields::field;
 use card_fields::number;
 use card_fields::number::Number;
 use card_fields::table;
 use card_format::Reading;
-use card_format::refusal;
 use tsc::Card;
 use tsc::TABLE_SIZE;
 
@@ -42,14 +41,14 @@ fn read_table(part: &[u8], v: Values) -> Values
     let m = v.numbers[field::WORDS];
     let size = table::entries(m);
     if part.len() < size {
-        return refused_at(v, refusal::TRUNCATED);
+        return refused_at(v, refusals::TRUNCATED);
     }
     let table = table::table_from(part, size);
     if !table::entries_allowed(table, m) {
-        return refused_at(v, refusal::OUT_OF_RANGE);
+        return refused_at(v, refusals::OUT_OF_RANGE);
     }
     if table::is_tsc1(table, m) {
-        return refused_at(v, refusal::REDUNDANT);
+        return refused_at(v, refusals::REDUNDANT);
     }
     let numbers = v.numbers;
     Values {
@@ -95,7 +94,7 @@ fn table_missing(next: usize, k: usize, m: u32) -> bool
 
 // A refusal, with the card that goes with it.
 pub fn refused(number: u8) -> Reading
-    ensures { λ r. ⌜ r ≡ refusedWith number ⌝ }
+    ensures { λ r. ⌜ r ≡ refusedReading number ⌝ }
 {
     Reading {
         refusal: number,
@@ -135,7 +134,7 @@ pub fn read(card: &[u8]) -> Reading
     ensures { λ r. ⌜ r ≡ reading (now (card .entry)) ⌝ }
 {
     if card.len() == 0 {
-        return refused(refusal::TRUNCATED);
+        return refused(refusals::TRUNCATED);
     }
     let mut v = Values {
         refusal: 0,
@@ -149,7 +148,7 @@ pub fn read(card: &[u8]) -> Reading
     for _ in 0..u8::count_ones(left) {
         let k = u8::trailing_zeros(left) as usize;
         if table_missing(next, k, v.numbers[field::WORDS]) {
-            return refused(refusal::TABLE_MISSING);
+            return refused(refusals::TABLE_MISSING);
         }
         v = read_field(k, &card[at..], v);
         if v.refusal != 0 {
@@ -160,13 +159,13 @@ pub fn read(card: &[u8]) -> Reading
         left = left & (left - 1);
     }
     if table_missing(next, field::FIELDS, v.numbers[field::WORDS]) {
-        return refused(refusal::TABLE_MISSING);
+        return refused(refusals::TABLE_MISSING);
     }
     if at < card.len() {
-        return refused(refusal::TRAILING_BYTES);
+        return refused(refusals::TRAILING_BYTES);
     }
     if field::exceeds(v.numbers[field::CONSTANT], v.numbers[field::WIDTH]) {
-        return refused(refusal::CONSTANT_TOO_WIDE);
+        return refused(refusals::CONSTANT_TOO_WIDE);
     }
     Reading {
         refusal: 0,

@@ -13,7 +13,7 @@ use Rattle.card_format.specs.Fields.{Field, field, tableBit, bytesOf}
 use Rattle.card_format.specs.Writing.{numbersOf, isWritten, fieldBytes}
 use Rattle.card_format.proofs.Fields.{sizes, numeric}
 use Rattle.card_format.proofs.Writing.{byteAt}
-use Rattle.card_write.specs.Steps.{lowBytes}
+use Rattle.card_write.specs.LowBytes.{lowBytes}
 
 -- a number's bytes are its digits
 pub bytesOf-one : (m k x : ℕ) → k < 8 → k ≢ tableBit → bytesOf (field m k) (x ∷ []) ≡ lowBytes x (getD sizes k 0)

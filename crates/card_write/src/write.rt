@@ -6,15 +6,14 @@ ghost use mathlib.Core.List.{[], _∷_, _++_};
 ghost use Prim.Native.Nat.{_+_, _^_, _<_, _≤_};
 ghost use lib.ListN.{length, take, drop};
 ghost use Rattle.tsc.specs.Constants.{mostWords};
-ghost use Rattle.card_format.specs.Refusals.{firstOf};
+ghost use Rattle.refusals.specs.Refusals.{firstOf};
 ghost use Rattle.card_format.specs.Fields.{field, tableBit, allowed};
-ghost use Rattle.card_write.specs.Steps.{lowBytes};
+ghost use Rattle.card_write.specs.LowBytes.{lowBytes};
 ghost use Rattle.card_format.specs.Writing.{numbersOf, isWritten, fieldBytes, mapTo, written, inRange, valueChecks, writing, pageAfter};
 use card::check;
 use card_fields::field;
 use card_fields::table;
 use card_format::Written;
-use card_format::refusal;
 use tsc::Card;
 use tsc::TABLE_SIZE;
 
@@ -76,10 +75,10 @@ fn value_refusal(card: Card) -> u8
     ensures { λ r. ⌜ r ≡ firstOf (valueChecks card) ⌝ }
 {
     if !in_range(card) {
-        return refusal::OUT_OF_RANGE;
+        return refusals::OUT_OF_RANGE;
     }
     if field::exceeds(card.constant, card.width as u32) {
-        return refusal::CONSTANT_TOO_WIDE;
+        return refusals::CONSTANT_TOO_WIDE;
     }
     check::period_refusal(card)
 }
@@ -195,7 +194,7 @@ pub fn write(card: Card, page: &mut [u8]) -> Written
     }
     let o = outline_of(card);
     if page.len() < o.length {
-        return Written::Refused(refusal::BUFFER_TOO_SMALL);
+        return Written::Refused(refusals::BUFFER_TOO_SMALL);
     }
     put_card(card, o.map, page);
     Written::Length(o.length)

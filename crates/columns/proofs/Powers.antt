@@ -23,7 +23,7 @@ use Rattle.tsc.specs.Step.{entry}
 use Rattle.columns.specs.declared.power.Powers.{Powers}
 use Rattle.columns.specs.Replace.{IsPower, imageOf}
 
--- the entry that stands j places from 0
+-- where 0 goes by j applications
 abbrev pub stands : Card → ℕ → ℕ
 stands card j = iterate (entry card) j 0
 
@@ -47,7 +47,7 @@ filled-none card k =
       unused = λ x l. getD-filler (2 ^ mostWords) x 0;
     }
 
--- the entry that stands at place j gets its image
+-- the entry number j of the cycle gets its image
 pub filled-next : (card : Card) → WellFormed card → card .words ≤ mostWords → (k j : ℕ) (t : List ℕ) → Filled card k j t
     → Filled card k (j + 1) (set t (stands card j) (iterate (entry card) k (stands card j)))
 filled-next card wf few k j t f =

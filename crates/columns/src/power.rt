@@ -19,19 +19,19 @@ pub struct Powers {
     pub even: [u8; TABLE_SIZE],
 }
 
-// The entry that stands so many places from 0 on the cycle.
-fn place(card: Card, places: u32) -> u8
+// Where 0 goes by so many applications of the table.
+fn entry_after(card: Card, applications: u32) -> u8
     requires { ⌜ WellFormed card × (card .words ≤ mostWords) ⌝ }
-    ensures { λ r. ⌜ r ≡ iterate (entry card) places 0 ⌝ }
+    ensures { λ r. ⌜ r ≡ iterate (entry card) applications 0 ⌝ }
 {
     let mut y: u8 = 0;
-    for _ in 0..places {
+    for _ in 0..applications {
         y = card.table[y as usize];
     }
     y
 }
 
-// The table applied `times` times: x goes round the cycle from 0, and y, that many places ahead, goes along.
+// The table applied `times` times: x goes round the cycle from 0, and y, that many entries ahead, goes along.
 pub fn power_of(card: Card, times: u32) -> [u8; TABLE_SIZE]
     requires { ⌜ WellFormed card × (card .words ≤ mostWords) × SingleCycle (2 ^ card .words) (entry card) 0 ⌝ }
     ensures { λ r. ⌜ IsPower card times r ⌝ }
@@ -39,7 +39,7 @@ pub fn power_of(card: Card, times: u32) -> [u8; TABLE_SIZE]
     let m = card.words as u32;
     let mut power = [0; TABLE_SIZE];
     let mut x: u8 = 0;
-    let mut y = place(card, arithmetic::reduce(m, times));
+    let mut y = entry_after(card, arithmetic::reduce(m, times));
     for _ in 0..table::entries(m) {
         power[x as usize] = y;
         x = card.table[x as usize];

@@ -12,13 +12,13 @@ use Rattle.cycle.proofs.Every.{every-at, every-of}
 use Rattle.tsc.specs.declared.Card.{Card}
 use Rattle.tsc.specs.Constants.{mostWords}
 use Rattle.tsc.specs.Coverage.{IsState}
-use Rattle.card_format.specs.Refusals.{firstOf, NoneApplies}
+use Rattle.refusals.specs.Refusals.{firstOf, NoneApplies}
 use Rattle.card_format.specs.Reading.{cardOf}
 use Rattle.card_format.specs.Verdict.{cardChecks, verdict}
-use Rattle.card_format.proofs.Refusals.{first-none, none-first, first-append, first-left, none-left, none-right}
+use Rattle.refusals.proofs.Refusals.{first-none, none-first, first-append, first-left, none-left, none-right}
 use Rattle.generator.specs.declared.call.Opened.{Opened}
 use Rattle.stepping.specs.State.{used, Holds, holding}
-use Rattle.generator.specs.Calls.{stateChecks, refusalFor, unlessRefused, opened, refusedWith, opening}
+use Rattle.generator.specs.Calls.{stateChecks, refusalFor, unlessRefused, opened, refusedOpening, opening}
 use Rattle.card_format.proofs.Lists.{take-filled}
 
 module _ (bytes xs : List ℕ) where
@@ -53,7 +53,7 @@ module _ (bytes xs : List ℕ) where
         (simp (every-of (length xs) (λ k. ltb (getD xs k 0) (2 ^ n)) (λ k l. lt-ltb (getD xs k 0) (2 ^ n) (sx .1 k (omega (arith, sx .0))))), tt),
       )
 
-  pub opening-refused : (r : ℕ) → r ≢ 0 → r ≡ refusalFor bytes xs → refusedWith r ≡ opening bytes xs
+  pub opening-refused : (r : ℕ) → r ≢ 0 → r ≡ refusalFor bytes xs → refusedOpening r ≡ opening bytes xs
   unfolding opening
   opening-refused r ne e = rw (sym e) (simp (ne-eqb r 0 ne))
 

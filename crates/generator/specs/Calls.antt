@@ -10,7 +10,7 @@ use Rattle.tsc.specs.declared.Card.{Card}
 use Rattle.tsc.specs.Coverage.{IsState, stepBack}
 use Rattle.tsc.specs.Step.{step}
 use Rattle.tsc.specs.Word.{word}
-use Rattle.card_format.specs.Refusals.{Check, check, firstOf, wordCount, wordTooWide}
+use Rattle.refusals.specs.Refusals.{Check, check, firstOf, wordCount, wordTooWide}
 use Rattle.card_format.specs.Reading.{cardOf, noCard}
 use Rattle.card_format.specs.Verdict.{cardChecks}
 use Rattle.generator.specs.declared.call.Opened.{Opened}
@@ -54,8 +54,8 @@ drawing bytes xs = cond (eqb (refusalFor bytes xs) 0) (Word (word (cardOf bytes)
 abbrev pub opened : Card → List ℕ → Opened
 opened card xs = record { refusal = 0; card = card; state = holding xs }
 
-abbrev pub refusedWith : ℕ → Opened
-refusedWith r = record { refusal = r; card = noCard; state = holding [] }
+abbrev pub refusedOpening : ℕ → Opened
+refusedOpening r = record { refusal = r; card = noCard; state = holding [] }
 
 unfoldable pub opening : List ℕ → List ℕ → Opened
-opening bytes xs = cond (eqb (refusalFor bytes xs) 0) (opened (cardOf bytes) xs) (refusedWith (refusalFor bytes xs))
+opening bytes xs = cond (eqb (refusalFor bytes xs) 0) (opened (cardOf bytes) xs) (refusedOpening (refusalFor bytes xs))

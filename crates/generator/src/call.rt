@@ -9,7 +9,7 @@ ghost use Rattle.card_format.specs.Reading.{cardOf};
 ghost use Rattle.card_format.specs.Verdict.{Accepted};
 ghost use Rattle.stepping.specs.State.{used, Holds};
 ghost use Rattle.generator.specs.declared.Draw.the-variants.{Word};
-ghost use Rattle.generator.specs.Calls.{refusalFor, refusedWith, opening, stepped, steppedBack, drawing, OnlyBefore};
+ghost use Rattle.generator.specs.Calls.{refusalFor, refusedOpening, opening, stepped, steppedBack, drawing, OnlyBefore};
 use super::Draw;
 use super::lent;
 use card::check;
@@ -30,7 +30,7 @@ pub struct Opened {
 
 // A refusal, with a card that no check accepts and a state of zeros.
 fn refused(number: u8) -> Opened
-    ensures { λ r. ⌜ r ≡ refusedWith number ⌝ }
+    ensures { λ r. ⌜ r ≡ refusedOpening number ⌝ }
 {
     let none = read::refused(number);
     let card = none.card;

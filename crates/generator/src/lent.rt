@@ -3,11 +3,10 @@ ghost use mathlib.Core.Path.{_≡_};
 ghost use Prim.Native.Nat.{_≤_};
 ghost use lib.ListN.{length, take};
 ghost use Rattle.tsc.specs.Constants.{mostWords};
-ghost use Rattle.card_format.specs.Refusals.{firstOf};
+ghost use Rattle.refusals.specs.Refusals.{firstOf};
 ghost use Rattle.stepping.specs.State.{holding};
 ghost use Rattle.generator.specs.Calls.{stateChecks};
 use card_fields::field;
-use card_format::refusal;
 use tsc::Card;
 use tsc::MOST_WORDS;
 use tsc::State;
@@ -17,13 +16,13 @@ pub fn state_refusal(card: Card, state: &[u32]) -> u8
     ensures { λ r. ⌜ r ≡ firstOf (stateChecks card (now (state .entry))) ⌝ }
 {
     if state.len() != card.words as usize {
-        return refusal::WORD_COUNT;
+        return refusals::WORD_COUNT;
     }
     let n = card.width as u32;
     let mut k = 0;
     while k < state.len() {
         if field::exceeds(state[k], n) {
-            return refusal::WORD_TOO_WIDE;
+            return refusals::WORD_TOO_WIDE;
         }
         k += 1;
     }

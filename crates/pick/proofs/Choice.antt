@@ -13,15 +13,15 @@ use Rattle.tsc.specs.Step.{step}
 use Rattle.tsc.specs.Word.{word}
 use Rattle.tsc.specs.Coverage.{IsState}
 use Rattle.tsc.proofs.Onto.{draw-onto}
-use Rattle.card_format.specs.Refusals.{Check, firstOf}
+use Rattle.refusals.specs.Refusals.{Check, firstOf}
 use Rattle.card_format.specs.Reading.{cardOf}
 use Rattle.card_format.proofs.Verdict.{accepted-card}
 use Rattle.generator.proofs.Opening.{passed, passes}
 use Rattle.generator.specs.Calls.{callChecks}
-use Rattle.ties.specs.Ties.{mostShovels, isTie, ties, rank, chosen}
+use Rattle.ties.specs.Ties.{mostShovels, isTie, ties, rank, TieAt, chosen}
 use Rattle.ties.specs.Order.{Permutes, reordered, SameShovels}
 use Rattle.ties.proofs.Least.{ties-some, ties-le}
-use Rattle.ties.proofs.Rank.{TieAt, rank-lt, tie-of-rank, chosen-is}
+use Rattle.ties.proofs.Rank.{rank-lt, tie-of-rank, chosen-is}
 use Rattle.ties.proofs.Order.{length-reordered, ties-reordered, chosen-reordered, twice-reordered}
 use Rattle.tie_list.specs.Checks.{listChecks}
 use Rattle.tie_list.proofs.Allowed.{Allowed}
@@ -51,7 +51,7 @@ module _ (bytes xs shovels times : List ℕ) (none : pickRefusal bytes xs shovel
   pub pick-chooses : (i : ℕ) × TieAt shovels times (drawnRank (cardOf bytes) xs (ties times)) i × (picking bytes xs shovels times ≡ Shovel (getD shovels i 0) (ties times))
   pick-chooses =
       let r : ℕ = drawnRank (cardOf bytes) xs (ties times) in
-      let t = tie-of-rank shovels times (allowed .once) (allowed .even) r (drawn-rank-lt (cardOf bytes) xs (ties times) (ties-from-one .0)) in
+      let t = tie-of-rank shovels times (allowed .once) (allowed .paired) r (drawn-rank-lt (cardOf bytes) xs (ties times) (ties-from-one .0)) in
       (t .0, t .1, sym (picking-chosen bytes xs shovels times none _ _ _ (sym (chosen-is shovels times r (t .0) (t .1))) refl refl .0))
 
   -- where there are no more ties than words, every tie is chosen from some state
@@ -70,7 +70,7 @@ module _ (bytes xs shovels times : List ℕ) (none : pickRefusal bytes xs shovel
         d .0,
         d .1,
         sym (picking-chosen bytes (d .0) shovels times clear _ _ _
-            (sym (ap (chosen shovels times) (drawn k (d .0) r lt (d .2)) ∙ chosen-is shovels times r i (record { place = l; tie = t; ranked = refl }))) refl refl .0),
+            (sym (ap (chosen shovels times) (drawn k (d .0) r lt (d .2)) ∙ chosen-is shovels times r i (record { listed = l; tie = t; ranked = refl }))) refl refl .0),
       )
     where
       drawn : (k : ℕ) (ys : List ℕ) (r : ℕ) → r < k → word (cardOf bytes) (step (cardOf bytes) ys) ≡ r → drawnRank (cardOf bytes) ys k ≡ r
@@ -105,11 +105,11 @@ module _ (f : ℕ → ℕ) (shovels times : List ℕ) (s : Permutes (length shov
             × (picked bytes xs (reordered f shovels) (reordered f times) ≡ picked bytes xs shovels times)
         go (yes z) =
             let ok = pick-passed bytes xs shovels times z .1 in
-            let p = subst (λ (n : ℕ). Permutes n f) (ok .even) s in
+            let p = subst (λ (n : ℕ). Permutes n f) (ok .paired) s in
             let card = cardOf bytes in
             let k : ℕ = ties times in
             let e = sym (ties-reordered f times p) in
-            let same = chosen-reordered f times p shovels (ok .even) (ok .once) (drawnRank card xs k) (drawn-rank-lt card xs k (ties-some times (ok .some))) in
+            let same = chosen-reordered f times p shovels (ok .paired) (ok .once) (drawnRank card xs k) (drawn-rank-lt card xs k (ties-some times (ok .some))) in
             let a = picking-chosen bytes xs (reordered f shovels) (reordered f times) (refusal-reordered ∙ z) _ k (drawnState card xs k)
             (sym same ∙ ap (λ (k : ℕ). chosen (reordered f shovels) (reordered f times) (drawnRank card xs k)) e) e (ap (drawnState card xs) e) in
             let b = picking-chosen bytes xs shovels times z _ k _ refl refl refl in

@@ -5,9 +5,9 @@ use mathlib.Core.List.{List}
 use Prim.Native.Nat.{ℕ}
 use native.Mathlib.Decide.{ℕ-discrete}
 use borrow.Author.Tests.{ne-eqb}
-use Rattle.card_format.specs.Refusals.{firstOf}
+use Rattle.refusals.specs.Refusals.{firstOf}
 use Rattle.card_format.specs.Reading.{cardOf}
-use Rattle.card_format.proofs.Refusals.{none-first, first-append, first-left}
+use Rattle.refusals.proofs.Refusals.{none-first, first-append, first-left}
 use Rattle.generator.specs.Calls.{callChecks, refusalFor}
 use Rattle.ties.specs.Ties.{ties, chosen}
 use Rattle.tie_list.specs.Checks.{listChecks}

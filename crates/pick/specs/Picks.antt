@@ -6,7 +6,7 @@ use lib.Dec.{eqb}
 use Rattle.tsc.specs.declared.Card.{Card}
 use Rattle.tsc.specs.Step.{step}
 use Rattle.tsc.specs.Word.{word}
-use Rattle.card_format.specs.Refusals.{firstOf}
+use Rattle.refusals.specs.Refusals.{firstOf}
 use Rattle.card_format.specs.Reading.{cardOf}
 use Rattle.generator.specs.Calls.{callChecks}
 use Rattle.ties.specs.Ties.{ties, chosen}

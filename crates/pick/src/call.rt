@@ -49,7 +49,7 @@ pub fn pick(card: &[u8], state: &mut [u32], shovels: &[u16], times: &[u32]) -> P
     let k = time::ties_of(times, least);
     let values = begun.card;
     let held = begun.state;
-    let place = drawn_rank(values, held, k as u32, state);
-    let number = rank::chosen_by(shovels, times, least, place as usize);
+    let drawn = drawn_rank(values, held, k as u32, state);
+    let number = rank::chosen_by(shovels, times, least, drawn as usize);
     Pick::Shovel(number, k as u8)
 }

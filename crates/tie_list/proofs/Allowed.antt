@@ -6,13 +6,13 @@ use Prim.Native.Nat.{ℕ, _≤_, _<_}
 use native.Mathlib.Omega.{arith}
 use borrow.Author.Tests.{eqb-true, eqb-false, ltb-false, not-false}
 use lib.ListN.{length}
-use Rattle.card_format.specs.Refusals.{firstOf, NoneApplies}
-use Rattle.card_format.proofs.Refusals.{none-first}
+use Rattle.refusals.specs.Refusals.{firstOf, NoneApplies}
+use Rattle.refusals.proofs.Refusals.{none-first}
 use Rattle.ties.specs.Ties.{mostShovels, twice}
 use Rattle.tie_list.specs.Checks.{listChecks}
 
 pub record Allowed (shovels times : List ℕ) : Type 0 where
-  pub even : length shovels ≡ length times
+  pub paired : length shovels ≡ length times
   pub some : 0 < length times
   pub few : length times ≤ mostShovels
   pub once : twice shovels ≡ false
@@ -23,7 +23,7 @@ list-allowed shovels times z =
     let h = none-first (listChecks shovels times) z in
     let e = eqb-true (length shovels) (length times) (not-false _ (h .0)) in
     record {
-      even = e;
+      paired = e;
       some = omega (arith, eqb-false (length shovels) 0 (h .1 .0));
       few = omega (arith, ltb-false mostShovels (length shovels) (h .1 .1 .0));
       once = h .1 .1 .1 .0;

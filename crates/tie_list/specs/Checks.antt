@@ -4,7 +4,7 @@ use mathlib.Core.List.{List, [], _∷_}
 use Prim.Native.Nat.{ℕ}
 use lib.Dec.{eqb, ltb}
 use lib.ListN.{length}
-use Rattle.card_format.specs.Refusals.{Check, check, lengthMismatch, noShovel, tooManyShovels, duplicateShovel}
+use Rattle.refusals.specs.Refusals.{Check, check, lengthMismatch, noShovel, tooManyShovels, duplicateShovel}
 use Rattle.ties.specs.Ties.{mostShovels, twice}
 
 unfoldable pub listChecks : List ℕ → List ℕ → List Check

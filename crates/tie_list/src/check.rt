@@ -2,12 +2,11 @@
 ghost use mathlib.Core.Path.{_≡_};
 ghost use Prim.Native.Nat.{_<_};
 ghost use lib.ListN.{length};
-ghost use Rattle.card_format.specs.Refusals.{firstOf};
+ghost use Rattle.refusals.specs.Refusals.{firstOf};
 ghost use Rattle.ties.specs.Ties.{twice};
 ghost use Rattle.tie_list.specs.Checks.{listChecks};
-ghost use Rattle.tie_list.specs.Steps.{repeatsAt};
+ghost use Rattle.tie_list.specs.Listed.{repeatsAt};
 use super::MOST_SHOVELS;
-use card_format::refusal;
 
 // Whether number i stands before i as well; looked for at every distance d back from i.
 fn repeats_at(shovels: &[u16], i: usize) -> bool
@@ -44,16 +43,16 @@ pub fn list_refusal(shovels: &[u16], times: &[u32]) -> u8
     ensures { λ r. ⌜ r ≡ firstOf (listChecks (now (shovels .entry)) (now (times .entry))) ⌝ }
 {
     if shovels.len() != times.len() {
-        return refusal::LENGTH_MISMATCH;
+        return refusals::LENGTH_MISMATCH;
     }
     if shovels.len() == 0 {
-        return refusal::NO_SHOVEL;
+        return refusals::NO_SHOVEL;
     }
     if MOST_SHOVELS < shovels.len() {
-        return refusal::TOO_MANY_SHOVELS;
+        return refusals::TOO_MANY_SHOVELS;
     }
     if repeated(shovels) {
-        return refusal::DUPLICATE_SHOVEL;
+        return refusals::DUPLICATE_SHOVEL;
     }
     0
 }

@@ -9,14 +9,14 @@ use borrow.Author.Tests.{lt-ltb, le-ltb}
 use Rattle.tsc.specs.declared.Card.{Card}
 use Rattle.tsc.specs.Constants.{mostWords}
 use Rattle.card_format.specs.declared.Written.the-variants.{Refused}
-use Rattle.card_format.specs.Refusals.{number, outOfRange}
+use Rattle.refusals.specs.Refusals.{outOfRange}
 use Rattle.card_format.specs.Reading.{padded}
 use Rattle.card_format.specs.Writing.{writing, pageAfter}
 use Rattle.tiedraw.specs.Answers.{writtenLength, writtenFrom, pageFrom}
 
 module _ (card : Card) (page : List ℕ) where
   -- an overlong table: refusal 2, and the page as it was
-  pub overlong-refused : 2 ^ mostWords < length (card .table) → (writtenLength (Refused (number outOfRange)) ≡ writtenFrom card (length page)) × (page ≡ pageFrom card page)
+  pub overlong-refused : 2 ^ mostWords < length (card .table) → (writtenLength (Refused (outOfRange .number)) ≡ writtenFrom card (length page)) × (page ≡ pageFrom card page)
   unfolding writtenFrom pageFrom
   overlong-refused long = rw (lt-ltb (2 ^ mostWords) (length (card .table)) long) (refl, refl)
 

@@ -12,7 +12,7 @@ use borrow.Author.Tests.{eq-eqb, ne-eqb}
 use Rattle.tsc.specs.declared.Card.{Card}
 use Rattle.card_format.specs.declared.Written.{Written}
 use Rattle.card_format.specs.declared.Written.the-variants.{Refused}
-use Rattle.card_format.specs.Refusals.{number, firstOf, outOfRange}
+use Rattle.refusals.specs.Refusals.{firstOf, outOfRange}
 use Rattle.card_format.specs.Writing.{writeChecks, writing, pageAfter}
 use Rattle.card_format.proofs.Writing.{writing-refused}
 use Rattle.generator.specs.declared.Draw.{Draw}
@@ -62,11 +62,11 @@ module _ (card : Card) (page : List ℕ) where
   unfolding writing
   writing-told = told (λ (w : Written). writtenLength w .refusal) (firstOf (writeChecks card (length page))) _ _ refl refl
 
-  pub write-told : writtenFrom card (length page) .refusal ≡ cond (overlong card) (number outOfRange) (firstOf (writeChecks card (length page)))
+  pub write-told : writtenFrom card (length page) .refusal ≡ cond (overlong card) (outOfRange .number) (firstOf (writeChecks card (length page)))
   unfolding writtenFrom
   write-told = go (overlong card)
     where
-      go : (b : Bool) → writtenLength (cond b (Refused (number outOfRange)) (writing card (length page))) .refusal ≡ cond b (number outOfRange) (firstOf (writeChecks card (length page)))
+      go : (b : Bool) → writtenLength (cond b (Refused (outOfRange .number)) (writing card (length page))) .refusal ≡ cond b (outOfRange .number) (firstOf (writeChecks card (length page)))
       go true = refl
       go false = writing-told
 
@@ -74,7 +74,7 @@ module _ (card : Card) (page : List ℕ) where
   unfolding writtenFrom pageFrom
   write-refused = go (overlong card)
     where
-      go : (b : Bool) → let w = writtenLength (cond b (Refused (number outOfRange)) (writing card (length page))) in w .refusal ≢ 0 → (w .length ≡ 0) × (cond b page (pageAfter card page) ≡ page)
+      go : (b : Bool) → let w = writtenLength (cond b (Refused (outOfRange .number)) (writing card (length page))) in w .refusal ≢ 0 → (w .length ≡ 0) × (cond b page (pageAfter card page) ≡ page)
       go true ne = (refl, refl)
       go false ne =
           let w = writing-refused card page _ (λ z. ne (writing-told ∙ z)) refl in

@@ -8,7 +8,7 @@ use Rattle.tsc.specs.declared.Card.{Card}
 use Rattle.tsc.specs.Constants.{mostWords}
 use Rattle.card_format.specs.declared.Written.{Written}
 use Rattle.card_format.specs.declared.Written.the-variants.{Length, Refused}
-use Rattle.card_format.specs.Refusals.{number, outOfRange}
+use Rattle.refusals.specs.Refusals.{outOfRange}
 use Rattle.card_format.specs.Reading.{padded}
 use Rattle.card_format.specs.Writing.{writing, pageAfter}
 use Rattle.generator.specs.declared.Draw.{Draw}
@@ -53,7 +53,7 @@ overlong card = ltb (2 ^ mostWords) (length (card .table))
 
 -- what is answered for these values and a page of `room` bytes: an overlong table is refused by 2
 unfoldable pub writtenFrom : Card → ℕ → WrittenLength
-writtenFrom card room = writtenLength (cond (overlong card) (Refused (number outOfRange)) (writing card room))
+writtenFrom card room = writtenLength (cond (overlong card) (Refused (outOfRange .number)) (writing card room))
 
 -- the page after the call
 unfoldable pub pageFrom : Card → List ℕ → List ℕ

@@ -1,12 +1,10 @@
 // The calls for C and whatever can call C (include/tiedraw.h): thin, under their plain names. A slice is a pointer and a length there.
 ghost use mathlib.Core.Path.{_≡_};
-ghost use mathlib.Core.Logic.{_↔_};
-ghost use mathlib.Core.List.{List};
 ghost use Prim.Native.Nat.{ℕ, _^_, _<_};
 ghost use lib.ListN.{length};
-ghost use Rattle.tsc.specs.Coverage.{IsState, Covers, stepBack};
-ghost use Rattle.card_format.specs.Reading.{cardOf, SoundForm};
-ghost use Rattle.card_format.specs.Verdict.{verdict};
+ghost use Rattle.tsc.specs.Coverage.{IsState, stepBack};
+ghost use Rattle.card_format.specs.Reading.{cardOf};
+ghost use Rattle.card_format.specs.Verdict.{verdict, ZeroIffCovers};
 ghost use Rattle.card_format.specs.Writing.{writing, pageAfter};
 ghost use Rattle.generator.specs.Calls.{refusalFor, stepped, steppedBack, drawing, OnlyBefore};
 ghost use Rattle.pick.specs.Picks.{picking, picked};
@@ -14,7 +12,6 @@ ghost use Rattle.tiedraw.specs.Answers.{drawn, choice, writtenLength, gi
 use card::check;
 use card_fields::table;
 use card_format::Written;
-use card_format::refusal;
 use card_write::write;
 use generator::Draw;
 use generator::call;
@@ -48,7 +45,7 @@ pub struct WrittenLength {
 #[no_mangle]
 pub extern "C" fn tiedraw_check(card: &[u8]) -> u8
     ensures told { λ r. ⌜ r ≡ verdict (now (card .entry)) ⌝ }
-    ensures covers { λ r. ⌜ (SoundForm (now (card .entry)) → (start : List ℕ) → IsState (cardOf (now (card .entry))) start → (r ≡ 0) ↔ Covers (cardOf (now (card .entry))) start) ⌝ }
+    ensures covers { λ r. ⌜ ZeroIffCovers (now (card .entry)) r ⌝ }
 {
     check::check(card)
 }
@@ -153,7 +150,7 @@ pub extern "C" fn tiedraw_write(
     if TABLE_SIZE < table.len() {
         return WrittenLength {
             length: 0,
-            refusal: refusal::OUT_OF_RANGE,
+            refusal: refusals::OUT_OF_RANGE,
         };
     }
     let card = Card {

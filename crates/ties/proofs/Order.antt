@@ -11,9 +11,9 @@ use Rattle.cycle.proofs.Every.{every-at, every-of}
 use Rattle.cycle.proofs.Count.{same-test, count-ext}
 use Rattle.cycle.proofs.Pigeonhole.{sum-permute}
 use Rattle.cycle.proofs.Digits.{length-tabulate, getD-tabulate}
-use Rattle.ties.specs.Ties.{isTie, ties, rank, chosen, occurs, twice}
+use Rattle.ties.specs.Ties.{isTie, ties, rank, TieAt, chosen, occurs, twice}
 use Rattle.ties.specs.Order.{Permutes, reordered}
-use Rattle.ties.proofs.Rank.{TieAt, tie-of-rank, chosen-is}
+use Rattle.ties.proofs.Rank.{tie-of-rank, chosen-is}
 
 count-permute : (n : ℕ) (f : ℕ → ℕ) (p q : ℕ → Bool) → Permutes n f → ((i : ℕ) → i < n → p i ≡ q (f i)) → count n p ≡ count n q
 unfolding count
@@ -59,7 +59,7 @@ module _ (f : ℕ → ℕ) (times : List ℕ) (s : Permutes (length times) f) wh
     tie-forth : (r i : ℕ) → i < length times → TieAt shovels times r (f i) → TieAt (reordered f shovels) (reordered f times) r i
     tie-forth r i l a =
         record {
-          place = omega (arith, length-reordered f times);
+          listed = omega (arith, length-reordered f times);
           tie = tie-reordered i l ∙ a .tie;
           ranked = rank-reordered (getD (reordered f shovels) i 0) ∙ ap (rank shovels times) (number-reordered i l) ∙ a .ranked;
         }
@@ -67,7 +67,7 @@ module _ (f : ℕ → ℕ) (times : List ℕ) (s : Permutes (length times) f) wh
     pub chosen-reordered : twice shovels ≡ false → (r : ℕ) → r < ties times → chosen (reordered f shovels) (reordered f times) r ≡ chosen shovels times r
     chosen-reordered d r l =
         let a = tie-of-rank shovels times d e r l in
-        let o = s .onto (a .0) (a .1 .place) in
+        let o = s .onto (a .0) (a .1 .listed) in
         let here : TieAt shovels times r (f (o .0)) = subst (TieAt shovels times r) (sym (o .2)) (a .1) in
         chosen-is (reordered f shovels) (reordered f times) r (o .0) (tie-forth r (o .0) (o .1) here) ∙ number-reordered (o .0) (o .1)
         ∙ sym (chosen-is shovels times r (f (o .0)) here)

@@ -1,7 +1,8 @@
 -- The shovels with the least time and their ranks (document 01, Step, word and pick). Entry i of a list is shovel i's number, or its time.
-use mathlib.Core.Bool.{Bool, cond, not, _&&_}
+use mathlib.Core.Path.{_≡_}
+use mathlib.Core.Bool.{Bool, true, cond, not, _&&_}
 use mathlib.Core.List.{List}
-use Prim.Native.Nat.{ℕ, zero, suc}
+use Prim.Native.Nat.{ℕ, zero, suc, _<_}
 use lib.Dec.{eqb, leb, ltb}
 use lib.ListN.{length, getD}
 use Rattle.cycle.specs.Notation.{every, count}
@@ -27,7 +28,13 @@ ties times = count (length times) (isTie times)
 unfoldable pub rank : List ℕ → List ℕ → ℕ → ℕ
 rank shovels times x = count (length times) (λ i. isTie times i && ltb (getD shovels i 0) x)
 
--- whether shovel i is the tie of rank r
+-- shovel i is a tie, and its rank is r
+pub record TieAt (shovels times : List ℕ) (r i : ℕ) : Type 0 where
+  pub listed : i < length times
+  pub tie : isTie times i ≡ true
+  pub ranked : rank shovels times (getD shovels i 0) ≡ r
+
+-- the same as a test
 unfoldable pub hasRank : List ℕ → List ℕ → ℕ → ℕ → Bool
 hasRank shovels times r i = isTie times i && eqb (rank shovels times (getD shovels i 0)) r
 

@@ -55,15 +55,15 @@ module _ (n x k : ℕ) (pos : 0 < n) (lx : x < 2 ^ n) where
 
       go : Dec (i < d) → bit ((i + r) % n) (L * 2 ^ r + x / 2 ^ d) ≡ bit i x
       go (yes below) =
-          let place : (i + r) % n ≡ r + i = mod-eq-of-lt (omega (arith, split)) ∙ add-comm i r in
-          ap (λ (a : ℕ). bit a (L * 2 ^ r + x / 2 ^ d)) place ∙ ap (λ (a : ℕ). a % 2) (sym (shr-shr (L * 2 ^ r + x / 2 ^ d) r i))
+          let moved : (i + r) % n ≡ r + i = mod-eq-of-lt (omega (arith, split)) ∙ add-comm i r in
+          ap (λ (a : ℕ). bit a (L * 2 ^ r + x / 2 ^ d)) moved ∙ ap (λ (a : ℕ). a % 2) (sym (shr-shr (L * 2 ^ r + x / 2 ^ d) r i))
           ∙ ap (λ (a : ℕ). a / 2 ^ i % 2) (high L r top-lt) ∙ bit-mod d i x below
       go (no above) =
           let j : ℕ = i - d in
           let jn : i + r ≡ j + n = omega (arith, split) in
-          let place : (i + r) % n ≡ j = ap (λ (a : ℕ). a % n) jn ∙ add-mod-right j n ∙ mod-eq-of-lt (omega arith) in
+          let moved : (i + r) % n ≡ j = ap (λ (a : ℕ). a % n) jn ∙ add-mod-right j n ∙ mod-eq-of-lt (omega arith) in
           let ji : d + j ≡ i = omega arith in
-          ap (λ (a : ℕ). bit a (L * 2 ^ r + x / 2 ^ d)) place ∙ sym (bit-mod r j (L * 2 ^ r + x / 2 ^ d) (omega (arith, split)))
+          ap (λ (a : ℕ). bit a (L * 2 ^ r + x / 2 ^ d)) moved ∙ sym (bit-mod r j (L * 2 ^ r + x / 2 ^ d) (omega (arith, split)))
           ∙ ap (bit j) (low L r top-lt) ∙ ap (λ (a : ℕ). a % 2) (shr-shr x d j) ∙ ap (λ (a : ℕ). bit a x) ji
 
 pub word-lt : (card : Card) (xs : List ℕ) → word card xs < 2 ^ card .width

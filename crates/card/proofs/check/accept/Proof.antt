@@ -4,7 +4,7 @@ use Rattle.tsc.specs.Constants.{mostWords}
 use Rattle.tsc.specs.declared.Card.{Card}
 use Rattle.tsc.specs.Coverage.{WellFormed}
 use Rattle.card_format.specs.declared.Reading.{Reading}
-use Rattle.card_format.specs.Refusals.{firstOf}
+use Rattle.refusals.specs.Refusals.{firstOf}
 use Rattle.card_format.specs.Reading.{cardOf, reading, answering}
 use Rattle.card_format.specs.Verdict.{periodChecks, verdict, accepting}
 use Rattle.card_format.proofs.Sound.{sound-card}

@@ -7,7 +7,7 @@ use lib.Dec.{eqb}
 use lib.Pow.{pow-pos}
 use Rattle.cycle.specs.Cycle.{firstReturn}
 use Rattle.tsc.specs.Step.{entry}
-use Rattle.card_format.specs.Refusals.{firstOf}
+use Rattle.refusals.specs.Refusals.{firstOf}
 use Rattle.card_format.specs.Verdict.{periodChecks}
 use Rattle.card_format.proofs.Fields.{few-entries}
 use Rattle.card.proofs.check.period_refusal.Statement.{statement}

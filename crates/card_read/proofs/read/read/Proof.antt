@@ -8,11 +8,11 @@ use lib.ListN.{length, getD, take, drop}
 use Rattle.card_read.specs.declared.read.Values.{Values}
 use Rattle.card_format.specs.declared.Reading.{Reading}
 use Rattle.tsc.specs.declared.Card.{Card}
-use Rattle.card_format.specs.Refusals.{firstOf}
+use Rattle.refusals.specs.Refusals.{firstOf}
 use Rattle.card_format.specs.Reading.{formChecks}
-use Rattle.card_read.specs.Steps.{fieldRead}
+use Rattle.card_read.specs.FieldRead.{fieldRead}
 use Rattle.card_format.proofs.Lists.{part-rest}
-use Rattle.card_format.proofs.Refusals.{none-first}
+use Rattle.refusals.proofs.Refusals.{none-first}
 use Rattle.card_read.proofs.Map.{lowest-one, left-all, ones-none, ones-some}
 use Rattle.card_read.proofs.Reader.{Reached, Rest, reached-map, rest-gap, rest-reached, rest-here, rest-next, rest-refused, words-few, told-end, told-empty, card-read, reading-refused, reading-accepted, byte-values}
 use Rattle.card_read.proofs.read.read.Statement.{statement}
@@ -144,7 +144,7 @@ loop-again c =
           (sym (c .before .before .before .before .table-missing .ensures) ∙ c .before .before .before .if2 .left)
           (whole bytes (trailingZeros 8 (l .left)) (l .at) (l .v) _ (c .before .read-field .ensures .0)) (c .if3 .left),
       omega (arith, low .count, l .inv .1),
-      omega (arith, low .place),
+      omega (arith, low .within),
       omega arith,
     )
 

@@ -10,13 +10,13 @@ use lib.Dec.{eqb}
 use lib.ListN.{length, getD, set}
 use Rattle.card_fields.specs.declared.number.Number.the-variants.{Value, Refused}
 use Rattle.card_read.specs.declared.read.Values.{Values}
-use Rattle.card_format.specs.Refusals.{firstOf}
+use Rattle.refusals.specs.Refusals.{firstOf}
 use Rattle.card_format.specs.Fields.{Field, field, tableBit, extent}
 use Rattle.card_format.specs.Reading.{partChecks}
-use Rattle.card_read.specs.Steps.{refusedAt, fieldRead}
+use Rattle.card_read.specs.FieldRead.{refusedAt, fieldRead}
 use Rattle.card_format.proofs.Fields.{sizes, numeric, field-fixed}
 use Rattle.card_fields.proofs.Answer.{answered}
-use Rattle.card_read.proofs.Steps.{used-fits, field-refused}
+use Rattle.card_read.proofs.FieldRead.{used-fits, field-refused}
 use Rattle.card_read.proofs.read.read_field.Statement.{statement}
 use Rattle.card_read.proofs.read.read_field.Tie as tie
 

@@ -10,13 +10,13 @@ use native.Mathlib.Omega.{arith}
 use borrow.Author.Tests.{not-true, not-false}
 use lib.ListN.{length, getD, take}
 use Rattle.card_read.specs.declared.read.Values.{Values}
-use Rattle.card_format.specs.Refusals.{firstOf}
+use Rattle.refusals.specs.Refusals.{firstOf}
 use Rattle.card_format.specs.Fields.{field, fields, tableBit, numbers, allowed}
 use Rattle.card_format.specs.Reading.{partChecks, padded}
-use Rattle.card_read.specs.Steps.{fieldRead}
+use Rattle.card_read.specs.FieldRead.{fieldRead}
 use Rattle.card_format.proofs.Fields.{few-entries, numbers-table, table-short, table-refusal}
 use borrow.Author.Needs.{needs}
-use Rattle.card_read.proofs.Steps.{field-refused}
+use Rattle.card_read.proofs.FieldRead.{field-refused}
 use Rattle.card_read.proofs.read.read_table.Statement.{statement}
 use Rattle.card_read.proofs.read.read_table.Tie as tie
 

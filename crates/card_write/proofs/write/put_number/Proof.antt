@@ -7,7 +7,7 @@ use native.Mathlib.Omega.{arith}
 use lib.ListN.{length, getD, set, drop}
 use lib.Seq.{take-all}
 use Rattle.cycle.proofs.Digits.{length-tabulate, getD-tabulate}
-use Rattle.card_write.specs.Steps.{lowBytes}
+use Rattle.card_write.specs.LowBytes.{lowBytes}
 use Rattle.card_format.proofs.Lists.{over, over-suc, length-over}
 use Rattle.card_write.proofs.write.put_number.Statement.{statement}
 use Rattle.card_write.proofs.write.put_number.Tie as tie

@@ -4,7 +4,7 @@ use mathlib.Core.Path.{_≡_, sym, _∙_}
 use borrow.Author.Tests.{not-true, not-false}
 use lib.ListN.{length}
 use Rattle.tsc.specs.Constants.{mostWords}
-use Rattle.card_format.specs.Refusals.{firstOf}
+use Rattle.refusals.specs.Refusals.{firstOf}
 use Rattle.card_format.specs.Writing.{valueChecks}
 use Rattle.card_format.proofs.Writing.{range-formed}
 use borrow.Author.Needs.{needs}

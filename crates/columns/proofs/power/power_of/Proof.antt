@@ -23,15 +23,15 @@ cast-m c = omega arith
 reduce-requires : tie.Need-reduce-requires Inv-loop μ-loop
 reduce-requires c κs = (omega (arith, c .pre .0 .words), omega (arith, c .pre .1))
 
-place-requires : tie.Need-place-requires Inv-loop μ-loop
-place-requires c κs = (c .before .pre .0, c .before .pre .1)
+entry-after-requires : tie.Need-entry-after-requires Inv-loop μ-loop
+entry-after-requires c κs = (c .before .pre .0, c .before .pre .1)
 
 entries-requires : tie.Need-entries-requires Inv-loop μ-loop
 entries-requires c κs = c .before .before .pre .1
 
 loop-holds : tie.Need-loop-holds Inv-loop μ-loop
 unfolding iterate
-loop-holds c = let a = c .before .before .before .args in let k = a .times in (c .entries .ensures, omega arith, refl, c .before .place .ensures ∙ ap (stands (a .t1)) (c .before .before .reduce .ensures) ∙ iterate-mod (entry (a .t1)) (2 ^ a .t1 .words) 0 (c .before .before .before .pre .2 .returns) k ∙ ap (stands (a .t1)) (sym (add-zero k)), filled-none (a .t1) k)
+loop-holds c = let a = c .before .before .before .args in let k = a .times in (c .entries .ensures, omega arith, refl, c .before .entry-after .ensures ∙ ap (stands (a .t1)) (c .before .before .reduce .ensures) ∙ iterate-mod (entry (a .t1)) (2 ^ a .t1 .words) 0 (c .before .before .before .pre .2 .returns) k ∙ ap (stands (a .t1)) (sym (add-zero k)), filled-none (a .t1) k)
 
 few-x : (c : tie.In-loop Inv-loop μ-loop) → c .before .loop .x < 16
 few-x c = let s = c .before .before .before .before .before in rw (c .before .loop .inv .2) (stands-few (s .args .t1) (s .pre .0) (s .pre .1) (c .before .loop .counter))
@@ -78,7 +78,7 @@ power-of-spec =
     μ-loop
     cast-m
     reduce-requires
-    place-requires
+    entry-after-requires
     entries-requires
     loop-holds
     cast-power

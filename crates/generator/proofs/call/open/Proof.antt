@@ -3,7 +3,7 @@ use native.Mathlib.Omega.{arith}
 use Rattle.tsc.specs.declared.Card.{Card}
 use Rattle.tsc.specs.declared.State.{State}
 use Rattle.card_format.specs.declared.Reading.{Reading}
-use Rattle.card_format.specs.Refusals.{firstOf}
+use Rattle.refusals.specs.Refusals.{firstOf}
 use Rattle.card_format.specs.Verdict.{verdict, accepting}
 use Rattle.generator.specs.declared.call.Opened.{Opened}
 use Rattle.generator.specs.Calls.{stateChecks, refusalFor}

@@ -6,7 +6,7 @@ use borrow.Author.Tests.{eq-eqb, ne-eqb, lt-ltb, le-ltb, leb-true, leb-false}
 use lib.Dec.{ltb}
 use lib.ListN.{length, getD}
 use Rattle.cycle.proofs.Every.{every-not, every-of, extend}
-use Rattle.card_format.specs.Refusals.{firstOf}
+use Rattle.refusals.specs.Refusals.{firstOf}
 use Rattle.generator.specs.Calls.{stateChecks}
 use Rattle.generator.proofs.lent.state_refusal.Statement.{statement}
 use Rattle.generator.proofs.lent.state_refusal.Tie as tie

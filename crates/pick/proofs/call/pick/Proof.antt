@@ -63,7 +63,7 @@ cast-chosen-by : tie.Need-cast-chosen-by
 cast-chosen-by c = omega arith
 
 chosen-by-requires : tie.Need-chosen-by-requires
-chosen-by-requires c κs = record { even = allowed (c .before .before .before .before .before .before .before .before) .even; least = c .before .before .before .before .before .before .before .least-time .ensures }
+chosen-by-requires c κs = record { paired = allowed (c .before .before .before .before .before .before .before .before) .paired; least = c .before .before .before .before .before .before .before .least-time .ensures }
 
 cast-t20 : tie.Need-cast-t20
 cast-t20 c = omega (arith, tied (c .before .before .before .before .before .before .before) .1)

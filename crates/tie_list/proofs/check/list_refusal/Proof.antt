@@ -1,6 +1,6 @@
 use mathlib.Core.Path.{sym, _∙_}
 use borrow.Author.Tests.{eq-eqb, ne-eqb, lt-ltb, le-ltb}
-use Rattle.card_format.specs.Refusals.{firstOf}
+use Rattle.refusals.specs.Refusals.{firstOf}
 use Rattle.tie_list.specs.Checks.{listChecks}
 use Rattle.tie_list.proofs.check.list_refusal.Statement.{statement}
 use Rattle.tie_list.proofs.check.list_refusal.Tie as tie

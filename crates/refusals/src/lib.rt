@@ -1,4 +1,4 @@
-// The refusal numbers of document 01, each with its trade word.
+// The refusal numbers of document 01, each with its trade word. Which of several is told, and the laws of that, are in specs/ and proofs/.
 
 // short
 pub const TRUNCATED: u8 = 1;

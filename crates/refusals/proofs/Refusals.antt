@@ -3,31 +3,8 @@ use mathlib.Core.Path.{_≡_, refl, _∙_}
 use mathlib.Core.Logic.{_≢_}
 use mathlib.Core.Bool.{Bool, true, false, cond}
 use mathlib.Core.List.{List, [], _∷_, _++_}
-use Prim.Native.Nat.{_<_}
 use native.Mathlib.Omega.{arith}
-use lib.Dec.{lit<}
-use Rattle.card_format.specs.Refusals.{Refusal, number, Check, firstOf, NoneApplies, truncated, outOfRange, redundant, tableMissing, trailingBytes, constantTooWide, notSingleCycle, evenConstant, powerParity, wordCount, wordTooWide, lengthMismatch, noShovel, tooManyShovels, duplicateShovel, bufferTooSmall}
-
-pub number-pos : (r : Refusal) → 0 < number r
-number-pos =
-    elim [
-      | truncated ↦ lit< tt
-      | outOfRange ↦ lit< tt
-      | redundant ↦ lit< tt
-      | tableMissing ↦ lit< tt
-      | trailingBytes ↦ lit< tt
-      | constantTooWide ↦ lit< tt
-      | notSingleCycle ↦ lit< tt
-      | evenConstant ↦ lit< tt
-      | powerParity ↦ lit< tt
-      | wordCount ↦ lit< tt
-      | wordTooWide ↦ lit< tt
-      | lengthMismatch ↦ lit< tt
-      | noShovel ↦ lit< tt
-      | tooManyShovels ↦ lit< tt
-      | duplicateShovel ↦ lit< tt
-      | bufferTooSmall ↦ lit< tt
-    ]
+use Rattle.refusals.specs.Refusals.{Check, firstOf, NoneApplies}
 
 pub first-none : (cs : List Check) → NoneApplies cs → firstOf cs ≡ 0
 unfolding firstOf NoneApplies
@@ -39,8 +16,8 @@ unfolding firstOf NoneApplies
 none-first [] e = tt
 none-first (c ∷ cs) e = go (c .applies) e (λ q. none-first cs q)
   where
-    go : (b : Bool) → cond b (number (c .refusal)) (firstOf cs) ≡ 0 → (firstOf cs ≡ 0 → NoneApplies cs) → (b ≡ false) × NoneApplies cs
-    go true q ih = absurd (omega (arith, number-pos (c .refusal)))
+    go : (b : Bool) → cond b (c .refusal .number) (firstOf cs) ≡ 0 → (firstOf cs ≡ 0 → NoneApplies cs) → (b ≡ false) × NoneApplies cs
+    go true q ih = absurd (omega (arith, c .refusal .positive))
     go false q ih = (refl, ih q)
 
 -- where none of the first list applies, the second list tells
@@ -55,8 +32,8 @@ unfolding firstOf
 first-left [] ds ne = absurd (ne refl)
 first-left (c ∷ cs) ds ne = go (c .applies) ne (first-left cs ds)
   where
-    go : (b : Bool) → cond b (number (c .refusal)) (firstOf cs) ≢ 0 → (firstOf cs ≢ 0 → firstOf (cs ++ ds) ≡ firstOf cs)
-        → cond b (number (c .refusal)) (firstOf (cs ++ ds)) ≡ cond b (number (c .refusal)) (firstOf cs)
+    go : (b : Bool) → cond b (c .refusal .number) (firstOf cs) ≢ 0 → (firstOf cs ≢ 0 → firstOf (cs ++ ds) ≡ firstOf cs)
+        → cond b (c .refusal .number) (firstOf (cs ++ ds)) ≡ cond b (c .refusal .number) (firstOf cs)
     go true q ih = refl
     go false q ih = ih q
 

@@ -5,14 +5,14 @@ use native.Mathlib.Omega.{arith}
 use Rattle.cycle.specs.Notation.{iterate}
 use Rattle.tsc.specs.Step.{entry}
 use Rattle.columns.proofs.Powers.{stands, stands-few}
-use Rattle.columns.proofs.power.place.Statement.{statement}
-use Rattle.columns.proofs.power.place.Tie as tie
+use Rattle.columns.proofs.power.entry_after.Statement.{statement}
+use Rattle.columns.proofs.power.entry_after.Tie as tie
 
 abbrev Inv-loop : tie.InvT-loop
-Inv-loop places card y₀ counter₀ y counter = (counter ≤ places) × (y ≡ stands card counter)
+Inv-loop applications card y₀ counter₀ y counter = (counter ≤ applications) × (y ≡ stands card counter)
 
 abbrev μ-loop : tie.MeasureT-loop
-μ-loop places card y₀ counter₀ y counter = places - counter
+μ-loop applications card y₀ counter₀ y counter = applications - counter
 
 loop-holds : tie.Need-loop-holds Inv-loop μ-loop
 unfolding iterate
@@ -38,10 +38,10 @@ unfolding iterate
 loop-again c = let a = c .before .before .before .args in let l = c .before .before .loop in (omega arith, ap (entry (a .t1)) (l .inv .1) ∙ ap (stands (a .t1)) (sym (add-one (l .counter))))
 
 returns : tie.Need-returns Inv-loop μ-loop
-returns c = let a = c .before .before .args in let l = c .before .loop in let e : l .counter ≡ a .places = omega arith in l .inv .1 ∙ ap (stands (a .t1)) e
+returns c = let a = c .before .before .args in let l = c .before .loop in let e : l .counter ≡ a .applications = omega arith in l .inv .1 ∙ ap (stands (a .t1)) e
 
-pub place-spec : {M : Type 1} → statement M
-place-spec =
+pub entry-after-spec : {M : Type 1} → statement M
+entry-after-spec =
     tie.close
     (tie.spec
     Inv-loop

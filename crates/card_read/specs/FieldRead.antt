@@ -5,7 +5,7 @@ use Prim.Native.Nat.{ℕ}
 use lib.Dec.{eqb, leb, ltb}
 use lib.ListN.{getD, set}
 use Rattle.card_read.specs.declared.read.Values.{Values}
-use Rattle.card_format.specs.Refusals.{firstOf}
+use Rattle.refusals.specs.Refusals.{firstOf}
 use Rattle.card_format.specs.Fields.{field, tableBit, extent, numbers}
 use Rattle.card_format.specs.Reading.{partChecks, padded}
 

@@ -1,0 +1,2 @@
+-- Laws that callers cite.
+pub mod Refusals

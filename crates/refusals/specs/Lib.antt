@@ -1,0 +1,2 @@
+-- The refusals, and which of several is told.
+pub mod Refusals
