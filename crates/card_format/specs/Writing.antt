@@ -1,4 +1,4 @@
--- What the writer writes, and its refusals (document 01, after the refusal table).
+-- What the writer writes, and its refusals (document 01, after the refusal table); and a card's bytes, read and written again.
 use mathlib.Core.Bool.{Bool, cond, not, _&&_}
 use mathlib.Core.List.{List, [], _∷_, _++_}
 use Prim.Native.Nat.{ℕ, zero, suc, _^_}
@@ -11,7 +11,7 @@ use Rattle.card_format.specs.declared.Written.the-variants.{Length, Refu
 use Rattle.refusals.specs.Refusals.{Check, check, firstOf, outOfRange, bufferTooSmall}
 use Rattle.card_format.specs.Fields.{field, bytesOf, allowed, same}
 use Rattle.card_format.specs.Reading.{constantCheck}
-use Rattle.card_format.specs.Verdict.{periodChecks}
+use Rattle.card_format.specs.Verdict.{periodChecks, cardChecks}
 
 -- the numbers of field k of a card
 unfoldable pub numbersOf : Card → ℕ → List ℕ
@@ -70,3 +70,19 @@ writing card room =
 unfoldable pub pageAfter : Card → List ℕ → List ℕ
 pageAfter card page =
     cond (eqb (firstOf (writeChecks card (length page))) 0) (written card ++ drop (length (written card)) page) page
+
+-- ---- bytes read and written again: the card itself, where it is accepted. The reader and the writer do not enter here
+
+-- 1 to 9, and 16
+unfoldable pub rewriteChecks : List ℕ → ℕ → List Check
+rewriteChecks bytes room = cardChecks bytes ++ (check bufferTooSmall (ltb room (length bytes)) ∷ [])
+
+-- what is answered for a page of `room` bytes: the length, or the refusal
+unfoldable pub rewriting : List ℕ → ℕ → Written
+rewriting bytes room =
+    let r = firstOf (rewriteChecks bytes room) in
+    cond (eqb r 0) (Length (length bytes)) (Refused r)
+
+-- the page after the call: it begins with the same bytes, and past them it is as it was; so is the whole page after a refusal
+unfoldable pub pageRewritten : List ℕ → List ℕ → List ℕ
+pageRewritten bytes page = cond (eqb (firstOf (rewriteChecks bytes (length page))) 0) (bytes ++ drop (length bytes) page) page

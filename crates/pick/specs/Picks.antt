@@ -6,7 +6,7 @@ use lib.Dec.{eqb}
 use Rattle.tsc.specs.declared.Card.{Card}
 use Rattle.tsc.specs.Step.{step}
 use Rattle.tsc.specs.Word.{word}
-use Rattle.refusals.specs.Refusals.{firstOf}
+use Rattle.refusals.specs.Refusals.{Check, firstOf}
 use Rattle.card_format.specs.Reading.{cardOf}
 use Rattle.generator.specs.Calls.{callChecks}
 use Rattle.ties.specs.Ties.{ties, chosen}
@@ -14,9 +14,13 @@ use Rattle.tie_list.specs.Checks.{listChecks}
 use Rattle.pick.specs.declared.Pick.{Pick}
 use Rattle.pick.specs.declared.Pick.the-variants.{Shovel, Refused}
 
--- the refusal that a pick tells: 1 to 9, then 10 and 11, then 12 to 15; 0 where none applies
+-- what a pick looks at: 1 to 9, then 10 and 11, then 12 to 15
+abbrev pub pickChecks : List ℕ → List ℕ → List ℕ → List ℕ → List Check
+pickChecks bytes xs shovels times = callChecks bytes xs ++ listChecks shovels times
+
+-- the refusal that it tells; 0 where none applies
 unfoldable pub pickRefusal : List ℕ → List ℕ → List ℕ → List ℕ → ℕ
-pickRefusal bytes xs shovels times = firstOf (callChecks bytes xs ++ listChecks shovels times)
+pickRefusal bytes xs shovels times = firstOf (pickChecks bytes xs shovels times)
 
 -- the rank that is chosen among k ties, and the state then: one alone has rank 0 and moves nothing; else a step is made, and its word decides
 abbrev pub drawnRank : Card → List ℕ → ℕ → ℕ

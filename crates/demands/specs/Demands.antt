@@ -1,0 +1,108 @@
+-- THE CLAIM: the user's three demands in the user's order, each part a statement. proofs/Demands.antt proves them all. What a call answers, and what it leaves
+-- in the words or the page lent to it, is by its contract what the definitions named here say, for every input.
+use mathlib.Core.Path.{_≡_}
+use mathlib.Core.Logic.{_≢_}
+use mathlib.Core.List.{List, [], _++_}
+use Prim.Native.Nat.{ℕ, suc, _≤_, _<_}
+use lib.ListN.{length, getD, drop}
+use Rattle.refusals.specs.Refusals.{Check, firstOf, NoneApplies}
+use Rattle.cycle.specs.Notation.{iterate, bit}
+use Rattle.tsc.specs.declared.Card.{Card}
+use Rattle.tsc.specs.Columns.{column}
+use Rattle.tsc.specs.Selector.{selector}
+use Rattle.tsc.specs.Step.{entry, power, step, orbit}
+use Rattle.tsc.specs.Word.{word}
+use Rattle.tsc.specs.Coverage.{IsState, stepBack}
+use Rattle.card_format.specs.declared.Written.the-variants as Written
+use Rattle.card_format.specs.Fields.{Bytes}
+use Rattle.card_format.specs.Reading.{cardOf, formChecks, refusedReading, reading}
+use Rattle.card_format.specs.Verdict.{cardChecks, verdict, ZeroIffCovers, Accepted}
+use Rattle.card_format.specs.Writing.{written, writeChecks, writing, pageAfter, rewriteChecks, rewriting, pageRewritten}
+use Rattle.generator.specs.declared.Draw.the-variants as Draw
+use Rattle.generator.specs.Calls.{callChecks, refusalFor, stepped, steppedBack, drawing, OnlyBefore}
+use Rattle.ties.specs.Ties.{ties, chosen, TieAt}
+use Rattle.ties.specs.Order.{SameShovels}
+use Rattle.pick.specs.declared.Pick.the-variants as Pick
+use Rattle.pick.specs.Picks.{pickChecks, drawnRank, drawnState, picking, picked}
+use Rattle.pick.specs.Shift.{Request, answers, stateAfter, Alike}
+
+-- ---- demand 1: whatever card, state, page or shovel list is handed over, the call ends with an answer or the paper's refusal number, and a refusal leaves
+-- state and page as lent. (That every call ends is part of its proof.)
+
+-- what a call that has these checks answers and leaves, `result`: where no check applies it is `good`; else it is the refusal of the first that applies, and
+-- what was lent as it was
+pub record ByTable {A : Type 0} (refused : ℕ → A) (checks : List Check) (lent : List ℕ) (good result : A × List ℕ) : Type 0 where
+  pub passes : NoneApplies checks → result ≡ good
+  pub refuses : firstOf checks ≢ 0 → result ≡ (refused (firstOf checks), lent)
+
+pub record AnsweredOrRefused : Type 0 where
+  pub ofCheck : (bytes : List ℕ) → ByTable (λ r. r) (cardChecks bytes) [] (0, []) (verdict bytes, [])
+  pub ofRead : (bytes : List ℕ) → ByTable refusedReading (formChecks bytes) [] (record { refusal = 0; card = cardOf bytes }, []) (reading bytes, [])
+  pub ofWrite : (card : Card) (page : List ℕ) → ByTable Written.Refused (writeChecks card (length page)) page
+      (Written.Length (length (written card)), written card ++ drop (length (written card)) page) (writing card (length page), pageAfter card page)
+  pub ofRewrite : (bytes page : List ℕ) → ByTable Written.Refused (rewriteChecks bytes (length page)) page
+      (Written.Length (length bytes), bytes ++ drop (length bytes) page) (rewriting bytes (length page), pageRewritten bytes page)
+  pub ofStep : (bytes xs : List ℕ) → ByTable (λ r. r) (callChecks bytes xs) xs (0, step (cardOf bytes) xs) (refusalFor bytes xs, stepped bytes xs)
+  pub ofStepBack : (bytes xs : List ℕ) → ByTable (λ r. r) (callChecks bytes xs) xs (0, stepBack (cardOf bytes) xs) (refusalFor bytes xs, steppedBack bytes xs)
+  pub ofDraw : (bytes xs : List ℕ) → let next = step (cardOf bytes) xs in
+      ByTable Draw.Refused (callChecks bytes xs) xs (Draw.Word (word (cardOf bytes) next), next) (drawing bytes xs, stepped bytes xs)
+  pub ofPick : (bytes xs shovels times : List ℕ) → let k = ties times in
+      ByTable Pick.Refused (pickChecks bytes xs shovels times) xs
+      (Pick.Shovel (chosen shovels times (drawnRank (cardOf bytes) xs k)) k, drawnState (cardOf bytes) xs k)
+      (picking bytes xs shovels times, picked bytes xs shovels times)
+
+-- ---- demand 2: each step and word equals the published definition, step back undoes step and step undoes step back for accepted cards, an accepted card
+-- written out again has the same bytes, a tie goes by drawn rank among the equal shovels by ascending number, so list order makes no difference
+
+-- a card that the check accepts, and a state of its size: no step, step back or draw is refused
+pub record Ready (bytes xs : List ℕ) : Type 0 where
+  pub accepted : verdict bytes ≡ 0
+  pub state : IsState (cardOf bytes) xs
+
+-- 2a. The step, column by column (document 002, 12); t calls leave state number t of the orbit (3), and the next draws the word of state number t + 1 (15, 20)
+pub record Published : Type 0 where
+  pub columns : (bytes xs : List ℕ) → Ready bytes xs → (i : ℕ) → i < cardOf bytes .width → let card = cardOf bytes in
+      column i (stepped bytes xs) ≡ iterate (entry card) (power card (bit i (selector card xs))) (column i xs)
+  pub states : (bytes xs : List ℕ) → Ready bytes xs → (t : ℕ) → iterate (stepped bytes) t xs ≡ orbit (cardOf bytes) xs t
+  pub words : (bytes xs : List ℕ) → Ready bytes xs → (t : ℕ)
+      → drawing bytes (iterate (stepped bytes) t xs) ≡ Draw.Word (word (cardOf bytes) (orbit (cardOf bytes) xs (suc t)))
+
+-- 2b. Of the calls, and of the definitions
+pub record Undone : Type 0 where
+  pub backOfStep : (bytes xs : List ℕ) → Ready bytes xs → steppedBack bytes (stepped bytes xs) ≡ xs
+  pub stepOfBack : (bytes xs : List ℕ) → Ready bytes xs → stepped bytes (steppedBack bytes xs) ≡ xs
+  pub only : (bytes xs ys : List ℕ) → Ready bytes xs → Ready bytes ys → stepped bytes xs ≡ ys → xs ≡ steppedBack bytes ys
+  pub backOfStepDefined : (card : Card) → Accepted card → (xs : List ℕ) → IsState card xs → stepBack card (step card xs) ≡ xs
+  pub onlyDefined : (card : Card) → Accepted card → (xs : List ℕ) → IsState card xs → OnlyBefore card (stepBack card xs) xs
+
+-- 2c. An accepted card, read and written to a page with room: the same bytes at its front, and the rest as it was
+pub record SameBytes : Type 0 where
+  pub readAndWritten : (bytes page : List ℕ) → Bytes bytes → verdict bytes ≡ 0 → length bytes ≤ length page → let card = reading bytes .card in
+      (writing card (length page) ≡ Written.Length (length bytes)) × (pageAfter card page ≡ bytes ++ drop (length bytes) page)
+  pub rewritten : (bytes page : List ℕ) → verdict bytes ≡ 0 → length bytes ≤ length page
+      → (rewriting bytes (length page) ≡ Written.Length (length bytes)) × (pageRewritten bytes page ≡ bytes ++ drop (length bytes) page)
+
+-- 2d. The chosen shovel is the tie of the drawn rank; the same shovels and times in another order make no difference, for one pick and over a shift
+pub record SameLots : Type 0 where
+  pub ranked : (bytes xs shovels times : List ℕ) → NoneApplies (pickChecks bytes xs shovels times) → let k = ties times in
+      (i : ℕ) × TieAt shovels times (drawnRank (cardOf bytes) xs k) i × (picking bytes xs shovels times ≡ Pick.Shovel (getD shovels i 0) k)
+  pub onePick : (bytes xs shovels times shovels₂ times₂ : List ℕ) → SameShovels shovels times shovels₂ times₂
+      → (picking bytes xs shovels₂ times₂ ≡ picking bytes xs shovels times) × (picked bytes xs shovels₂ times₂ ≡ picked bytes xs shovels times)
+  pub shift : (bytes xs : List ℕ) (requests requests₂ : List Request) → Alike requests requests₂
+      → (answers bytes xs requests₂ ≡ answers bytes xs requests) × (stateAfter bytes xs requests₂ ≡ stateAfter bytes xs requests)
+
+-- ---- demand 3: for any card of sound form and any start, the check accepts exactly when the walk, the published step repeated, brings up every state once
+-- and then returns
+
+abbrev pub AcceptedIffCovers : Type 0
+AcceptedIffCovers = (bytes : List ℕ) → ZeroIffCovers bytes (verdict bytes)
+
+-- ---- the whole
+
+pub record Demands : Type 0 where
+  pub one : AnsweredOrRefused
+  pub twoA : Published
+  pub twoB : Undone
+  pub twoC : SameBytes
+  pub twoD : SameLots
+  pub three : AcceptedIffCovers

@@ -1,0 +1,2 @@
+-- The whole claim.
+pub mod Demands
