@@ -1,2 +1,3 @@
--- Laws that callers cite.
+-- Laws for the functions on fields, and laws that callers cite.
+pub mod Arrays
 pub mod Answer

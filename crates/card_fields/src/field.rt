@@ -1,10 +1,14 @@
-// The fields of a card (document 01, The card), by their bits. SIZE, LEAST, MOST and ABSENT speak of the numeric fields; the table's place in them is not used.
+// The fields of a card (document 01, The card), by their bits: field k of a card of m words. SIZE, LEAST, MOST and ABSENT speak of the fields of one number;
+// what they hold at the table's bit is not used.
 ghost use mathlib.Core.Path.{_≡_};
+ghost use mathlib.Core.Logic.{_≢_};
+ghost use mathlib.Core.List.{[], _∷_};
 ghost use Prim.Native.Nat.{_^_, _<_, _≤_};
 ghost use lib.Dec.{leb};
 ghost use Rattle.tsc.specs.Constants.{mostWords};
-ghost use Rattle.card_format.specs.Fields.{field, extent};
+ghost use Rattle.card_format.specs.Fields.{field, fieldCount, tableBit, extent, allowed, same};
 use super::table::entries;
+use tsc::DEFAULT_WORDS;
 
 pub const FIELDS: usize = 8;
 
@@ -24,23 +28,42 @@ pub const FILTER: usize = 6;
 
 pub const SUM_TERM: usize = 7;
 
-pub const SIZE: [usize; FIELDS] = [1, 1, 0, 1, 1, 4, 1, 1];
+const SIZE: [usize; FIELDS] = [1, 1, 0, 1, 1, 4, 1, 1];
 
-pub const LEAST: [u32; FIELDS] = [2, 2, 0, 0, 0, 0, 1, 0];
+const LEAST: [u32; FIELDS] = [2, 2, 0, 0, 0, 0, 1, 0];
 
-pub const MOST: [u32; FIELDS] = [4, 32, 0, 255, 255, 0xffff_ffff, 2, 1];
+const MOST: [u32; FIELDS] = [4, 32, 0, 255, 255, 0xffff_ffff, 2, 1];
 
-pub const ABSENT: [u32; FIELDS] = [4, 32, 0, 1, 2, 0x1248_8421, 1, 1];
+pub const ABSENT: [u32; FIELDS] = [DEFAULT_WORDS, 32, 0, 1, 2, 0x1248_8421, 1, 1];
 
-// The bytes of field k on a card of m words; the writer has asked m.
+// The bytes of field k. Callers have m from a words field that passed its check, or from its absent value.
 pub fn extent_of(k: usize, m: u32) -> usize
-    requires { ⌜ (k < 8) × (m ≤ mostWords) ⌝ }
+    requires { ⌜ (k < fieldCount) × (m ≤ mostWords) ⌝ }
     ensures { λ r. ⌜ r ≡ extent (field m k) ⌝ }
 {
     if k == TABLE {
         return entries(m);
     }
     SIZE[k]
+}
+
+// Whether x is allowed as the number of field k. Callers have asked for the table before, here and below.
+pub fn number_allowed(k: usize, m: u32, x: u32) -> bool
+    requires { ⌜ (k < fieldCount) × (k ≢ tableBit) ⌝ }
+    ensures { λ r. ⌜ r ≡ allowed (field m k) (x ∷ []) ⌝ }
+{
+    if x < LEAST[k] {
+        return false;
+    }
+    x <= MOST[k]
+}
+
+// Whether x is the absent value of field k.
+pub fn is_absent(k: usize, m: u32, x: u32) -> bool
+    requires { ⌜ (k < fieldCount) × (k ≢ tableBit) ⌝ }
+    ensures { λ r. ⌜ r ≡ same (x ∷ []) (field m k .absent) ⌝ }
+{
+    x == ABSENT[k]
 }
 
 // Whether a constant needs more bits than the width has: condition 6.

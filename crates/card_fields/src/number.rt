@@ -1,9 +1,11 @@
 // Reading a field of one number.
 ghost use mathlib.Core.Path.{_≡_};
 ghost use mathlib.Core.Logic.{_≢_};
+ghost use mathlib.Core.List.{[], _∷_};
 ghost use Prim.Native.Nat.{_+_, _*_, _<_, _≤_};
-ghost use lib.ListN.{length, getD};
-ghost use Rattle.card_format.specs.Fields.{field, tableBit, numbers};
+ghost use lib.ListN.{length};
+ghost use Rattle.tsc.specs.Constants.{mostWords};
+ghost use Rattle.card_format.specs.Fields.{field, fieldCount, tableBit, extent, numbers};
 ghost use Rattle.card_fields.specs.Number.{numberRead};
 use super::field;
 
@@ -20,11 +22,11 @@ fn low_first(a: u8, b: u8, c: u8, d: u8) -> u32
     a as u32 + b as u32 * 256 + c as u32 * 65536 + d as u32 * 16777216
 }
 
-// The number of field k at the start of the part.
-fn number_at(k: usize, part: &[u8]) -> u32
-    requires { ⌜ (k < 8) × (k ≢ tableBit) ⌝ }
-    requires { ⌜ field 4 k .size ≤ length (now part) ⌝ }
-    ensures { λ r. ⌜ r ≡ getD (numbers (field 4 k) (now (part .entry))) 0 0 ⌝ }
+// The number of field k of a card of m words, at the start of the part.
+fn number_at(k: usize, m: u32, part: &[u8]) -> u32
+    requires { ⌜ (k < fieldCount) × (k ≢ tableBit) ⌝ }
+    requires { ⌜ extent (field m k) ≤ length (now part) ⌝ }
+    ensures { λ r. ⌜ numbers (field m k) (now (part .entry)) ≡ r ∷ [] ⌝ }
 {
     if k == field::CONSTANT {
         return low_first(part[0], part[1], part[2], part[3]);
@@ -32,22 +34,19 @@ fn number_at(k: usize, part: &[u8]) -> u32
     part[0] as u32
 }
 
-// Field k at the start of the part. The reader calls it where k is not the table.
-pub fn read_number(k: usize, part: &[u8]) -> Number
-    requires { ⌜ (k < 8) × (k ≢ tableBit) ⌝ }
-    ensures { λ r. ⌜ r ≡ numberRead (field 4 k) (now (part .entry)) ⌝ }
+// Field k of a card of m words, at the start of the part. The reader calls it where k is not the table.
+pub fn read_number(k: usize, m: u32, part: &[u8]) -> Number
+    requires { ⌜ (k < fieldCount) × (k ≢ tableBit) × (m ≤ mostWords) ⌝ }
+    ensures { λ r. ⌜ r ≡ numberRead (field m k) (now (part .entry)) ⌝ }
 {
-    if part.len() < field::SIZE[k] {
+    if part.len() < field::extent_of(k, m) {
         return Number::Refused(refusals::TRUNCATED);
     }
-    let v = number_at(k, part);
-    if v < field::LEAST[k] {
+    let v = number_at(k, m, part);
+    if !field::number_allowed(k, m, v) {
         return Number::Refused(refusals::OUT_OF_RANGE);
     }
-    if field::MOST[k] < v {
-        return Number::Refused(refusals::OUT_OF_RANGE);
-    }
-    if v == field::ABSENT[k] {
+    if field::is_absent(k, m, v) {
         return Number::Refused(refusals::REDUNDANT);
     }
     Number::Value(v)

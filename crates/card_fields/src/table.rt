@@ -8,10 +8,13 @@ ghost use Rattle.tsc.specs.Constants.{mostWords, tsc1Table};
 ghost use Rattle.card_format.specs.Fields.{field, tableBit, allowed, same};
 ghost use Rattle.card_format.specs.Reading.{padded};
 ghost use Rattle.card_format.specs.Writing.{unusedClear};
+use tsc::DEFAULT_WORDS;
 use tsc::TABLE_SIZE;
 
-// TSC-1's table, document 002 (14).
-pub const TSC1_TABLE: [u8; TABLE_SIZE] = [3, 5, 9, 13, 1, 6, 11, 15, 4, 0, 8, 14, 10, 7, 2, 12];
+// TSC-1's table, document 002 (14), whatever the most entries of a table are.
+const TSC1_SIZE: usize = 16;
+
+const TSC1_TABLE: [u8; TSC1_SIZE] = [3, 5, 9, 13, 1, 6, 11, 15, 4, 0, 8, 14, 10, 7, 2, 12];
 
 // 2^m, the entries of a table.
 pub fn entries(m: u32) -> usize
@@ -42,6 +45,13 @@ pub fn table_from(part: &[u8], size: usize) -> [u8; TABLE_SIZE]
     table
 }
 
+// The table that an absent one stands for.
+pub fn absent_table() -> [u8; TABLE_SIZE]
+    ensures { λ r. ⌜ r ≡ padded tsc1Table ⌝ }
+{
+    table_from(&TSC1_TABLE, TSC1_SIZE)
+}
+
 // Whether each used entry is below 2^m.
 pub fn entries_allowed(table: [u8; TABLE_SIZE], m: u32) -> bool
     requires { ⌜ m ≤ mostWords ⌝ }
@@ -63,11 +73,11 @@ pub fn is_tsc1(table: [u8; TABLE_SIZE], m: u32) -> bool
     requires { ⌜ m ≤ mostWords ⌝ }
     ensures { λ r. ⌜ r ≡ same (take (2 ^ m) table) tsc1Table ⌝ }
 {
-    if m != 4 {
+    if m != DEFAULT_WORDS {
         return false;
     }
     let mut i = 0;
-    while i < TABLE_SIZE {
+    while i < TSC1_SIZE {
         if table[i] != TSC1_TABLE[i] {
             return false;
         }

@@ -1,10 +1,11 @@
--- Laws of the fields: the numeric ones by the arrays that the code has of them, and tests of whole lists by their entries.
+-- Laws of the fields: those of one number, the table, and tests of whole lists by their entries.
 use mathlib.Core.Path.{_≡_, refl, sym, ap, ap₂, _∙_}
 use mathlib.Core.Logic.{_≢_}
 use mathlib.Core.Bool.{Bool, true, false, cond, not, _&&_, and-eq-true-iff, true≢false, and-true}
 use mathlib.Core.List.{List, [], _∷_}
 use Prim.Native.Nat.{ℕ, zero, suc, _+_, _-_, _*_, _%_, _^_, _≤_, _<_}
 use native.Mathlib.Nat.{one-mul, mul-one, zero-mul, zero-add, add-zero, mod-eq-of-lt, suc-inj}
+use native.Mathlib.Decide.{ℕ-discrete}
 use native.Mathlib.Omega.{arith}
 use borrow.Author.Tests.{leb-true, le-leb, lt-ltb, le-ltb, eq-eqb, eqb-true}
 use lib.Dec.{eqb, leb, ltb}
@@ -14,90 +15,62 @@ use lib.Seq.{length-take-le, getD-take, getD-drop, getD-set-other}
 use Rattle.cycle.specs.Notation.{sum, tabulate}
 use Rattle.cycle.proofs.Digits.{tabulate-ext, tabulate-getD}
 use Rattle.cycle.proofs.Sum.{sum-ext}
-use Rattle.tsc.specs.Constants.{tsc1Constant, tsc1Table, mostWords}
-use Rattle.card_format.specs.Fields.{Field, row, fields, field, tableBit, numbers, allowed, same}
+use Rattle.tsc.specs.Constants.{tsc1Table, mostWords}
+use Rattle.card_format.specs.Fields.{Field, fields, field, fieldCount, tableBit, constantBit, extent, numbers, allowed, same}
 use Rattle.refusals.specs.Refusals.{firstOf}
 use Rattle.card_format.specs.Reading.{partChecks}
 use Rattle.card_format.specs.Writing.{unusedClear}
 
--- ---- the numeric fields
+-- ---- the fields but the table: one number each
 
--- m enters the table's row alone
-pub field-fixed : (m k : ℕ) → k ≢ tableBit → field m k ≡ field 4 k
+-- what holds of the seven
+pub each-number : (P : ℕ → Type 0) → P 0 → P 1 → P 3 → P 4 → P 5 → P 6 → P 7 → (k : ℕ) → k < fieldCount → k ≢ tableBit → P k
+each-number P p0 p1 p3 p4 p5 p6 p7 zero l ne = p0
+each-number P p0 p1 p3 p4 p5 p6 p7 (suc zero) l ne = p1
+each-number P p0 p1 p3 p4 p5 p6 p7 (suc (suc zero)) l ne = absurd (ne refl)
+each-number P p0 p1 p3 p4 p5 p6 p7 (suc (suc (suc zero))) l ne = p3
+each-number P p0 p1 p3 p4 p5 p6 p7 (suc (suc (suc (suc zero)))) l ne = p4
+each-number P p0 p1 p3 p4 p5 p6 p7 (suc (suc (suc (suc (suc zero))))) l ne = p5
+each-number P p0 p1 p3 p4 p5 p6 p7 (suc (suc (suc (suc (suc (suc zero)))))) l ne = p6
+each-number P p0 p1 p3 p4 p5 p6 p7 (suc (suc (suc (suc (suc (suc (suc zero))))))) l ne = p7
+each-number P p0 p1 p3 p4 p5 p6 p7 (suc (suc (suc (suc (suc (suc (suc (suc k)))))))) l ne = absurd (omega arith)
+
+pub by-table : (P : ℕ → Type 0) → P tableBit → ((k : ℕ) → k < fieldCount → k ≢ tableBit → P k) → (k : ℕ) → k < fieldCount → P k
+by-table P t others k l = go (ℕ-discrete k tableBit)
+  where
+    go : Dec (k ≡ tableBit) → P k
+    go (yes e) = rw e t
+    go (no ne) = others k l ne
+
+pub count-one : (m k : ℕ) → k < fieldCount → k ≢ tableBit → field m k .count ≡ 1
 unfolding fields field
-field-fixed m k ne = getD-set-other (fields 4) tableBit k (field m tableBit) (row 0 0 0 0 []) ne
+count-one m = each-number (λ k. field m k .count ≡ 1) refl refl refl refl refl refl refl
 
--- the arrays SIZE, LEAST, MOST and ABSENT
-abbrev pub sizes : List ℕ
-sizes = 1 ∷ 1 ∷ 0 ∷ 1 ∷ 1 ∷ 4 ∷ 1 ∷ 1 ∷ []
-
-abbrev pub leasts : List ℕ
-leasts = 2 ∷ 2 ∷ 0 ∷ 0 ∷ 0 ∷ 0 ∷ 1 ∷ 0 ∷ []
-
-abbrev pub mosts : List ℕ
-mosts = 4 ∷ 32 ∷ 0 ∷ 255 ∷ 255 ∷ 0xffffffff ∷ 2 ∷ 1 ∷ []
-
-abbrev pub absents : List ℕ
-absents = 4 ∷ 32 ∷ 0 ∷ 1 ∷ 2 ∷ tsc1Constant ∷ 1 ∷ 1 ∷ []
-
--- field k as these arrays have it
-abbrev pub rowOf : ℕ → Field
-rowOf k = row 1 (getD sizes k 0) (getD leasts k 0) (getD mosts k 0) (getD absents k 0 ∷ [])
-
--- what holds of each of the eight
-pub each : (P : ℕ → Type 0) → P 0 → P 1 → P 2 → P 3 → P 4 → P 5 → P 6 → P 7 → (k : ℕ) → k < 8 → P k
-each P p0 p1 p2 p3 p4 p5 p6 p7 zero l = p0
-each P p0 p1 p2 p3 p4 p5 p6 p7 (suc zero) l = p1
-each P p0 p1 p2 p3 p4 p5 p6 p7 (suc (suc zero)) l = p2
-each P p0 p1 p2 p3 p4 p5 p6 p7 (suc (suc (suc zero))) l = p3
-each P p0 p1 p2 p3 p4 p5 p6 p7 (suc (suc (suc (suc zero)))) l = p4
-each P p0 p1 p2 p3 p4 p5 p6 p7 (suc (suc (suc (suc (suc zero))))) l = p5
-each P p0 p1 p2 p3 p4 p5 p6 p7 (suc (suc (suc (suc (suc (suc zero)))))) l = p6
-each P p0 p1 p2 p3 p4 p5 p6 p7 (suc (suc (suc (suc (suc (suc (suc zero))))))) l = p7
-each P p0 p1 p2 p3 p4 p5 p6 p7 (suc (suc (suc (suc (suc (suc (suc (suc k)))))))) l = absurd (omega arith)
-
--- that is field k, where it is not the table
-pub numeric : (m k : ℕ) → k < 8 → k ≢ tableBit → field m k ≡ rowOf k
+pub absent-one : (m k : ℕ) → k < fieldCount → k ≢ tableBit → getD (field m k .absent) 0 0 ∷ [] ≡ field m k .absent
 unfolding fields field
-numeric m k l ne =
-    field-fixed m k ne
-    ∙ each (λ (k : ℕ). k ≢ tableBit → field 4 k ≡ rowOf k) (λ n. refl) (λ n. refl) (λ n. absurd (n refl)) (λ n. refl) (λ n. refl) (λ n. refl)
-    (λ n. refl) (λ n. refl) k l ne
+absent-one m = each-number (λ k. getD (field m k .absent) 0 0 ∷ [] ≡ field m k .absent) refl refl refl refl refl refl refl
+
+-- a number has one byte, where it is not the constant
+pub size-one : (m k : ℕ) → k < fieldCount → k ≢ tableBit → k ≢ constantBit → field m k .size ≡ 1
+unfolding fields field
+size-one m =
+    each-number (λ k. k ≢ constantBit → field m k .size ≡ 1) (λ c. refl) (λ c. refl) (λ c. refl) (λ c. refl) (λ c. absurd (c refl)) (λ c. refl) (λ c. refl)
 
 -- the number of such a field, low byte first
 abbrev pub lowFirst : ℕ → List ℕ → ℕ
 lowFirst size part = sum size (λ i. getD part i 0 * 256 ^ i)
 
-pub numbers-one : (k : ℕ) (part : List ℕ) → numbers (rowOf k) part ≡ lowFirst (getD sizes k 0) part ∷ []
+pub numbers-one : (f : Field) (part : List ℕ) → f .count ≡ 1 → numbers f part ≡ lowFirst (f .size) part ∷ []
 unfolding numbers tabulate
-numbers-one k part =
-    let s = getD sizes k 0 in
-    ap (λ (x : ℕ). x ∷ []) (sum-ext s _ _ (λ i l. ap (λ (p : ℕ). getD part p 0 * 256 ^ i) (ap (λ (z : ℕ). z + i) (zero-mul s) ∙ zero-add i)))
+numbers-one f part one =
+    rw one (ap (λ (x : ℕ). x ∷ [])
+    (sum-ext (f .size) _ _ (λ i l. ap (λ (p : ℕ). getD part p 0 * 256 ^ i) (ap (λ (z : ℕ). z + i) (zero-mul (f .size)) ∙ zero-add i))))
 
-pub number-low : (k : ℕ) → k < 8 → k ≢ tableBit → (part : List ℕ) → getD (numbers (field 4 k) part) 0 0 ≡ lowFirst (getD sizes k 0) part
-number-low k l ne part = ap (λ (f : Field). getD (numbers f part) 0 0) (numeric 4 k l ne) ∙ ap (λ (xs : List ℕ). getD xs 0 0) (numbers-one k part)
-
-pub size-of : (k : ℕ) → k < 8 → k ≢ tableBit → field 4 k .size ≡ getD sizes k 0
-size-of k l ne = ap (λ (f : Field). f .size) (numeric 4 k l ne)
-
--- it has one byte, where it is not the constant
-pub size-one : (k : ℕ) → k < 8 → k ≢ tableBit → k ≢ 5 → getD sizes k 0 ≡ 1
-size-one =
-    each (λ (k : ℕ). k ≢ tableBit → k ≢ 5 → getD sizes k 0 ≡ 1) (λ n c. refl) (λ n c. refl) (λ n c. absurd (n refl)) (λ n c. refl) (λ n c. refl)
-    (λ n c. absurd (c refl)) (λ n c. refl) (λ n c. refl)
-
--- the refusal of such a field, by its number x
-abbrev pub numberRefusal : ℕ → List ℕ → ℕ → ℕ
-numberRefusal k part x =
-    cond (ltb (length part) (getD sizes k 0)) 1
-    (cond (not (leb (getD leasts k 0) x && leb x (getD mosts k 0))) 2 (cond (eqb x (getD absents k 0)) 3 0))
-
-pub part-refusal : (k : ℕ) → k < 8 → k ≢ tableBit → (part : List ℕ)
-    → firstOf (partChecks (field 4 k) part) ≡ numberRefusal k part (getD (numbers (field 4 k) part) 0 0)
-unfolding partChecks firstOf allowed same
-part-refusal k l ne part =
-    rw (numeric 4 k l ne)
-    (rw (numbers-one k part) (simp (one-mul, and-true)))
+-- the refusal of a field, by its numbers
+pub part-refusal : (f : Field) (part xs : List ℕ) → numbers f part ≡ xs
+    → firstOf (partChecks f part) ≡ cond (ltb (length part) (extent f)) 1 (cond (not (allowed f xs)) 2 (cond (same xs (f .absent)) 3 0))
+unfolding partChecks firstOf
+part-refusal f part xs e = rw e refl
 
 -- ---- tests of lists by their entries
 
@@ -173,8 +146,8 @@ table-short m part h = simp (mul-one, lt-ltb _ _ h)
 -- the table's refusal, where its bytes are there, by the table that holds them
 pub table-refusal : (m : ℕ) (part : List ℕ) → 2 ^ m ≤ length part → (xs : List ℕ) → xs ≡ take (2 ^ m) part
     → firstOf (partChecks (field m tableBit) part) ≡ cond (not (allowed (field m tableBit) xs)) 2 (cond (same xs tsc1Table) 3 0)
-unfolding partChecks firstOf field fields
-table-refusal m part h xs e = rw (numbers-table m part h ∙ sym e) (simp (mul-one, le-ltb _ _ h))
+unfolding field fields
+table-refusal m part h xs e = part-refusal (field m tableBit) part xs (numbers-table m part h ∙ sym e) ∙ simp (mul-one, le-ltb _ _ h)
 
 -- the used entries of a table are allowed where they are below 2^m
 pub entries-allowed : (m : ℕ) (t : List ℕ) → 2 ^ m ≤ length t → ((i : ℕ) → i < 2 ^ m → getD t i 0 < 2 ^ m) → allowed (field m tableBit) (take (2 ^ m) t) ≡ true

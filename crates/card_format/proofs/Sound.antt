@@ -10,42 +10,37 @@ use borrow.Author.Tests.{eqb-true, eq-eqb, not-false}
 use lib.Dec.{eqb}
 use lib.ListN.{length, getD, drop, List·getD-append}
 use lib.Pow.{pow-pos}
-use Rattle.cycle.specs.Notation.{sum, every}
-use Rattle.cycle.proofs.Every.{every-at}
+use Rattle.cycle.specs.Notation.{sum}
 use Rattle.cycle.proofs.Digits.{length-tabulate}
+use Rattle.tsc.specs.Constants.{defaultWords}
 use Rattle.tsc.specs.Step.{entry}
 use Rattle.tsc.specs.Coverage.{WellFormed}
 use Rattle.refusals.specs.Refusals.{NoneApplies, check, tableMissing}
-use Rattle.card_format.specs.Fields.{Field, fields, field, tableBit, extent, numbers, allowed}
+use Rattle.card_format.specs.Fields.{Field, fields, field, fieldCount, tableBit, extent, numbers, allowed}
 use Rattle.card_format.specs.Reading.{present, offset, valuesAt, wordsOf, values, value, cardOf, partChecks, fieldChecks, checksTo, formChecks, SoundForm}
 use Rattle.refusals.proofs.Refusals.{none-left, none-right}
-use Rattle.card_format.proofs.Fields.{field-fixed, allowed-at}
+use Rattle.card_format.proofs.Fields.{by-table, each-number, allowed-at}
 
 -- the numbers that stand for a field: allowed, and as many as the field has
 pub record Fitting (f : Field) (xs : List ℕ) : Type 0 where
   pub allow : allowed f xs ≡ true
   pub count : length xs ≡ f .count
 
--- each absent value fits, the table's where m is 4: computed for m = 4
-fits : ℕ → Bool
-fits k = allowed (field 4 k) (field 4 k .absent) && eqb (length (field 4 k .absent)) (field 4 k .count)
+-- each absent value fits, the table's where m is the default
+fits : Field → Bool
+fits f = allowed f (f .absent) && eqb (length (f .absent)) (f .count)
 
-all-fit : every 8 fits ≡ true
-unfolding every fits fields field allowed
-all-fit = refl
-
-absent-fitting : (m k : ℕ) → k < 8 → (k ≡ tableBit → m ≡ 4) → Fitting (field m k) (field m k .absent)
-unfolding fits
-absent-fitting m k l t = subst (λ (f : Field). Fitting f (f .absent)) (sym (same-field (ℕ-discrete k tableBit))) four
+absent-fitting : (m k : ℕ) → k < fieldCount → (k ≡ tableBit → m ≡ defaultWords) → Fitting (field m k) (field m k .absent)
+unfolding fits fields field allowed
+absent-fitting m k l t = record { allow = both .0; count = eqb-true _ _ (both .1) }
   where
-    same-field : Dec (k ≡ tableBit) → field m k ≡ field 4 k
-    same-field (yes e) = ap (λ (m : ℕ). field m k) (t e)
-    same-field (no ne) = field-fixed m k ne
+    holds : (k ≡ tableBit → m ≡ defaultWords) → fits (field m k) ≡ true
+    holds =
+        by-table (λ k. (k ≡ tableBit → m ≡ defaultWords) → fits (field m k) ≡ true) (λ t. rw (t refl) refl)
+        (λ k l ne t. each-number (λ k. fits (field m k) ≡ true) refl refl refl refl refl refl refl k l ne) k l
 
-    four : Fitting (field 4 k) (field 4 k .absent)
-    four =
-        let b = and-eq-true-iff (allowed (field 4 k) (field 4 k .absent)) (eqb (length (field 4 k .absent)) (field 4 k .count)) .0 (every-at 8 fits all-fit k l) in
-        record { allow = b .0; count = eqb-true _ _ (b .1) }
+    both : (allowed (field m k) (field m k .absent) ≡ true) × (eqb (length (field m k .absent)) (field m k .count) ≡ true)
+    both = and-eq-true-iff _ _ .0 (holds t)
 
 -- ---- sound form, field by field
 
@@ -58,21 +53,21 @@ fields-none bytes k (suc K) l h = go (ℕ-discrete k K) (λ j. fields-none bytes
     go (yes e) ih = rw e (none-right (checksTo bytes K) (fieldChecks bytes K) h)
     go (no ne) ih = ih (omega arith)
 
-pub field-none : (bytes : List ℕ) → SoundForm bytes → (k : ℕ) → k < 8 → NoneApplies (fieldChecks bytes k)
+pub field-none : (bytes : List ℕ) → SoundForm bytes → (k : ℕ) → k < fieldCount → NoneApplies (fieldChecks bytes k)
 unfolding formChecks
-field-none bytes s k l = fields-none bytes k 8 l (none-left (checksTo bytes 8) _ s)
+field-none bytes s k l = fields-none bytes k fieldCount l (none-left (checksTo bytes fieldCount) _ s)
 
-pub none-fitting : (bytes : List ℕ) (k : ℕ) → k < 8 → NoneApplies (fieldChecks bytes k) → Fitting (field (wordsOf bytes) k) (values bytes k)
+pub none-fitting : (bytes : List ℕ) (k : ℕ) → k < fieldCount → NoneApplies (fieldChecks bytes k) → Fitting (field (wordsOf bytes) k) (values bytes k)
 unfolding fieldChecks partChecks NoneApplies valuesAt numbers
 none-fitting bytes k l none = go (wordsOf bytes) (present bytes k) none
   where
     go : (m : ℕ) (here : Bool)
-        → NoneApplies (cond here (partChecks (field m k) (drop (offset m bytes k) bytes)) (check tableMissing (eqb k tableBit && not (eqb m 4)) ∷ []))
+        → NoneApplies (cond here (partChecks (field m k) (drop (offset m bytes k) bytes)) (check tableMissing (eqb k tableBit && not (eqb m defaultWords)) ∷ []))
         → Fitting (field m k) (cond here (numbers (field m k) (drop (offset m bytes k) bytes)) (field m k .absent))
     go m true h = record { allow = not-false _ (h .1 .0); count = length-tabulate _ _ }
-    go m false h = absent-fitting m k l (λ e. eqb-true m 4 (not-false _ (rw (eq-eqb k tableBit e) at (h .0))))
+    go m false h = absent-fitting m k l (λ e. eqb-true m defaultWords (not-false _ (rw (eq-eqb k tableBit e) at (h .0))))
 
-pub sound-fitting : (bytes : List ℕ) → SoundForm bytes → (k : ℕ) → k < 8 → Fitting (field (wordsOf bytes) k) (values bytes k)
+pub sound-fitting : (bytes : List ℕ) → SoundForm bytes → (k : ℕ) → k < fieldCount → Fitting (field (wordsOf bytes) k) (values bytes k)
 sound-fitting bytes s k l = none-fitting bytes k l (field-none bytes s k l)
 
 -- ---- places
@@ -89,7 +84,7 @@ unfolding wordsOf valuesAt offset sum field fields
 value-words bytes = refl
 
 -- a field of one number has it between its bounds
-pub sound-value : (bytes : List ℕ) → SoundForm bytes → (k : ℕ) → k < 8 → field (wordsOf bytes) k .count ≡ 1
+pub sound-value : (bytes : List ℕ) → SoundForm bytes → (k : ℕ) → k < fieldCount → field (wordsOf bytes) k .count ≡ 1
     → (field (wordsOf bytes) k .least ≤ value bytes k) × (value bytes k ≤ field (wordsOf bytes) k .most)
 sound-value bytes s k l one =
     let f = sound-fitting bytes s k l in

@@ -1,48 +1,39 @@
--- For the writer: the numbers of a card by the arrays of the fields, its range, and the fields' bytes.
-use mathlib.Core.Path.{_≡_, refl, ap, _∙_}
+-- For the writer: the numbers of a card, its range, the fields' bytes and how many they are.
+use mathlib.Core.Path.{_≡_, refl, ap, ap₂, _∙_}
 use mathlib.Core.Logic.{_≢_}
-use mathlib.Core.Bool.{true, false, cond, _&&_, and-eq-true-iff, and-true}
+use mathlib.Core.Bool.{Bool, true, false, cond, _&&_, and-eq-true-iff}
 use mathlib.Core.List.{List, [], _∷_, _++_}
-use Prim.Native.Nat.{ℕ, _+_, _/_, _%_, _^_, _≤_, _<_}
+use Prim.Native.Nat.{ℕ, zero, suc, _+_, _/_, _%_, _^_, _≤_, _<_}
 use native.Mathlib.Decide.{le-ind}
-use native.Mathlib.Nat.{le-refl, mul-one, div-one, mod-one, mod-eq-of-lt}
+use native.Mathlib.Nat.{add-assoc, le-refl, le-of-eq, mul-one, div-one, mod-one, mod-eq-of-lt}
 use native.Mathlib.Numerals.{add-one}
 use native.Mathlib.Omega.{arith}
-use borrow.Author.Tests.{ne-eqb, not-false}
+use borrow.Author.Tests.{eqb-true, leb-true, ne-eqb, not-false}
 use lib.Dec.{eqb, leb, ltb}
 use lib.ListN.{length, getD, take, drop, length-append}
 use lib.Pow.{pow-pos}
 use lib.Seq.{length-take-le, getD-take, take-all}
-use Rattle.cycle.specs.Notation.{tabulate}
+use Rattle.cycle.specs.Notation.{sum, every, tabulate}
 use Rattle.cycle.proofs.Digits.{tabulate-ext, tabulate-getD}
+use Rattle.cycle.proofs.Sum.{sum-mono}
 use Rattle.cycle.proofs.Every.{every-at}
 use Rattle.tsc.specs.declared.Card.{Card}
-use Rattle.tsc.specs.Constants.{mostWords}
+use Rattle.tsc.specs.Constants.{mostWords, defaultWords}
 use Rattle.tsc.specs.Coverage.{WellFormed}
 use Rattle.card_format.specs.declared.Written.the-variants.{Length, Refused}
 use Rattle.refusals.specs.Refusals.{firstOf, NoneApplies}
-use Rattle.card_format.specs.Fields.{fields, field, tableBit, extent, bytesOf, allowed, same}
+use Rattle.card_format.specs.Fields.{fields, field, fieldCount, mostCardBytes, tableBit, extent, bytesOf, allowed, same}
 use Rattle.card_format.specs.Reading.{cardFrom}
 use Rattle.card_format.specs.Writing.{numbersOf, isWritten, fieldBytes, writtenTo, written, inRange, valueChecks, writeChecks, writing, pageAfter}
 use Rattle.refusals.proofs.Refusals.{none-first, first-append, first-left}
-use Rattle.card_format.proofs.Fields.{allowed-at, each, leasts, mosts, absents, numeric, few-entries}
+use Rattle.card_format.proofs.Fields.{allowed-at, by-table, each-number, few-entries}
 use Rattle.card_format.proofs.Bytes.{cond-le, length-cond, length-bytesOf}
 
 -- ---- one number in each field but the table
 
-pub numbersOf-single : (number : ℕ → ℕ) (table : List ℕ) (k : ℕ) → k < 8 → k ≢ tableBit → numbersOf (cardFrom number table) k ≡ number k ∷ []
+pub numbersOf-single : (number : ℕ → ℕ) (table : List ℕ) (k : ℕ) → k < fieldCount → k ≢ tableBit → numbersOf (cardFrom number table) k ≡ number k ∷ []
 unfolding numbersOf
-numbersOf-single number table =
-    each (λ (k : ℕ). k ≢ tableBit → numbersOf (cardFrom number table) k ≡ number k ∷ []) (λ n. refl) (λ n. refl) (λ n. absurd (n refl)) (λ n. refl)
-    (λ n. refl) (λ n. refl) (λ n. refl) (λ n. refl)
-
-pub allowed-one : (m k x : ℕ) → k < 8 → k ≢ tableBit → allowed (field m k) (x ∷ []) ≡ (leb (getD leasts k 0) x && leb x (getD mosts k 0))
-unfolding allowed
-allowed-one m k x l ne = rw (numeric m k l ne) (and-true _)
-
-pub absent-one : (m k x : ℕ) → k < 8 → k ≢ tableBit → same (x ∷ []) (field m k .absent) ≡ eqb x (getD absents k 0)
-unfolding same
-absent-one m k x l ne = rw (numeric m k l ne) (and-true _)
+numbersOf-single number table = each-number (λ k. numbersOf (cardFrom number table) k ≡ number k ∷ []) refl refl refl refl refl refl refl
 
 -- ---- a card in range
 
@@ -51,14 +42,14 @@ unfolding numbersOf field fields
 words-allowed card h = allowed-at (field (card .words) 0) (numbersOf card 0) h 0 (omega arith) .1
 
 -- each number of a card in range is within its field's bounds
-range-at : (card : Card) → inRange card ≡ true → (k : ℕ) → k < 8 → (i : ℕ) → i < length (numbersOf card k)
+range-at : (card : Card) → inRange card ≡ true → (k : ℕ) → k < fieldCount → (i : ℕ) → i < length (numbersOf card k)
     → (field (card .words) k .least ≤ getD (numbersOf card k) i 0) × (getD (numbersOf card k) i 0 ≤ field (card .words) k .most)
 unfolding inRange
-range-at card r k l = allowed-at (field (card .words) k) (numbersOf card k) (every-at 8 _ (and-eq-true-iff _ _ .0 r .0) k l)
+range-at card r k l = allowed-at (field (card .words) k) (numbersOf card k) (every-at fieldCount _ (and-eq-true-iff _ _ .0 r .0) k l)
 
 pub range-words : (card : Card) → inRange card ≡ true → card .words ≤ mostWords
 unfolding inRange
-range-words card r = words-allowed card (every-at 8 _ (and-eq-true-iff _ _ .0 r .0) 0 (omega arith))
+range-words card r = words-allowed card (every-at fieldCount _ (and-eq-true-iff _ _ .0 r .0) 0 (omega arith))
 
 pub range-formed : (card : Card) → length (card .table) ≡ 2 ^ mostWords → inRange card ≡ true → WellFormed card × (card .words ≤ mostWords)
 unfolding numbersOf field fields
@@ -105,19 +96,15 @@ fieldBytes-none card k w = rw w refl
 
 -- ---- how many they are
 
-pub extent-few : (m : ℕ) → m ≤ mostWords → (k : ℕ) → k < 8 → extent (field m k) ≤ 2 ^ mostWords
+pub extent-few : (m : ℕ) → m ≤ mostWords → (k : ℕ) → k < fieldCount → extent (field m k) ≤ 2 ^ mostWords
 unfolding field fields
 extent-few m h =
-    each (λ (k : ℕ). extent (field m k) ≤ 2 ^ mostWords) (omega arith) (omega arith) (omega (arith, few-entries m h)) (omega arith) (omega arith) (omega arith)
-    (omega arith) (omega arith)
+    by-table (λ k. extent (field m k) ≤ 2 ^ mostWords) (omega (arith, few-entries m h))
+    (each-number (λ k. extent (field m k) ≤ 2 ^ mostWords) (omega arith) (omega arith) (omega arith) (omega arith) (omega arith) (omega arith) (omega arith))
 
 pub length-fieldBytes : (card : Card) (k : ℕ) → length (fieldBytes card k) ≡ cond (isWritten card k) (extent (field (card .words) k)) 0
 unfolding fieldBytes
 length-fieldBytes card k = length-cond (isWritten card k) _ ∙ ap (λ (n : ℕ). cond (isWritten card k) n 0) (length-bytesOf (field (card .words) k) _)
-
-pub fieldBytes-few : (card : Card) (k : ℕ) → k < 8 → card .words ≤ mostWords → length (fieldBytes card k) ≤ 2 ^ mostWords
-fieldBytes-few card k l h =
-    omega (arith, length-fieldBytes card k, cond-le (isWritten card k) (extent (field (card .words) k)), extent-few (card .words) h k l)
 
 abbrev pub lengthTo : Card → ℕ → ℕ
 lengthTo card k = length (writtenTo card k)
@@ -137,6 +124,40 @@ length-before card k n h =
 pub length-some : (card : Card) (k : ℕ) → 0 < lengthTo card k
 unfolding writtenTo
 length-some card k = omega (arith, length-before card 0 k (omega arith))
+
+-- ---- no card is longer than the longest
+
+-- what a field takes at most: the words field is not there for the default m
+mostExtent : ℕ → ℕ → ℕ
+mostExtent m k = cond (eqb k 0 && eqb m defaultWords) 0 (extent (field m k))
+
+most-bytes : (m : ℕ) → m ≤ mostWords → 1 + sum fieldCount (mostExtent m) ≤ mostCardBytes
+unfolding mostExtent every sum field fields
+most-bytes m h =
+    leb-true _ mostCardBytes (every-at (suc mostWords) (λ m. leb (1 + sum fieldCount (mostExtent m)) mostCardBytes) refl m (omega arith))
+
+pub present-short : (m : ℕ) (here : ℕ → Bool) → m ≤ mostWords → (m ≡ defaultWords → here 0 ≡ false)
+    → 1 + sum fieldCount (λ k. cond (here k) (extent (field m k)) 0) ≤ mostCardBytes
+unfolding mostExtent
+present-short m here few absent =
+    omega (arith, most-bytes m few, sum-mono fieldCount (λ k. cond (here k) (extent (field m k)) 0) (mostExtent m) (λ k l. go k (eqb k 0 && eqb m defaultWords) refl))
+  where
+    go : (k : ℕ) (b : Bool) → (eqb k 0 && eqb m defaultWords) ≡ b → cond (here k) (extent (field m k)) 0 ≤ cond b 0 (extent (field m k))
+    go k true e =
+        let t = and-eq-true-iff (eqb k 0) (eqb m defaultWords) .0 e in
+        le-of-eq (ap (λ (h : Bool). cond h (extent (field m k)) 0) (ap here (eqb-true k 0 (t .0)) ∙ absent (eqb-true m defaultWords (t .1))))
+    go k false e = cond-le (here k) (extent (field m k))
+
+pub length-writtenTo : (card : Card) (k : ℕ) → lengthTo card k ≡ 1 + sum k (λ j. cond (isWritten card j) (extent (field (card .words) j)) 0)
+unfolding writtenTo sum
+length-writtenTo card zero = refl
+length-writtenTo card (suc k) =
+    length-append (writtenTo card k) (fieldBytes card k) ∙ ap₂ (λ (x y : ℕ). x + y) (length-writtenTo card k) (length-fieldBytes card k) ∙ add-assoc 1 _ _
+
+pub written-short : (card : Card) → card .words ≤ mostWords → length (written card) ≤ mostCardBytes
+unfolding numbersOf same field fields
+written-short card few =
+    rw (length-writtenTo card fieldCount) (present-short (card .words) (isWritten card) few (λ e. rw e refl))
 
 -- ---- what the writer answers
 

@@ -5,7 +5,7 @@ use Prim.Native.Nat.{ℕ, _+_, _-_, _*_, _/_, _%_, _^_, _<_}
 use lib.Dec.{eqb, leb}
 use lib.ListN.{length, getD}
 use Rattle.cycle.specs.Notation.{sum, tabulate}
-use Rattle.tsc.specs.Constants.{fewestWords, mostWords, narrowestWidth, widestWidth, tsc1Constant, tsc1Table}
+use Rattle.tsc.specs.Constants.{fewestWords, mostWords, defaultWords, narrowestWidth, widestWidth, tsc1Constant, tsc1Table}
 
 -- bytes: numbers below 256
 abbrev pub Bytes : List ℕ → Type 0
@@ -22,11 +22,11 @@ pub record Field : Type 0 where
 abbrev pub row : ℕ → ℕ → ℕ → ℕ → List ℕ → Field
 row c s l h a = record { count = c; size = s; least = l; most = h; absent = a }
 
--- the eight fields of a card of m words, by their bits from 0 up. The table's absent value has 16 entries: no table of another m equals it
+-- the fields of a card of m words, by their bits from 0 up. The table's absent value has 2^defaultWords entries: no table of another m equals it
 unfoldable pub fields : ℕ → List Field
 fields m =
     -- count, size, least, most, absent
-    row 1 1 fewestWords mostWords (4 ∷ [])  -- 0 words m
+    row 1 1 fewestWords mostWords (defaultWords ∷ [])  -- 0 words m
     ∷ row 1 1 narrowestWidth widestWidth (32 ∷ [])  -- 1 width n
     ∷ row (2 ^ m) 1 0 (2 ^ m - 1) tsc1Table  -- 2 table
     ∷ row 1 1 0 255 (1 ∷ [])  -- 3 odd power a
@@ -40,8 +40,19 @@ fields m =
 unfoldable pub field : ℕ → ℕ → Field
 field m k = getD (fields m) k (row 0 0 0 0 [])
 
+-- how many they are
+abbrev pub fieldCount : ℕ
+fieldCount = 8
+
+-- no accepted card is longer
+abbrev pub mostCardBytes : ℕ
+mostCardBytes = 26
+
 abbrev pub tableBit : ℕ
 tableBit = 2
+
+abbrev pub constantBit : ℕ
+constantBit = 5
 
 -- the bytes of a field
 abbrev pub extent : Field → ℕ

@@ -6,10 +6,10 @@ use lib.Dec.{eqb, leb, ltb}
 use lib.ListN.{length, getD, drop}
 use Rattle.cycle.specs.Notation.{sum, zeroFilled, bit}
 use Rattle.tsc.specs.declared.Card.{Card}
-use Rattle.tsc.specs.Constants.{mostWords}
+use Rattle.tsc.specs.Constants.{mostWords, defaultWords}
 use Rattle.card_format.specs.declared.Reading.{Reading}
 use Rattle.refusals.specs.Refusals.{Check, check, firstOf, NoneApplies, truncated, outOfRange, redundant, tableMissing, trailingBytes, constantTooWide}
-use Rattle.card_format.specs.Fields.{Field, field, tableBit, extent, numbers, allowed, same}
+use Rattle.card_format.specs.Fields.{Field, field, fieldCount, tableBit, extent, numbers, allowed, same}
 
 -- whether field k is present
 abbrev pub present : List ℕ → ℕ → Bool
@@ -68,7 +68,7 @@ unfoldable pub fieldChecks : List ℕ → ℕ → List Check
 fieldChecks bytes k =
     let m = wordsOf bytes in
     cond (present bytes k) (partChecks (field m k) (drop (offset m bytes k) bytes))
-    (check tableMissing (eqb k tableBit && not (eqb m 4)) ∷ [])
+    (check tableMissing (eqb k tableBit && not (eqb m defaultWords)) ∷ [])
 
 -- the map, then the fields before field k
 unfoldable pub checksTo : List ℕ → ℕ → List Check
@@ -82,8 +82,8 @@ constantCheck card = check constantTooWide (leb (2 ^ card .width) (card .constan
 -- conditions 1 to 6
 unfoldable pub formChecks : List ℕ → List Check
 formChecks bytes =
-    checksTo bytes 8
-    ++ (check trailingBytes (ltb (offset (wordsOf bytes) bytes 8) (length bytes))
+    checksTo bytes fieldCount
+    ++ (check trailingBytes (ltb (offset (wordsOf bytes) bytes fieldCount) (length bytes))
     ∷ constantCheck (cardOf bytes)
     ∷ [])
 

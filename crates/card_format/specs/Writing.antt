@@ -9,7 +9,7 @@ use Rattle.tsc.specs.declared.Card.{Card}
 use Rattle.card_format.specs.declared.Written.{Written}
 use Rattle.card_format.specs.declared.Written.the-variants.{Length, Refused}
 use Rattle.refusals.specs.Refusals.{Check, check, firstOf, outOfRange, bufferTooSmall}
-use Rattle.card_format.specs.Fields.{field, bytesOf, allowed, same}
+use Rattle.card_format.specs.Fields.{field, fieldCount, bytesOf, allowed, same}
 use Rattle.card_format.specs.Reading.{constantCheck}
 use Rattle.card_format.specs.Verdict.{periodChecks, cardChecks}
 
@@ -21,7 +21,7 @@ numbersOf card k =
     ∷ (card .«even_power» ∷ []) ∷ (card .constant ∷ []) ∷ (card .filter ∷ []) ∷ (card .«sum_term» ∷ []) ∷ [])
     k []
 
--- a field is written only when it differs from its absent value; so the table always is when m is not 4
+-- a field is written only when it differs from its absent value; so the table always is when m is not the default
 abbrev pub isWritten : Card → ℕ → Bool
 isWritten card k = not (same (numbersOf card k) (field (card .words) k .absent))
 
@@ -35,11 +35,11 @@ mapTo card k = sum k (λ j. cond (isWritten card j) (2 ^ j) 0)
 
 -- the map, then the fields before field k
 unfoldable pub writtenTo : Card → ℕ → List ℕ
-writtenTo card zero = mapTo card 8 ∷ []
+writtenTo card zero = mapTo card fieldCount ∷ []
 writtenTo card (suc k) = writtenTo card k ++ fieldBytes card k
 
 abbrev pub written : Card → List ℕ
-written card = writtenTo card 8
+written card = writtenTo card fieldCount
 
 -- whether the entries past 2^m are 0
 abbrev pub unusedClear : ℕ → List ℕ → Bool
@@ -47,7 +47,7 @@ unusedClear m table = let rest = drop (2 ^ m) table in same rest (replicate (len
 
 -- whether every value is allowed, and unused table entries are 0
 unfoldable pub inRange : Card → Bool
-inRange card = every 8 (λ k. allowed (field (card .words) k) (numbersOf card k)) && unusedClear (card .words) (card .table)
+inRange card = every fieldCount (λ k. allowed (field (card .words) k) (numbersOf card k)) && unusedClear (card .words) (card .table)
 
 -- 2, 6, 7, 8, 9, on a card's values
 unfoldable pub valueChecks : Card → List Check

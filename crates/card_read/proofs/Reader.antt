@@ -14,20 +14,25 @@ use lib.Count.{trailingZeros, trailing-le}
 use lib.Dec.{eqb, leb, ltb}
 use lib.ListN.{length, getD, set, drop, length-drop}
 use lib.Seq.{getD-set-other, set-getD}
-use Rattle.tsc.specs.Constants.{mostWords, tsc1Table}
-use Rattle.cycle.specs.Notation.{sum}
+use Rattle.tsc.specs.Constants.{mostWords, defaultWords, tsc1Table}
+use Rattle.cycle.specs.Notation.{sum, tabulate}
 use Rattle.card_read.specs.declared.read.Values.{Values}
 use Rattle.refusals.specs.Refusals.{Check, firstOf, NoneApplies}
-use Rattle.card_format.specs.Fields.{Field, field, fields, tableBit, numbers}
+use Rattle.card_format.specs.Fields.{Field, field, fields, fieldCount, tableBit, constantBit, numbers}
 use Rattle.card_format.specs.Reading.{reading, refusedReading, answering, present, offset, valuesAt, wordsOf, values, value, padded, cardFrom, cardOf, partChecks, fieldChecks, checksTo, formChecks, SoundForm}
-use Rattle.card_read.specs.FieldRead.{fieldRead, missing}
+use Rattle.card_read.specs.FieldRead.{fieldRead, missing, endChecks}
 use Rattle.refusals.proofs.Refusals.{none-first, first-append, first-left, none-append}
-use Rattle.card_format.proofs.Fields.{allowed-at, field-fixed, each, absents, numeric, size-one}
+use Rattle.card_format.proofs.Fields.{each-number, count-one, size-one, allowed-at}
+use Rattle.card_fields.proofs.Arrays.{arrayOf, array-of}
 use Rattle.card_format.proofs.Verdict.{answering-refused, words-sound}
 use Rattle.card_format.proofs.RoundTrip.{row-facts}
 use Rattle.card_read.proofs.Map.{Left, lowest-one, left-below, next-field}
 use Rattle.card_format.proofs.Sound.{offset-suc, fields-none, none-fitting, value-words, sound-value}
 use Rattle.card_read.proofs.FieldRead.{used-fits}
+
+-- the numbers of absent fields
+abbrev pub absents : List ℕ
+absents = arrayOf defaultWords (λ f. getD (f .absent) 0 0)
 
 -- the numbers and the table, once the fields before field k are read
 pub numbersTo : List ℕ → ℕ → List ℕ
@@ -35,7 +40,7 @@ numbersTo bytes zero = absents
 numbersTo bytes (suc k) = cond (eqb k tableBit) (numbersTo bytes k) (set (numbersTo bytes k) k (value bytes k))
 
 pub tableTo : List ℕ → ℕ → List ℕ
-tableTo bytes zero = tsc1Table
+tableTo bytes zero = padded tsc1Table
 tableTo bytes (suc k) = cond (eqb k tableBit) (padded (values bytes k)) (tableTo bytes k)
 
 -- none of the checks before field `next` applies, it is at `at`, and v has the values before it
@@ -57,15 +62,17 @@ stored-other bytes k j ne = go (eqb k tableBit)
     go true = refl
     go false = getD-set-other (numbersTo bytes k) k j (value bytes k) 0 ne
 
--- those that are not read yet are absent
-numbers-ahead : (bytes : List ℕ) (k j : ℕ) → k ≤ j → getD (numbersTo bytes k) j 0 ≡ getD absents j 0
-unfolding numbersTo
-numbers-ahead bytes zero j l = refl
-numbers-ahead bytes (suc k) j l = stored-other bytes k j (λ e. absurd (omega arith)) ∙ numbers-ahead bytes k j (omega arith)
+-- those that are not read yet are absent; absent values do not depend on m
+numbers-ahead : (bytes : List ℕ) (m k j : ℕ) → j < fieldCount → j ≢ tableBit → k ≤ j → getD (numbersTo bytes k) j 0 ≡ getD (field m j .absent) 0 0
+unfolding numbersTo field fields
+numbers-ahead bytes m zero j lj ne l =
+    array-of defaultWords (λ f. getD (f .absent) 0 0) j lj ne
+    ∙ each-number (λ k. getD (field defaultWords k .absent) 0 0 ≡ getD (field m k .absent) 0 0) refl refl refl refl refl refl refl j lj ne
+numbers-ahead bytes m (suc k) j lj ne l = stored-other bytes k j (λ e. absurd (omega arith)) ∙ numbers-ahead bytes m k j lj ne (omega arith)
 
 -- after field 0, number 0 is m
 words-read : (bytes : List ℕ) (k : ℕ) → 0 < k → getD (numbersTo bytes k) 0 0 ≡ wordsOf bytes
-unfolding numbersTo
+unfolding numbersTo arrayOf tabulate
 words-read bytes zero p = absurd (omega arith)
 words-read bytes (suc zero) p = value-words bytes
 words-read bytes (suc (suc k)) p = stored-other bytes (suc k) 0 (λ e. absurd (omega arith)) ∙ words-read bytes (suc k) (omega arith)
@@ -78,14 +85,13 @@ values-absent : (bytes : List ℕ) (k : ℕ) → present bytes k ≡ false → v
 unfolding valuesAt
 values-absent bytes k a = rw a refl
 
-numbers-absent : (bytes : List ℕ) (k : ℕ) → k < 8 → present bytes k ≡ false → numbersTo bytes k ≡ numbersTo bytes (suc k)
+numbers-absent : (bytes : List ℕ) (k : ℕ) → k < fieldCount → present bytes k ≡ false → numbersTo bytes k ≡ numbersTo bytes (suc k)
 unfolding numbersTo
 numbers-absent bytes k l a = go (ℕ-discrete k tableBit)
   where
     own : k ≢ tableBit → value bytes k ≡ getD (numbersTo bytes k) k 0
     own ne =
-        ap (λ (xs : List ℕ). getD xs 0 0) (values-absent bytes k a ∙ ap (λ (f : Field). f .absent) (numeric (wordsOf bytes) k l ne))
-        ∙ sym (numbers-ahead bytes k k (le-refl k))
+        ap (λ (xs : List ℕ). getD xs 0 0) (values-absent bytes k a) ∙ sym (numbers-ahead bytes (wordsOf bytes) k k l ne (le-refl k))
 
     go : Dec (k ≡ tableBit) → numbersTo bytes k ≡ cond (eqb k tableBit) (numbersTo bytes k) (set (numbersTo bytes k) k (value bytes k))
     go (yes e) = simp (eq-eqb k tableBit e)
@@ -102,14 +108,14 @@ table-absent bytes k a = go (ℕ-discrete k tableBit)
 -- ---- from field to field
 
 -- before field 0 stands the map
-pub reached-map : (bytes : List ℕ) (v : Values) → 0 < length bytes → v .numbers ≡ absents → v .table ≡ tsc1Table → Reached bytes 0 1 v
+pub reached-map : (bytes : List ℕ) (v : Values) → 0 < length bytes → v .numbers ≡ absents → v .table ≡ padded tsc1Table → Reached bytes 0 1 v
 unfolding checksTo offset sum numbersTo tableTo NoneApplies
 reached-map bytes v l en et =
     record { none = (ne-eqb (length bytes) 0 (λ e. absurd (omega arith)), tt); start = refl; within = l; numbers = en; table = et }
 
 -- past a field that is absent, and needn't be there
-pub reached-absent : (bytes : List ℕ) (k at : ℕ) (v : Values) → k < 8 → Reached bytes k at v → present bytes k ≡ false
-    → (k ≡ tableBit → wordsOf bytes ≡ 4) → Reached bytes (suc k) at v
+pub reached-absent : (bytes : List ℕ) (k at : ℕ) (v : Values) → k < fieldCount → Reached bytes k at v → present bytes k ≡ false
+    → (k ≡ tableBit → wordsOf bytes ≡ defaultWords) → Reached bytes (suc k) at v
 unfolding checksTo fieldChecks NoneApplies
 reached-absent bytes k at v l h a four =
     record {
@@ -120,40 +126,38 @@ reached-absent bytes k at v l h a four =
       table = h .table ∙ table-absent bytes k a;
     }
   where
-    there : Dec (k ≡ tableBit) → (eqb k tableBit && not (eqb (wordsOf bytes) 4)) ≡ false
-    there (yes e) = simp (eq-eqb k tableBit e, eq-eqb (wordsOf bytes) 4 (four e))
+    there : Dec (k ≡ tableBit) → (eqb k tableBit && not (eqb (wordsOf bytes) defaultWords)) ≡ false
+    there (yes e) = simp (eq-eqb k tableBit e, eq-eqb (wordsOf bytes) defaultWords (four e))
     there (no ne) = simp (ne-eqb k tableBit ne)
 
 -- ---- which refusal is told
 
 -- that of field k, where none before it applies
-told-at : (bytes : List ℕ) (k : ℕ) → k < 8 → NoneApplies (checksTo bytes k) → (r : ℕ) → r ≢ 0 → firstOf (fieldChecks bytes k) ≡ r
+told-at : (bytes : List ℕ) (k : ℕ) → k < fieldCount → NoneApplies (checksTo bytes k) → (r : ℕ) → r ≢ 0 → firstOf (fieldChecks bytes k) ≡ r
     → firstOf (formChecks bytes) ≡ r
 unfolding formChecks checksTo
 told-at bytes k l none r ne e =
-    keep (checksTo bytes 8) _ (le-ind (λ (j : ℕ). firstOf (checksTo bytes j) ≡ r)
-    (first-append (checksTo bytes k) (fieldChecks bytes k) none ∙ e) (λ j g h. keep (checksTo bytes j) (fieldChecks bytes j) h) 8 l)
+    keep (checksTo bytes fieldCount) _ (le-ind (λ (j : ℕ). firstOf (checksTo bytes j) ≡ r)
+    (first-append (checksTo bytes k) (fieldChecks bytes k) none ∙ e) (λ j g h. keep (checksTo bytes j) (fieldChecks bytes j) h) fieldCount l)
   where
     keep : (cs ds : List Check) → firstOf cs ≡ r → firstOf (cs ++ ds) ≡ r
     keep cs ds h = first-left cs ds (λ z. ne (sym h ∙ z)) ∙ h
 
 -- 4, where the table is absent and must not be
 pub told-missing : (bytes : List ℕ) (at : ℕ) (v : Values) → Reached bytes tableBit at v → present bytes tableBit ≡ false
-    → getD (v .numbers) 0 0 ≢ 4 → firstOf (formChecks bytes) ≡ 4
+    → getD (v .numbers) 0 0 ≢ defaultWords → firstOf (formChecks bytes) ≡ 4
 unfolding fieldChecks firstOf
 told-missing bytes at v h a ne =
     told-at bytes tableBit (omega arith) (h .none) 4 (λ e. absurd (omega arith))
-    (rw a (simp (ne-eqb (wordsOf bytes) 4 (λ e. ne (words-known bytes tableBit at v h (omega arith) ∙ e)))))
+    (rw a (simp (ne-eqb (wordsOf bytes) defaultWords (λ e. ne (words-known bytes tableBit at v h (omega arith) ∙ e)))))
 
 -- ---- a field that is present
 
--- the reader knows the field, since m is known at the table's place
+-- the reader knows the field: the words field does not depend on m, and behind it m is known
 field-known : (bytes : List ℕ) (k at : ℕ) (v : Values) → Reached bytes k at v → field (getD (v .numbers) 0 0) k ≡ field (wordsOf bytes) k
-field-known bytes k at v h = go (ℕ-discrete k tableBit)
-  where
-    go : Dec (k ≡ tableBit) → field (getD (v .numbers) 0 0) k ≡ field (wordsOf bytes) k
-    go (yes e) = ap (λ (m : ℕ). field m k) (words-known bytes k at v h (omega arith))
-    go (no ne) = field-fixed _ k ne ∙ sym (field-fixed _ k ne)
+unfolding field fields
+field-known bytes zero at v h = refl
+field-known bytes (suc k) at v h = ap (λ (m : ℕ). field m (suc k)) (words-known bytes (suc k) at v h (omega arith))
 
 -- what the field's reader answers is what the checks of field k tell
 field-told : (bytes : List ℕ) (k at : ℕ) (v : Values) → Reached bytes k at v → present bytes k ≡ true
@@ -161,7 +165,7 @@ field-told : (bytes : List ℕ) (k at : ℕ) (v : Values) → Reached bytes k at
 unfolding fieldRead fieldChecks
 field-told bytes k at v h p = rw (p, field-known bytes k at v h, h .start) refl
 
-pub told-field : (bytes : List ℕ) (k at : ℕ) (v : Values) → k < 8 → Reached bytes k at v → present bytes k ≡ true
+pub told-field : (bytes : List ℕ) (k at : ℕ) (v : Values) → k < fieldCount → Reached bytes k at v → present bytes k ≡ true
     → fieldRead k (drop at bytes) v .refusal ≢ 0 → firstOf (formChecks bytes) ≡ fieldRead k (drop at bytes) v .refusal
 told-field bytes k at v l h p ne = told-at bytes k l (h .none) _ ne (sym (field-told bytes k at v h p))
 
@@ -174,7 +178,7 @@ cond-not : (b : Bool) (x y : List ℕ) → cond (not b) x y ≡ cond b y x
 cond-not true x y = refl
 cond-not false x y = refl
 
-pub reached-field : (bytes : List ℕ) (k at : ℕ) (v : Values) → k < 8 → Reached bytes k at v → present bytes k ≡ true
+pub reached-field : (bytes : List ℕ) (k at : ℕ) (v : Values) → k < fieldCount → Reached bytes k at v → present bytes k ≡ true
     → fieldRead k (drop at bytes) v .refusal ≡ 0 → Reached bytes (suc k) (at + fieldRead k (drop at bytes) v .used) (fieldRead k (drop at bytes) v)
 unfolding checksTo fieldRead numbersTo tableTo
 reached-field bytes k at v l h p z =
@@ -190,10 +194,10 @@ reached-field bytes k at v l h p z =
 
 -- ---- over absent fields
 
-no-table : (next k m : ℕ) → missing next k m ≡ false → next ≤ tableBit → tableBit < k → m ≡ 4
-no-table next k m h n l = eqb-true m 4 (not-false _ (rw (le-leb next tableBit n, lt-ltb tableBit k l) at h))
+no-table : (next k m : ℕ) → missing next k m ≡ false → next ≤ tableBit → tableBit < k → m ≡ defaultWords
+no-table next k m h n l = eqb-true m defaultWords (not-false _ (rw (le-leb next tableBit n, lt-ltb tableBit k l) at h))
 
-pub reached-next : (bytes : List ℕ) (next k at : ℕ) (v : Values) → Reached bytes next at v → next ≤ k → k ≤ 8
+pub reached-next : (bytes : List ℕ) (next k at : ℕ) (v : Values) → Reached bytes next at v → next ≤ k → k ≤ fieldCount
     → ((j : ℕ) → next ≤ j → j < k → present bytes j ≡ false) → missing next k (getD (v .numbers) 0 0) ≡ false → Reached bytes k at v
 reached-next bytes next k at v h n l a none =
     le-ind (λ (j : ℕ). j ≤ k → Reached bytes j at v) (λ lj. h)
@@ -202,7 +206,7 @@ reached-next bytes next k at v h n l a none =
     (λ e. sym (words-known bytes j at v here (omega arith)) ∙ no-table next k _ none (omega arith) (omega arith)))
     k n (le-refl k)
 
-pub told-gap : (bytes : List ℕ) (next k at : ℕ) (v : Values) → Reached bytes next at v → k ≤ 8
+pub told-gap : (bytes : List ℕ) (next k at : ℕ) (v : Values) → Reached bytes next at v → k ≤ fieldCount
     → ((j : ℕ) → next ≤ j → j < k → present bytes j ≡ false) → missing next k (getD (v .numbers) 0 0) ≡ true → firstOf (formChecks bytes) ≡ 4
 told-gap bytes next k at v h l a m =
     let b = and-eq-true-iff _ _ .0 m in
@@ -211,7 +215,7 @@ told-gap bytes next k at v h l a m =
     let t = ltb-true tableBit k (c .1) in
     told-missing bytes at v
     (reached-next bytes next tableBit at v h n (omega arith) (λ j nj lj. a j nj (omega arith)) (simp (le-ltb tableBit tableBit (le-refl tableBit), and-false)))
-    (a tableBit n t) (eqb-false _ 4 (not-true _ (b .1)))
+    (a tableBit n t) (eqb-false _ defaultWords (not-true _ (b .1)))
 
 -- ---- the loop: what is left of the map goes with the place
 
@@ -263,10 +267,10 @@ rest-refused bytes left next at v r h p m e ne =
     let re = ap (λ (r : Values). r .refusal) e in
     told-field bytes (trailingZeros 8 left) at v (here .1) (here .0) (here .2) (λ z. ne (re ∙ z)) ∙ sym re
 
--- m is at most 4 once the words field is past its checks, and before
+-- m is within its bounds once the words field is past its checks, and before
 pub words-few : (bytes : List ℕ) (next at : ℕ) (v : Values) → Reached bytes next at v → getD (v .numbers) 0 0 ≤ mostWords
-unfolding numbersTo fields field
-words-few bytes zero at v h = rw (h .numbers) (le-refl mostWords)
+unfolding numbersTo arrayOf tabulate fields field
+words-few bytes zero at v h = rw (h .numbers) (omega arith)
 words-few bytes (suc k) at v h =
     let f = none-fitting bytes 0 (omega arith) (fields-none bytes 0 (suc k) (omega arith) (h .none)) in
     omega (arith, words-known bytes (suc k) at v h (omega arith), value-words bytes, allowed-at _ (values bytes 0) (f .allow) 0 (omega (arith, f .count)) .1)
@@ -278,15 +282,28 @@ pub told-empty : (bytes : List ℕ) → length bytes ≡ 0 → firstOf (formChec
 unfolding formChecks checksTo firstOf
 told-empty bytes e = rw (eq-eqb (length bytes) 0 e) refl
 
--- past the last field: 5, then 6
-pub told-end : (bytes : List ℕ) (at : ℕ) (v : Values) → Reached bytes 8 at v
-    → firstOf (formChecks bytes) ≡ cond (ltb at (length bytes)) 5 (cond (leb (2 ^ getD (v .numbers) 1 0) (getD (v .numbers) 5 0)) 6 0)
-unfolding formChecks firstOf cardOf numbersTo
-told-end bytes at v h = first-append (checksTo bytes 8) _ (h .none) ∙ sym (rw (h .numbers, h .start) refl)
+-- past the last field: 4 where the table is missing, then 5, then 6
+pub told-end : (bytes : List ℕ) (next at : ℕ) (v : Values) → Rest bytes 0 next at v → next ≤ fieldCount
+    → firstOf (formChecks bytes) ≡ firstOf (endChecks (length bytes) next at v)
+unfolding formChecks endChecks firstOf cardOf numbersTo arrayOf tabulate trailingZeros
+told-end bytes next at v h n = go (missing next fieldCount (getD (v .numbers) 0 0)) refl
+  where
+    go : (b : Bool) → missing next fieldCount (getD (v .numbers) 0 0) ≡ b
+        → firstOf (formChecks bytes) ≡ cond b 4 (cond (ltb at (length bytes)) 5 (cond (leb (2 ^ getD (v .numbers) 1 0) (getD (v .numbers) 5 0)) 6 0))
+    go true m = rest-gap bytes 0 next at v h m
+    go false m =
+        let r = rest-reached bytes 0 next at v h n m in
+        first-append (checksTo bytes fieldCount) _ (r .none) ∙ sym (rw (r .numbers, r .start) refl)
+
+-- and past these
+pub end-reached : (bytes : List ℕ) (next at : ℕ) (v : Values) → Rest bytes 0 next at v → next ≤ fieldCount
+    → firstOf (endChecks (length bytes) next at v) ≡ 0 → Reached bytes fieldCount at v
+unfolding endChecks NoneApplies trailingZeros
+end-reached bytes next at v h n e = rest-reached bytes 0 next at v h n (none-first (endChecks (length bytes) next at v) e .0)
 
 -- the card of the values
-pub card-read : (bytes : List ℕ) (at : ℕ) (v : Values) → Reached bytes 8 at v → cardFrom (λ k. getD (v .numbers) k 0) (v .table) ≡ cardOf bytes
-unfolding cardOf numbersTo tableTo
+pub card-read : (bytes : List ℕ) (at : ℕ) (v : Values) → Reached bytes fieldCount at v → cardFrom (λ k. getD (v .numbers) k 0) (v .table) ≡ cardOf bytes
+unfolding cardOf numbersTo tableTo arrayOf tabulate
 card-read bytes at v h = rw (h .numbers, h .table) refl
 
 pub reading-refused : (bytes : List ℕ) (r : ℕ) → r ≢ 0 → firstOf (formChecks bytes) ≡ r → refusedReading r ≡ reading bytes
@@ -298,19 +315,17 @@ unfolding reading
 reading-accepted bytes e = rw e refl
 
 -- a number is the field's value, and below 256 where it has one byte
-numbers-read : (bytes : List ℕ) (k : ℕ) → k < 8 → k ≢ tableBit → getD (numbersTo bytes 8) k 0 ≡ value bytes k
-unfolding numbersTo
+numbers-read : (bytes : List ℕ) (k : ℕ) → k < fieldCount → k ≢ tableBit → getD (numbersTo bytes fieldCount) k 0 ≡ value bytes k
+unfolding numbersTo arrayOf tabulate
 numbers-read bytes =
-    each (λ (k : ℕ). k ≢ tableBit → getD (numbersTo bytes 8) k 0 ≡ value bytes k) (λ n. refl) (λ n. refl) (λ n. absurd (n refl)) (λ n. refl)
-    (λ n. refl) (λ n. refl) (λ n. refl) (λ n. refl)
+    each-number (λ k. getD (numbersTo bytes fieldCount) k 0 ≡ value bytes k) refl refl refl refl refl refl refl
 
-pub byte-values : (bytes : List ℕ) → SoundForm bytes → (at : ℕ) (v : Values) → Reached bytes 8 at v
-    → (k : ℕ) → k < 8 → k ≢ tableBit → k ≢ 5 → getD (v .numbers) k 0 < 256
+pub byte-values : (bytes : List ℕ) → SoundForm bytes → (at : ℕ) (v : Values) → Reached bytes fieldCount at v
+    → (k : ℕ) → k < fieldCount → k ≢ tableBit → k ≢ constantBit → getD (v .numbers) k 0 < 256
 unfolding cardOf
 byte-values bytes s at v h k l ne nc =
     let m = wordsOf bytes in
-    let e = numeric m k l ne in
     let read : getD (v .numbers) k 0 ≡ value bytes k = ap (λ (xs : List ℕ). getD xs k 0) (h .numbers) ∙ numbers-read bytes k l ne in
     let few : m ≤ mostWords = omega (arith, value-words bytes, words-sound bytes s) in
-    let byte : 256 ^ field m k .size ≡ 256 = ap (λ (n : ℕ). 256 ^ n) (ap (λ (f : Field). f .size) e ∙ size-one k l ne nc) in
-    omega (arith, read, sound-value bytes s k l (ap (λ (f : Field). f .count) e) .1, row-facts m k few l .0, byte)
+    let byte : 256 ^ field m k .size ≡ 256 = ap (λ (n : ℕ). 256 ^ n) (size-one m k l ne nc) in
+    omega (arith, read, sound-value bytes s k l (count-one m k l ne) .1, row-facts m k few l .0, byte)

@@ -1,13 +1,14 @@
 -- What inner functions of the reader answer. Only their contracts cite these; the public contracts do without.
 use mathlib.Core.Bool.{Bool, cond, not, _&&_}
-use mathlib.Core.List.{List}
+use mathlib.Core.List.{List, [], _∷_}
 use Prim.Native.Nat.{ℕ}
 use lib.Dec.{eqb, leb, ltb}
 use lib.ListN.{getD, set}
 use Rattle.card_read.specs.declared.read.Values.{Values}
-use Rattle.refusals.specs.Refusals.{firstOf}
-use Rattle.card_format.specs.Fields.{field, tableBit, extent, numbers}
-use Rattle.card_format.specs.Reading.{partChecks, padded}
+use Rattle.tsc.specs.Constants.{defaultWords}
+use Rattle.refusals.specs.Refusals.{Check, check, firstOf, tableMissing, trailingBytes}
+use Rattle.card_format.specs.Fields.{field, fieldCount, tableBit, extent, numbers}
+use Rattle.card_format.specs.Reading.{partChecks, padded, cardFrom, constantCheck}
 
 -- a field's refusal: nothing is used and the values are as they were
 abbrev pub refusedAt : Values → ℕ → Values
@@ -26,6 +27,15 @@ fieldRead k part v =
       table = cond (eqb r 0 && isTable) (padded (numbers f part)) (v .table);
     }
 
--- whether no table stands between the fields `next` and k, though m is not 4
+-- whether no table stands between the fields `next` and k, though m is not the default
 abbrev pub missing : ℕ → ℕ → ℕ → Bool
-missing next k m = leb next tableBit && ltb tableBit k && not (eqb m 4)
+missing next k m = leb next tableBit && ltb tableBit k && not (eqb m defaultWords)
+
+-- what the end of a card of `size` bytes is refused for, where no field from `next` on is left and the last one ended at `at`
+unfoldable pub endChecks : ℕ → ℕ → ℕ → Values → List Check
+endChecks size next at v =
+    let n : ℕ → ℕ = λ k. getD (v .numbers) k 0 in
+    check tableMissing (missing next fieldCount (n 0))
+    ∷ check trailingBytes (ltb at size)
+    ∷ constantCheck (cardFrom n (v .table))
+    ∷ []

@@ -4,15 +4,17 @@ ghost use mathlib.Core.Logic.{_≢_};
 ghost use Prim.Native.Nat.{ℕ, _<_, _≤_};
 ghost use lib.ListN.{length, getD};
 ghost use Rattle.tsc.specs.Constants.{mostWords};
-ghost use Rattle.card_format.specs.Fields.{tableBit};
+ghost use Rattle.refusals.specs.Refusals.{firstOf};
+ghost use Rattle.card_format.specs.Fields.{fieldCount, tableBit, constantBit};
 ghost use Rattle.card_format.specs.Reading.{cardFrom, refusedReading, reading};
-ghost use Rattle.card_read.specs.FieldRead.{refusedAt, fieldRead, missing};
+ghost use Rattle.card_read.specs.FieldRead.{refusedAt, fieldRead, missing, endChecks};
 use card_fields::field;
 use card_fields::number;
 use card_fields::number::Number;
 use card_fields::table;
 use card_format::Reading;
 use tsc::Card;
+use tsc::DEFAULT_WORDS;
 use tsc::TABLE_SIZE;
 
 // What a field's reader hands on: the refusal or 0, the bytes that it used, and the values so far, the numbers by their bits.
@@ -61,18 +63,19 @@ fn read_table(part: &[u8], v: Values) -> Values
 
 // Field k at the start of the part.
 fn read_field(k: usize, part: &[u8], v: Values) -> Values
-    requires { ⌜ (k < 8) × (getD (v .numbers) 0 0 ≤ mostWords) ⌝ }
+    requires { ⌜ (k < fieldCount) × (getD (v .numbers) 0 0 ≤ mostWords) ⌝ }
     ensures { λ r. ⌜ r ≡ fieldRead k (now (part .entry)) v ⌝ }
     ensures { λ r. ⌜ r .used ≤ length (now (part .entry)) ⌝ }
 {
     if k == field::TABLE {
         return read_table(part, v);
     }
-    match number::read_number(k, part) {
+    let m = v.numbers[field::WORDS];
+    match number::read_number(k, m, part) {
         Number::Value(x) => {
             let mut out = v;
             out.refusal = 0;
-            out.used = field::SIZE[k];
+            out.used = field::extent_of(k, m);
             out.numbers[k] = x;
             out
         }
@@ -80,16 +83,33 @@ fn read_field(k: usize, part: &[u8], v: Values) -> Values
     }
 }
 
-// Whether no table stands between the fields `next` and k, though m is not 4.
+// Whether no table stands between the fields `next` and k, though m is not the default.
 fn table_missing(next: usize, k: usize, m: u32) -> bool
     ensures { λ r. ⌜ r ≡ missing next k m ⌝ }
 {
     if next <= field::TABLE {
         if field::TABLE < k {
-            return m != 4;
+            return m != DEFAULT_WORDS;
         }
     }
     false
+}
+
+// What the end of a card of so many bytes is refused for, where no field from `next` on is left and the last one ended at `at`: the first of 4, 5 and 6 that
+// applies, or 0.
+fn end_refusal(size: usize, next: usize, at: usize, v: Values) -> u8
+    ensures { λ r. ⌜ r ≡ firstOf (endChecks size next at v) ⌝ }
+{
+    if table_missing(next, field::FIELDS, v.numbers[field::WORDS]) {
+        return refusals::TABLE_MISSING;
+    }
+    if at < size {
+        return refusals::TRAILING_BYTES;
+    }
+    if field::exceeds(v.numbers[field::CONSTANT], v.numbers[field::WIDTH]) {
+        return refusals::CONSTANT_TOO_WIDE;
+    }
+    0
 }
 
 // A refusal, with the card that goes with it.
@@ -113,7 +133,7 @@ pub fn refused(number: u8) -> Reading
 
 // The card of these values.
 fn card_of(v: Values) -> Card
-    requires { ⌜ ((k : ℕ) → k < 8 → k ≢ tableBit → k ≢ 5 → getD (v .numbers) k 0 < 256) ⌝ }
+    requires { ⌜ ((k : ℕ) → k < fieldCount → k ≢ tableBit → k ≢ constantBit → getD (v .numbers) k 0 < 256) ⌝ }
     ensures { λ r. ⌜ r ≡ cardFrom (λ k. getD (v .numbers) k 0) (v .table) ⌝ }
 {
     let table = v.table;
@@ -140,7 +160,7 @@ pub fn read(card: &[u8]) -> Reading
         refusal: 0,
         used: 0,
         numbers: field::ABSENT,
-        table: table::TSC1_TABLE,
+        table: table::absent_table(),
     };
     let mut left = card[0];
     let mut next: usize = 0;
@@ -158,14 +178,9 @@ pub fn read(card: &[u8]) -> Reading
         next = k + 1;
         left = left & (left - 1);
     }
-    if table_missing(next, field::FIELDS, v.numbers[field::WORDS]) {
-        return refused(refusals::TABLE_MISSING);
-    }
-    if at < card.len() {
-        return refused(refusals::TRAILING_BYTES);
-    }
-    if field::exceeds(v.numbers[field::CONSTANT], v.numbers[field::WIDTH]) {
-        return refused(refusals::CONSTANT_TOO_WIDE);
+    let told = end_refusal(card.len(), next, at, v);
+    if told != 0 {
+        return refused(told);
     }
     Reading {
         refusal: 0,

@@ -9,6 +9,10 @@ fewestWords = 2
 abbrev pub mostWords : ℕ
 mostWords = 4
 
+-- m of a card that does not give it, and of TSC-1 and TSC-2: the one m whose table may be absent
+abbrev pub defaultWords : ℕ
+defaultWords = 4
+
 -- bits n of a word
 abbrev pub narrowestWidth : ℕ
 narrowestWidth = 2

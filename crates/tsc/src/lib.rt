@@ -5,6 +5,9 @@ pub const MOST_WORDS: usize = 4;
 
 pub const TABLE_SIZE: usize = 16;
 
+// m of a card that does not give it: the one m whose table may be absent.
+pub const DEFAULT_WORDS: u32 = 4;
+
 // The values of a card (document 01, The card): what a generator is set up by.
 pub struct Card {
     // m, the words of a state

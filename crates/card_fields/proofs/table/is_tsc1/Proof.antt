@@ -1,32 +1,40 @@
-use lib.Pow.{pow-lt}
 use mathlib.Core.List.{List}
+use mathlib.Core.Logic.{_≢_}
 use mathlib.Core.Path.{_≡_, sym, ap, _∙_}
+use native.Mathlib.Decide.{decLt}
 use native.Mathlib.Omega.{arith}
 use Prim.Native.Nat.{ℕ, _-_, _^_, _≤_, _<_}
 use borrow.Author.Needs.{needs}
 use lib.ListN.{length, getD, take}
-use lib.Seq.{length-take-le, take-all}
-use Rattle.tsc.specs.Constants.{tsc1Table}
-use Rattle.card_format.proofs.Fields.{same-all, same-not}
+use lib.Pow.{pow-lt}
+use lib.Seq.{length-take-le, getD-take}
 use Rattle.cycle.proofs.Every.{extend}
+use Rattle.tsc.specs.Constants.{mostWords, defaultWords, tsc1Table}
+use Rattle.card_format.proofs.Fields.{few-entries, same-all, same-not}
 use Rattle.card_fields.proofs.table.is_tsc1.Statement.{statement}
 use Rattle.card_fields.proofs.table.is_tsc1.Tie as tie
 
--- a table of 4 words is used whole
-whole : (t : List ℕ) (m : ℕ) → length t ≡ 16 → m ≡ 4 → take (2 ^ m) t ≡ t
-whole t m z e = rw e (take-all 16 t (omega arith))
+other-size : (m : ℕ) → m ≢ defaultWords → 2 ^ m ≢ 2 ^ defaultWords
+other-size m ne e = go (decLt m defaultWords)
+  where
+    go : Dec (m < defaultWords) → ⊥
+    go (yes l) = let p : 2 ^ m < 2 ^ defaultWords = pow-lt l in omega arith
+    go (no n) = let p : 2 ^ defaultWords < 2 ^ m = pow-lt {i = defaultWords} (omega arith) in omega arith
+
+used : (t : List ℕ) (m : ℕ) → length t ≡ 2 ^ mostWords → m ≤ mostWords → length (take (2 ^ m) t) ≡ 2 ^ m
+used t m z few = length-take-le (2 ^ m) t (omega (arith, few-entries m few))
 
 abbrev Inv-loop : tie.InvT-loop
-Inv-loop m table i₀ i = (m ≡ 4) × (i ≤ 16) × ((j : ℕ) → j < i → getD table j 0 ≡ getD tsc1Table j 0)
+Inv-loop m table i₀ i = (m ≡ defaultWords) × (i ≤ 2 ^ defaultWords) × ((j : ℕ) → j < i → getD table j 0 ≡ getD tsc1Table j 0)
 
 abbrev μ-loop : tie.MeasureT-loop
-μ-loop m table i₀ i = 16 - i
+μ-loop m table i₀ i = 2 ^ defaultWords - i
 
 returns : tie.Need-returns Inv-loop μ-loop
 returns c =
-    let z : length (c .before .args .t1) ≡ 16 = search needs in
-    let p : 2 ^ c .before .args .m < 16 = pow-lt {j = 4} (omega arith) in
-    sym (same-not _ _ (λ e. omega (arith, z, p, sym (length-take-le (2 ^ c .before .args .m) (c .before .args .t1) (omega arith)) ∙ ap (λ (l : List ℕ). length l) e)))
+    let a = c .before .args in
+    let z : length (a .t1) ≡ 2 ^ mostWords = search needs in
+    sym (same-not _ _ (λ e. other-size (a .m) (c .if1 .taken) (sym (used (a .t1) (a .m) z (c .before .pre)) ∙ ap (λ (l : List ℕ). length l) e)))
 
 loop-holds : tie.Need-loop-holds Inv-loop μ-loop
 loop-holds c = (omega arith, omega arith, λ j l. absurd (omega arith))
@@ -39,10 +47,10 @@ array-read-if2-2 c = omega arith
 
 returns-2 : tie.Need-returns-2 Inv-loop μ-loop
 returns-2 c =
-    let t = c .before .before .before .before .args .t1 in
-    let z : length t ≡ 16 = search needs in
-    rw (whole t (c .before .before .before .before .args .m) z (c .before .before .loop .inv .0))
-    (sym (same-not t tsc1Table (λ e. c .if2 .taken (ap (λ (l : List ℕ). getD l (c .before .before .loop .i) 0) e))))
+    let a = c .before .before .before .before .args in
+    let i = c .before .before .loop .i in
+    let here : i < 2 ^ a .m = rw (c .before .before .loop .inv .0) (omega arith) in
+    sym (same-not _ _ (λ e. c .if2 .taken (sym (getD-take (2 ^ a .m) (a .t1) i 0 here) ∙ ap (λ (l : List ℕ). getD l i 0) e)))
 
 add-i : tie.Need-add-i Inv-loop μ-loop
 add-i c = omega arith
@@ -55,9 +63,12 @@ loop-again c = (omega arith, omega arith, extend _ _ (c .before .before .loop .i
 
 returns-3 : tie.Need-returns-3 Inv-loop μ-loop
 returns-3 c =
-    let t = c .before .before .before .args .t1 in
-    let z : length t ≡ 16 = search needs in
-    rw (whole t (c .before .before .before .args .m) z (c .before .loop .inv .0)) (sym (same-all t tsc1Table z (λ j l. c .before .loop .inv .2 j (omega arith))))
+    let a = c .before .before .before .args in
+    let l = c .before .loop in
+    let z : length (a .t1) ≡ 2 ^ mostWords = search needs in
+    let size : length (take (2 ^ a .m) (a .t1)) ≡ 2 ^ defaultWords = used (a .t1) (a .m) z (c .before .before .before .pre) ∙ ap (λ (m : ℕ). 2 ^ m) (l .inv .0) in
+    sym (same-all (take (2 ^ a .m) (a .t1)) tsc1Table size
+    (λ j lj. getD-take (2 ^ a .m) (a .t1) j 0 (omega (arith, lj, size, ap (λ (m : ℕ). 2 ^ m) (l .inv .0))) ∙ l .inv .2 j (omega (arith, lj, size))))
 
 pub is-tsc1-spec : {M : Type 1} → statement M
 is-tsc1-spec =

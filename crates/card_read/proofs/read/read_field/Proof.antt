@@ -4,7 +4,6 @@ use mathlib.Core.Path.{_≡_, sym, ap, ap₂, _∙_, subst}
 use mathlib.Core.Logic.{_≢_}
 use mathlib.Core.List.{List}
 use Prim.Native.Nat.{ℕ, _≤_, _<_}
-use native.Mathlib.Nat.{one-mul}
 use borrow.Author.Tests.{ne-eqb, eqb-true}
 use lib.Dec.{eqb}
 use lib.ListN.{length, getD, set}
@@ -14,7 +13,6 @@ use Rattle.refusals.specs.Refusals.{firstOf}
 use Rattle.card_format.specs.Fields.{Field, field, tableBit, extent}
 use Rattle.card_format.specs.Reading.{partChecks}
 use Rattle.card_read.specs.FieldRead.{refusedAt, fieldRead}
-use Rattle.card_format.proofs.Fields.{sizes, numeric, field-fixed}
 use Rattle.card_fields.proofs.Answer.{answered}
 use Rattle.card_read.proofs.FieldRead.{used-fits, field-refused}
 use Rattle.card_read.proofs.read.read_field.Statement.{statement}
@@ -24,20 +22,24 @@ use Rattle.card_read.proofs.read.read_field.Tie as tie
 full : (k : ℕ) (part : List ℕ) (v r : Values) → r ≡ fieldRead k part v → (r ≡ fieldRead k part v) × (r .used ≤ length part)
 full k part v r e = (e, subst (λ (r : Values). r .used ≤ length part) (sym e) (used-fits k part v))
 
-refused-as : (k : ℕ) (part : List ℕ) (v : Values) (q : ℕ) → k ≢ tableBit → Refused q ≡ numberRead (field 4 k) part → refusedAt v q ≡ fieldRead k part v
-refused-as k part v q ne e =
-    let r = answered (field 4 k) part (Refused q) e in
-    field-refused k part v q (ap (λ (n : ℕ). eqb n 0) (r .1) ∙ r .0) (ap (λ (f : Field). firstOf (partChecks f part)) (field-fixed _ k ne) ∙ sym (r .1))
+-- the field that is read
+abbrev here : ℕ → Values → Field
+here k v = field (getD (v .numbers) 0 0) k
 
-stored-as : (k : ℕ) (part : List ℕ) (v : Values) (x : ℕ) → k < 8 → k ≢ tableBit → Value x ≡ numberRead (field 4 k) part
-    → record { refusal = 0; used = getD sizes k 0; numbers = set (v .numbers) k x; table = v .table } ≡ fieldRead k part v
+-- what a number's reader answers, stored
+refused-as : (k : ℕ) (part : List ℕ) (v : Values) (q : ℕ) → Refused q ≡ numberRead (here k v) part → refusedAt v q ≡ fieldRead k part v
+refused-as k part v q e =
+    let r = answered (here k v) part (Refused q) e in
+    field-refused k part v q (ap (λ (n : ℕ). eqb n 0) (r .1) ∙ r .0) (sym (r .1))
+
+stored-as : (k : ℕ) (part : List ℕ) (v : Values) (x u : ℕ) → k ≢ tableBit → Value x ≡ numberRead (here k v) part → u ≡ extent (here k v)
+    → record { refusal = 0; used = u; numbers = set (v .numbers) k x; table = v .table } ≡ fieldRead k part v
 unfolding fieldRead
-stored-as k part v x l ne e =
-    let r = answered (field 4 k) part (Value x) e in
-    rw (field-fixed (getD (v .numbers) 0 0) k ne, r .0, ne-eqb k tableBit ne)
-    (ap₂ {C = Values} (λ (q u : ℕ). record { refusal = q; used = u; numbers = set (v .numbers) k x; table = v .table })
-    (sym (eqb-true _ 0 (r .0))) (sym (ap extent (numeric 4 k l ne) ∙ one-mul (getD sizes k 0)))
-    ∙ ap {B = Values} (λ (x : ℕ). record { refusal = firstOf (partChecks (field 4 k) part); used = extent (field 4 k); numbers = set (v .numbers) k x; table = v .table }) (r .1))
+stored-as k part v x u ne e w =
+    let r = answered (here k v) part (Value x) e in
+    rw (r .0, ne-eqb k tableBit ne)
+    (ap₂ {C = Values} (λ (q n : ℕ). record { refusal = q; used = n; numbers = set (v .numbers) k x; table = v .table }) (sym (eqb-true _ 0 (r .0))) w
+    ∙ ap {B = Values} (λ (x : ℕ). record { refusal = firstOf (partChecks (here k v) part); used = extent (here k v); numbers = set (v .numbers) k x; table = v .table }) (r .1))
 
 read-table-requires : tie.Need-read-table-requires
 read-table-requires c κs = omega arith
@@ -45,7 +47,10 @@ read-table-requires c κs = omega arith
 returns : tie.Need-returns
 returns c =
     let a = c .before .before .before .args in
-    full (a .k) (a .part .now) (a .v) _ (c .read-table .ensures ∙ ap (λ (k : ℕ). fieldRead k (a .part .now) (a .v)) (sym (c .before .if1 .taken)))
+    full (a .k) (a .part .now) (a .t3) _ (c .read-table .ensures ∙ ap (λ (k : ℕ). fieldRead k (a .part .now) (a .t3)) (sym (c .before .if1 .taken)))
+
+element-copy-out-m : tie.Need-element-copy-out-m
+element-copy-out-m c = omega arith
 
 read-number-requires : tie.Need-read-number-requires
 read-number-requires c κs = omega arith
@@ -53,14 +58,11 @@ read-number-requires c κs = omega arith
 enum-known-x : tie.Need-enum-known-x
 enum-known-x c = omega arith
 
+extent-of-requires : tie.Need-extent-of-requires
+extent-of-requires c κs = omega arith
+
 mul-out : tie.Need-mul-out
 mul-out c = omega arith
-
-array-read-out : tie.Need-array-read-out
-array-read-out c = omega arith
-
-mul-out-2 : tie.Need-mul-out-2
-mul-out-2 c = omega arith
 
 element-write-out : tie.Need-element-write-out
 element-write-out c = omega arith
@@ -73,17 +75,17 @@ refused-at-requires c κs = omega arith
 
 returns-2 : tie.Need-returns-2
 returns-2 c =
-    let a = c .before .before .before .before .before .before .args in
-    full (a .k) (a .part .now) (a .v) _
-    (stored-as (a .k) (a .part .now) (a .v) _ (c .before .before .before .before .before .before .pre .0) (c .before .before .before .before .if1 .left)
-    (sym (c .before .x .given .1) ∙ c .before .before .before .read-number .ensures))
+    let n = c .before .before .before .before in
+    let a = n .before .before .before .before .args in
+    full (a .k) (a .part .now) (a .t3) _
+    (stored-as (a .k) (a .part .now) (a .t3) _ _ (n .before .before .if1 .left) (sym (c .before .before .x .given .1) ∙ n .read-number .ensures) (c .extent-of .ensures))
 
 returns-3 : tie.Need-returns-3
 returns-3 c =
-    let a = c .before .before .before .before .before .before .before .args in
-    full (a .k) (a .part .now) (a .v) _
-    (c .refused-at .ensures ∙ refused-as (a .k) (a .part .now) (a .v) _ (c .before .before .before .before .before .if1 .left)
-    (sym (c .before .before .r .given .1) ∙ c .before .before .before .before .read-number .ensures))
+    let n = c .before .before .before .before in
+    let a = n .before .before .before .before .args in
+    full (a .k) (a .part .now) (a .t3) _
+    (c .refused-at .ensures ∙ refused-as (a .k) (a .part .now) (a .t3) _ (sym (c .before .before .r .given .1) ∙ n .read-number .ensures))
 
 pub read-field-spec : {M : Type 1} → statement M
 read-field-spec =
@@ -91,11 +93,11 @@ read-field-spec =
     (tie.spec
     read-table-requires
     returns
+    element-copy-out-m
     read-number-requires
     enum-known-x
+    extent-of-requires
     mul-out
-    array-read-out
-    mul-out-2
     element-write-out
     enum-known-r
     refused-at-requires
