@@ -20,14 +20,14 @@ use Rattle.tsc.specs.Constants.{mostWords, defaultWords}
 use Rattle.card_format.specs.declared.Written.the-variants.{Length, Refused}
 use Rattle.refusals.specs.Refusals.{check, firstOf, NoneApplies, tableMissing}
 use Rattle.card_format.specs.Fields.{Field, Bytes, fields, field, fieldCount, mostCardBytes, tableBit, extent, allowed, same}
-use Rattle.card_format.specs.Reading.{present, offset, valuesAt, wordsOf, values, value, padded, cardFrom, cardOf, partChecks, fieldChecks, checksTo, formChecks, SoundForm}
-use Rattle.card_format.specs.Verdict.{periodChecks, verdict}
-use Rattle.card_format.specs.Writing.{numbersOf, isWritten, fieldBytes, writtenTo, written, unusedClear, inRange, valueChecks, writeChecks, writing, pageAfter}
-use Rattle.refusals.proofs.Refusals.{first-none, none-first, none-left, none-right, none-append}
-use Rattle.card_format.proofs.Sound.{Fitting, offset-suc, sound-fitting, sound-value, value-words, field-none}
+use Rattle.card_format.specs.Reading.{present, offset, valuesAt, wordsOf, values, value, padded, cardFrom, cardOf, partChecks, fieldChecks, checksTo, constantCheck, formChecks, SoundForm}
+use Rattle.card_format.specs.Verdict.{periodChecks, cardChecks, verdict}
+use Rattle.card_format.specs.Writing.{numbersOf, isWritten, fieldBytes, writtenTo, written, unusedClear, inRange, valueChecks, writeChecks, writing, pageAfter, rewriteChecks, rewriting, pageRewritten}
+use Rattle.refusals.proofs.Refusals.{first-none, none-first, first-append, first-left, none-left, none-right, none-append}
+use Rattle.card_format.proofs.Sound.{Fitting, offset-suc, sound-fitting, value-words, field-none}
 use Rattle.card_format.proofs.Fields.{by-table, count-one, same-refl, same-true}
 use Rattle.card_format.proofs.Verdict.{words-sound}
-use Rattle.card_format.proofs.Writing.{numbersOf-single, range-words, present-short, length-writtenTo, room-told, writing-refused, writing-done}
+use Rattle.card_format.proofs.Writing.{numbersOf-single, range-words, present-short, length-writtenTo}
 use Rattle.card_format.proofs.Bytes.{length-one, byte-lt, length-bytesOf, read-differs, read-bytes, written-read, bit-map, map-bit}
 
 -- ---- the numbers of a card: one in each field but the table
@@ -90,6 +90,10 @@ module _ (bytes : List ℕ) (s : SoundForm bytes) where
   unfolding cardOf numbersOf same field fields
   words-absent e = sym (isWritten-sound 0 (lit< tt)) ∙ rw (value-words bytes, e) refl
 
+  sound-narrow : constantCheck (cardOf bytes) .applies ≡ false
+  unfolding formChecks NoneApplies
+  sound-narrow = none-right (checksTo bytes fieldCount) _ s .1 .0
+
 -- a card of sound form, written, is the same bytes
 pub sound-written : (bytes : List ℕ) → Bytes bytes → SoundForm bytes → written (cardOf bytes) ≡ bytes
 sound-written bytes b s = writtenTo-sound bytes s b fieldCount (omega arith) ∙ take-all (offset (wordsOf bytes) bytes fieldCount) bytes (sound-length bytes s)
@@ -99,30 +103,6 @@ sound-written bytes b s = writtenTo-sound bytes s b fieldCount (omega arith) ∙
 accepted-none : (bytes : List ℕ) → verdict bytes ≡ 0 → SoundForm bytes × NoneApplies (periodChecks (cardOf bytes))
 unfolding verdict
 accepted-none bytes z = let n = none-first _ z in (none-left (formChecks bytes) _ n, none-right (formChecks bytes) _ n)
-
-accepted-value : (bytes : List ℕ) → verdict bytes ≡ 0 → firstOf (valueChecks (cardOf bytes)) ≡ 0
-unfolding formChecks valueChecks NoneApplies
-accepted-value bytes z =
-    let a = accepted-none bytes z in
-    first-none _ (rw (sound-inRange bytes (a .0)), (none-right (checksTo bytes fieldCount) _ (a .0) .1 .0, a .1))
-
--- an accepted card, read and written to a page with room, is the same bytes and the same length
-pub accepted-writing : (bytes page : List ℕ) → Bytes bytes → verdict bytes ≡ 0 → length bytes ≤ length page
-    → (writing (cardOf bytes) (length page) ≡ Length (length bytes)) × (pageAfter (cardOf bytes) page ≡ bytes ++ drop (length bytes) page)
-accepted-writing bytes page b z l =
-    let w = sound-written bytes b (accepted-none bytes z .0) in
-    let d = writing-done (cardOf bytes) page (room-told (cardOf bytes) (length page) (accepted-value bytes z) ∙ rw (w, le-ltb (length page) (length bytes) l) refl) in
-    (sym (d .0) ∙ ap (λ (x : List ℕ). Length (length x)) w, sym (d .1) ∙ ap (λ (x : List ℕ). x ++ drop (length x) page) w)
-
--- with less room the answer is 16, and the page is as it was
-pub accepted-small : (bytes page : List ℕ) → Bytes bytes → verdict bytes ≡ 0 → length page < length bytes
-    → (writing (cardOf bytes) (length page) ≡ Refused 16) × (pageAfter (cardOf bytes) page ≡ page)
-accepted-small bytes page b z l =
-    let w = sound-written bytes b (accepted-none bytes z .0) in
-    let d =
-    writing-refused (cardOf bytes) page 16 (λ e. absurd (omega arith))
-    (room-told (cardOf bytes) (length page) (accepted-value bytes z) ∙ rw (w, lt-ltb (length page) (length bytes) l) refl) in
-    (sym (d .0), sym (d .1))
 
 -- two accepted byte strings with the same values are the same string
 pub accepted-unique : (a b : List ℕ) → Bytes a → Bytes b → verdict a ≡ 0 → verdict b ≡ 0 → cardOf a ≡ cardOf b → a ≡ b
@@ -135,6 +115,59 @@ accepted-short bytes z =
     let s = accepted-none bytes z .0 in
     let few : wordsOf bytes ≤ mostWords = omega (arith, value-words bytes, words-sound bytes s) in
     omega (arith, sound-length bytes s, present-short (wordsOf bytes) (present bytes) few (words-absent bytes s))
+
+-- ---- a card read and written again
+
+-- 7 to 9 and 16 decide on a card of sound form, whether its values are written or its bytes are
+sound-told : (bytes : List ℕ) → Bytes bytes → SoundForm bytes → (room : ℕ)
+    → firstOf (writeChecks (cardOf bytes) room) ≡ firstOf (rewriteChecks bytes room)
+unfolding valueChecks writeChecks rewriteChecks firstOf
+sound-told bytes b s room =
+    rw (sound-inRange bytes s, sound-narrow bytes s, sound-written bytes b s)
+    (sym (ap firstOf (append-assoc (formChecks bytes) _ _) ∙ first-append (formChecks bytes) _ s))
+
+-- so the writer answers and leaves what is said of the bytes
+pub sound-rewriting : (bytes page : List ℕ) → Bytes bytes → SoundForm bytes
+    → (writing (cardOf bytes) (length page) ≡ rewriting bytes (length page)) × (pageAfter (cardOf bytes) page ≡ pageRewritten bytes page)
+unfolding writing pageAfter rewriting pageRewritten
+sound-rewriting bytes page b s = rw (sound-told bytes b s (length page), sound-written bytes b s) (refl, refl)
+
+pub rewriting-refused : (bytes page : List ℕ) (r : ℕ) → r ≢ 0 → firstOf (rewriteChecks bytes (length page)) ≡ r
+    → (rewriting bytes (length page) ≡ Refused r) × (pageRewritten bytes page ≡ page)
+unfolding rewriting pageRewritten
+rewriting-refused bytes page r ne e = rw (e, ne-eqb r 0 ne) (refl, refl)
+
+-- a refusal of the card is told whatever the room is
+pub verdict-rewriting : (bytes page : List ℕ) → verdict bytes ≢ 0
+    → (rewriting bytes (length page) ≡ Refused (verdict bytes)) × (pageRewritten bytes page ≡ page)
+unfolding verdict rewriteChecks
+verdict-rewriting bytes page ne = rewriting-refused bytes page _ ne (first-left (cardChecks bytes) _ ne)
+
+-- the room decides on an accepted card
+accepted-told : (bytes : List ℕ) → verdict bytes ≡ 0 → (room : ℕ) → firstOf (rewriteChecks bytes room) ≡ cond (ltb room (length bytes)) 16 0
+unfolding verdict rewriteChecks firstOf
+accepted-told bytes z room = first-append (cardChecks bytes) _ (none-first _ z)
+
+-- with room it gives the same bytes and the same length
+pub accepted-rewriting : (bytes page : List ℕ) → verdict bytes ≡ 0 → length bytes ≤ length page
+    → (rewriting bytes (length page) ≡ Length (length bytes)) × (pageRewritten bytes page ≡ bytes ++ drop (length bytes) page)
+unfolding rewriting pageRewritten
+accepted-rewriting bytes page z l = rw (accepted-told bytes z (length page), le-ltb _ _ l) (refl, refl)
+
+pub accepted-writing : (bytes page : List ℕ) → Bytes bytes → verdict bytes ≡ 0 → length bytes ≤ length page
+    → (writing (cardOf bytes) (length page) ≡ Length (length bytes)) × (pageAfter (cardOf bytes) page ≡ bytes ++ drop (length bytes) page)
+accepted-writing bytes page b z l =
+    let w = sound-rewriting bytes page b (accepted-none bytes z .0) in
+    let d = accepted-rewriting bytes page z l in
+    (w .0 ∙ d .0, w .1 ∙ d .1)
+
+-- with less room the answer is 16, and the page is as it was
+pub accepted-small : (bytes page : List ℕ) → Bytes bytes → verdict bytes ≡ 0 → length page < length bytes
+    → (writing (cardOf bytes) (length page) ≡ Refused 16) × (pageAfter (cardOf bytes) page ≡ page)
+accepted-small bytes page b z l =
+    let w = sound-rewriting bytes page b (accepted-none bytes z .0) in
+    let d = rewriting-refused bytes page 16 (λ e. absurd (omega arith)) (accepted-told bytes z (length page) ∙ rw (lt-ltb _ _ l) refl) in
+    (w .0 ∙ d .0, w .1 ∙ d .1)
 
 -- ---- a written card
 
