@@ -7,7 +7,7 @@ ghost use Prim.Native.Nat.{_+_, _^_, _<_, _≤_};
 ghost use lib.ListN.{length, take, drop};
 ghost use Rattle.tsc.specs.Constants.{mostWords};
 ghost use Rattle.refusals.specs.Refusals.{firstOf};
-ghost use Rattle.card_format.specs.Fields.{field, tableBit, allowed};
+ghost use Rattle.card_format.specs.Fields.{field, fieldCount, mostCardBytes, tableBit, allowed};
 ghost use Rattle.card_write.specs.LowBytes.{lowBytes};
 ghost use Rattle.card_format.specs.Writing.{numbersOf, isWritten, fieldBytes, mapTo, written, inRange, valueChecks, writing, pageAfter};
 use card::check;
@@ -25,7 +25,7 @@ struct Outline {
 
 // The number of field k, which is not the table.
 fn number_of(card: Card, k: usize) -> u32
-    requires { ⌜ (k < 8) × (k ≢ tableBit) ⌝ }
+    requires { ⌜ (k < fieldCount) × (k ≢ tableBit) ⌝ }
     ensures { λ r. ⌜ numbersOf card k ≡ r ∷ [] ⌝ }
 {
     let numbers = [
@@ -43,18 +43,14 @@ fn number_of(card: Card, k: usize) -> u32
 
 // Whether the numbers of field k are allowed. Field 0 is asked first: the table's size is worked out from it.
 fn field_allowed(card: Card, k: usize) -> bool
-    requires { ⌜ (k < 8) × (0 < k → card .words ≤ mostWords) ⌝ }
+    requires { ⌜ (k < fieldCount) × (0 < k → card .words ≤ mostWords) ⌝ }
     ensures { λ r. ⌜ r ≡ allowed (field (card .words) k) (numbersOf card k) ⌝ }
 {
     if k == field::TABLE {
         let table = card.table;
         return table::entries_allowed(table, card.words as u32);
     }
-    let x = number_of(card, k);
-    if x < field::LEAST[k] {
-        return false;
-    }
-    x <= field::MOST[k]
+    field::number_allowed(k, card.words as u32, number_of(card, k))
 }
 
 // Whether every value is allowed, and unused table entries are 0.
@@ -85,20 +81,20 @@ fn value_refusal(card: Card) -> u8
 
 // Whether field k is written: it is not its absent value.
 fn is_written(card: Card, k: usize) -> bool
-    requires { ⌜ (k < 8) × (card .words ≤ mostWords) ⌝ }
+    requires { ⌜ (k < fieldCount) × (card .words ≤ mostWords) ⌝ }
     ensures { λ r. ⌜ r ≡ isWritten card k ⌝ }
 {
     if k == field::TABLE {
         let table = card.table;
         return !table::is_tsc1(table, card.words as u32);
     }
-    number_of(card, k) != field::ABSENT[k]
+    !field::is_absent(k, card.words as u32, number_of(card, k))
 }
 
 // The outline with field k.
 fn with_field(card: Card, k: usize, o: Outline) -> Outline
-    requires { ⌜ (k < 8) × (card .words ≤ mostWords) ⌝ }
-    requires { ⌜ (o .map < 2 ^ k) × (o .length < 256) ⌝ }
+    requires { ⌜ (k < fieldCount) × (card .words ≤ mostWords) ⌝ }
+    requires { ⌜ (o .map < 2 ^ k) × (o .length ≤ mostCardBytes) ⌝ }
     ensures { λ r. ⌜ r .map ≡ o .map + cond (isWritten card k) (2 ^ k) 0 ⌝ }
     ensures { λ r. ⌜ r .length ≡ o .length + length (fieldBytes card k) ⌝ }
 {
@@ -114,7 +110,7 @@ fn with_field(card: Card, k: usize, o: Outline) -> Outline
 // The outline of a card.
 fn outline_of(card: Card) -> Outline
     requires { ⌜ card .words ≤ mostWords ⌝ }
-    ensures { λ r. ⌜ r .map ≡ mapTo card 8 ⌝ }
+    ensures { λ r. ⌜ r .map ≡ mapTo card fieldCount ⌝ }
     ensures { λ r. ⌜ r .length ≡ length (written card) ⌝ }
 {
     let mut o = Outline { map: 0, length: 1 };
@@ -152,7 +148,7 @@ fn put_table(table: [u8; TABLE_SIZE], size: usize, part: &mut [u8])
 
 // Field k, at the start of the part, where it is written: the number of its bytes.
 fn put_field(card: Card, k: usize, part: &mut [u8]) -> usize
-    requires { ⌜ (k < 8) × (inRange card ≡ true) ⌝ }
+    requires { ⌜ (k < fieldCount) × (inRange card ≡ true) ⌝ }
     requires { ⌜ length (fieldBytes card k) ≤ length (now part) ⌝ }
     ensures { λ r. ⌜ r ≡ length (fieldBytes card k) ⌝ }
     ensures { λ _. ⌜ now (part .exit) ≡ fieldBytes card k ++ drop (length (fieldBytes card k)) (now (part .entry)) ⌝ }
@@ -172,7 +168,7 @@ fn put_field(card: Card, k: usize, part: &mut [u8]) -> usize
 
 // The map and the fields, at the start of a page that has room for them.
 fn put_card(card: Card, map: u8, page: &mut [u8])
-    requires { ⌜ (inRange card ≡ true) × (map ≡ mapTo card 8) ⌝ }
+    requires { ⌜ (inRange card ≡ true) × (map ≡ mapTo card fieldCount) ⌝ }
     requires { ⌜ length (written card) ≤ length (now page) ⌝ }
     ensures { λ _. ⌜ now (page .exit) ≡ written card ++ drop (length (written card)) (now (page .entry)) ⌝ }
 {

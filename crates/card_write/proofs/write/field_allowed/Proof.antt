@@ -1,10 +1,8 @@
 use mathlib.Core.Path.{sym, ap, _∙_}
 use Prim.Native.Nat.{ℕ}
 use native.Mathlib.Omega.{arith}
-use borrow.Author.Tests.{lt-leb, le-leb}
 use Rattle.card_format.specs.Fields.{field, allowed}
 use Rattle.card_format.specs.Writing.{numbersOf}
-use Rattle.card_format.proofs.Writing.{allowed-one}
 use Rattle.card_write.proofs.write.field_allowed.Statement.{statement}
 use Rattle.card_write.proofs.write.field_allowed.Tie as tie
 
@@ -20,40 +18,17 @@ returns c =
     let a = c .before .before .before .before .args in
     c .entries-allowed .ensures ∙ ap (λ (k : ℕ). allowed (field (a .card .words) k) (numbersOf (a .card) k)) (sym (c .before .before .before .if1 .taken))
 
+cast-number-allowed : tie.Need-cast-number-allowed
+cast-number-allowed c = omega arith
+
 number-of-requires : tie.Need-number-of-requires
 number-of-requires c κs = omega arith
 
-mul-if2 : tie.Need-mul-if2
-mul-if2 c = omega arith
-
-array-read-if2 : tie.Need-array-read-if2
-array-read-if2 c = omega arith
+number-allowed-requires : tie.Need-number-allowed-requires
+number-allowed-requires c κs = omega arith
 
 returns-2 : tie.Need-returns-2
-returns-2 c =
-    let a = c .before .before .before .args in
-    rw (
-      c .before .number-of .ensures,
-      allowed-one (a .card .words) (a .k) (c .before .number-of .result) (c .before .before .before .pre .0)
-          (c .before .before .if1 .left),
-      lt-leb _ _ (c .if2 .taken),
-    )
-
-mul-result : tie.Need-mul-result
-mul-result c = omega arith
-
-array-read-result : tie.Need-array-read-result
-array-read-result c = omega arith
-
-returns-3 : tie.Need-returns-3
-returns-3 c =
-    let a = c .before .before .before .args in
-    rw (
-      c .before .number-of .ensures,
-      allowed-one (a .card .words) (a .k) (c .before .number-of .result) (c .before .before .before .pre .0)
-          (c .before .before .if1 .left),
-      le-leb _ _ (c .if2 .left),
-    )
+returns-2 c = rw (c .before .number-of .ensures) (c .number-allowed .ensures)
 
 pub field-allowed-spec : {M : Type 1} → statement M
 field-allowed-spec =
@@ -62,10 +37,7 @@ field-allowed-spec =
     cast-entries-allowed
     entries-allowed-requires
     returns
+    cast-number-allowed
     number-of-requires
-    mul-if2
-    array-read-if2
-    returns-2
-    mul-result
-    array-read-result
-    returns-3)
+    number-allowed-requires
+    returns-2)

@@ -6,17 +6,17 @@ use native.Mathlib.Numerals.{add-one}
 use borrow.Author.Tests.{not-true, not-false}
 use Rattle.cycle.specs.Notation.{every}
 use Rattle.cycle.proofs.Every.{every-at, every-not}
-use Rattle.card_format.specs.Fields.{field, allowed}
+use Rattle.card_format.specs.Fields.{field, fieldCount, allowed}
 use Rattle.card_format.specs.Writing.{numbersOf, inRange}
 use Rattle.card_format.proofs.Writing.{words-allowed}
 use Rattle.card_write.proofs.write.in_range.Statement.{statement}
 use Rattle.card_write.proofs.write.in_range.Tie as tie
 
 abbrev Inv-loop : tie.InvT-loop
-Inv-loop card k₀ k = (k ≤ 8) × (every k (λ j. allowed (field (card .words) j) (numbersOf card j)) ≡ true)
+Inv-loop card k₀ k = (k ≤ fieldCount) × (every k (λ j. allowed (field (card .words) j) (numbersOf card j)) ≡ true)
 
 abbrev μ-loop : tie.MeasureT-loop
-μ-loop card k₀ k = 8 - k
+μ-loop card k₀ k = fieldCount - k
 
 loop-holds : tie.Need-loop-holds Inv-loop μ-loop
 unfolding every
@@ -27,7 +27,7 @@ field-allowed-requires c κs = (omega arith, λ p. words-allowed (c .before .bef
 
 returns : tie.Need-returns Inv-loop μ-loop
 unfolding inRange
-returns c = rw (every-not 8 _ (c .before .before .before .loop .k) (omega arith) (sym (c .before .field-allowed .ensures) ∙ not-true _ (c .if1 .taken))) refl
+returns c = rw (every-not fieldCount _ (c .before .before .before .loop .k) (omega arith) (sym (c .before .field-allowed .ensures) ∙ not-true _ (c .if1 .taken))) refl
 
 add-k : tie.Need-add-k Inv-loop μ-loop
 add-k c = omega arith
@@ -50,7 +50,7 @@ returns-2 : tie.Need-returns-2 Inv-loop μ-loop
 unfolding inRange
 returns-2 c =
     let card = c .before .before .before .before .before .args .card in
-    let e : c .before .before .before .before .loop .k ≡ 8 = omega arith in
+    let e : c .before .before .before .before .loop .k ≡ fieldCount = omega arith in
     rw (sym (ap (λ (n : ℕ). every n (λ j. allowed (field (card .words) j) (numbersOf card j))) e) ∙ c .before .before .before .before .loop .inv .1) (c .unused-clear .ensures)
 
 pub in-range-spec : {M : Type 1} → statement M

@@ -1,9 +1,8 @@
 use native.Mathlib.Omega.{arith}
-use mathlib.Core.Path.{refl, sym, ap, _∙_}
+use mathlib.Core.Path.{sym, ap, _∙_}
 use mathlib.Core.Bool.{not}
 use Rattle.card_format.specs.Fields.{fields, field}
 use Rattle.card_format.specs.Writing.{numbersOf, isWritten}
-use Rattle.card_format.proofs.Writing.{absent-one}
 use Rattle.card_write.proofs.write.is_written.Statement.{statement}
 use Rattle.card_write.proofs.write.is_written.Tie as tie
 
@@ -17,19 +16,17 @@ returns : tie.Need-returns
 unfolding numbersOf field fields
 returns c = ap not (c .is-tsc1 .ensures) ∙ ap (isWritten (c .before .before .before .before .args .card)) (sym (c .before .before .before .if1 .taken))
 
+cast-is-absent : tie.Need-cast-is-absent
+cast-is-absent c = omega arith
+
 number-of-requires : tie.Need-number-of-requires
 number-of-requires c κs = omega arith
 
-mul-result : tie.Need-mul-result
-mul-result c = omega arith
-
-array-read-result : tie.Need-array-read-result
-array-read-result c = omega arith
+is-absent-requires : tie.Need-is-absent-requires
+is-absent-requires c κs = omega arith
 
 returns-2 : tie.Need-returns-2
-returns-2 c =
-    let a = c .before .before .args in
-    rw (c .number-of .ensures, absent-one (a .card .words) (a .k) (c .number-of .result) (c .before .before .pre .0) (c .before .if1 .left)) refl
+returns-2 c = rw (c .before .number-of .ensures) (ap not (c .is-absent .ensures))
 
 pub is-written-spec : {M : Type 1} → statement M
 is-written-spec =
@@ -38,7 +35,7 @@ is-written-spec =
     cast-is-tsc1
     is-tsc1-requires
     returns
+    cast-is-absent
     number-of-requires
-    mul-result
-    array-read-result
+    is-absent-requires
     returns-2)

@@ -1,15 +1,15 @@
 use mathlib.Core.Path.{_≡_, refl, sym, ap, _∙_}
 use mathlib.Core.Bool.{cond}
-use Prim.Native.Nat.{ℕ, _+_, _-_, _*_, _^_, _≤_}
+use Prim.Native.Nat.{ℕ, _+_, _-_, _^_, _≤_}
 use native.Mathlib.Numerals.{add-one}
 use native.Mathlib.Omega.{arith}
 use lib.ListN.{length}
-use Rattle.tsc.specs.Constants.{mostWords}
 use Rattle.cycle.specs.Notation.{sum}
 use Rattle.tsc.specs.declared.Card.{Card}
+use Rattle.card_format.specs.Fields.{fieldCount}
 use Rattle.card_format.specs.Writing.{isWritten, fieldBytes, mapTo, writtenTo}
 use Rattle.card_format.proofs.Bytes.{map-lt}
-use Rattle.card_format.proofs.Writing.{lengthTo, length-suc, fieldBytes-few}
+use Rattle.card_format.proofs.Writing.{lengthTo, length-suc, length-before, written-short}
 use Rattle.card_write.proofs.write.outline_of.Statement.{statement}
 use Rattle.card_write.proofs.write.outline_of.Tie as tie
 
@@ -18,19 +18,26 @@ unfolding sum
 map-suc card k = ap (mapTo card) (add-one k)
 
 abbrev Inv-loop : tie.InvT-loop
-Inv-loop card o₀ k₀ o k = (k ≤ 8) × (o .map ≡ mapTo card k) × (o .length ≡ lengthTo card k) × (o .length ≤ 1 + 2 ^ mostWords * k)
+Inv-loop card o₀ k₀ o k = (k ≤ fieldCount) × (o .map ≡ mapTo card k) × (o .length ≡ lengthTo card k)
 
 abbrev μ-loop : tie.MeasureT-loop
-μ-loop card o₀ k₀ o k = 8 - k
+μ-loop card o₀ k₀ o k = fieldCount - k
 
 loop-holds : tie.Need-loop-holds Inv-loop μ-loop
 unfolding sum writtenTo
-loop-holds c = (omega arith, refl, refl, omega arith)
+loop-holds c = (omega arith, refl, refl)
 
 with-field-requires : tie.Need-with-field-requires Inv-loop μ-loop
 with-field-requires c κs =
     let l = c .before .loop in
-    ((omega arith, c .before .before .pre), (omega (arith, l .inv .1, map-lt (l .k) (isWritten (c .before .before .args .card))), omega arith))
+    let card = c .before .before .args .card in
+    let few = c .before .before .pre in (
+      (omega arith, few),
+      (
+        omega (arith, l .inv .1, map-lt (l .k) (isWritten card)),
+        omega (arith, l .inv .2, length-before card (l .k) fieldCount (l .inv .0), written-short card few),
+      ),
+    )
 
 add-k : tie.Need-add-k Inv-loop μ-loop
 add-k c = omega arith
@@ -46,14 +53,13 @@ loop-again c =
       omega arith,
       e .0 ∙ ap (λ (n : ℕ). n + cond (isWritten card (l .k)) (2 ^ l .k) 0) (l .inv .1) ∙ sym (map-suc card (l .k)),
       e .1 ∙ ap (λ (n : ℕ). n + length (fieldBytes card (l .k))) (l .inv .2) ∙ sym (length-suc card (l .k)),
-      omega (arith, e .1, fieldBytes-few card (l .k) (omega arith) (c .before .before .before .pre)),
     )
 
 returns : tie.Need-returns Inv-loop μ-loop
 returns c =
     let l = c .before .loop in
     let card = c .before .before .args .card in
-    let e : l .k ≡ 8 = omega arith in
+    let e : l .k ≡ fieldCount = omega arith in
     (l .inv .1 ∙ ap (mapTo card) e, l .inv .2 ∙ ap (lengthTo card) e)
 
 pub outline-of-spec : {M : Type 1} → statement M

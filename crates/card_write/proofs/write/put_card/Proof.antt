@@ -5,6 +5,7 @@ use Prim.Native.Nat.{ℕ, _+_, _-_, _<_, _≤_}
 use native.Mathlib.Omega.{arith}
 use lib.ListN.{length, set, take, drop, length-set, length-drop}
 use Rattle.tsc.specs.declared.Card.{Card}
+use Rattle.card_format.specs.Fields.{fieldCount}
 use Rattle.card_format.specs.Writing.{fieldBytes, writtenTo, written}
 use Rattle.card_format.proofs.Writing.{lengthTo, length-suc, writtenTo-suc, length-before, length-some}
 use Rattle.card_write.proofs.write.put_card.Statement.{statement}
@@ -12,33 +13,33 @@ use Rattle.card_write.proofs.write.put_card.Tie as tie
 
 -- the fields before field k are written to the front of d
 abbrev Front : Card → List ℕ → List ℕ → ℕ → ℕ → Type 0
-Front card d page at k = (k ≤ 8) × (at ≡ lengthTo card k) × (page ≡ writtenTo card k ++ drop at d) × (lengthTo card 8 ≤ length d)
+Front card d page at k = (k ≤ fieldCount) × (at ≡ lengthTo card k) × (page ≡ writtenTo card k ++ drop at d) × (lengthTo card fieldCount ≤ length d)
 
 kept : (card : Card) (d page : List ℕ) (at k : ℕ) → Front card d page at k → length page ≡ length d
 kept card d page at k h =
-    ap (λ (p : List ℕ). length p) (h .2) ∙ length-front (writtenTo card k) d at (sym (h .1)) (omega (arith, h .1, h .3, length-before card k 8 (h .0)))
+    ap (λ (p : List ℕ). length p) (h .2) ∙ length-front (writtenTo card k) d at (sym (h .1)) (omega (arith, h .1, h .3, length-before card k fieldCount (h .0)))
 
 -- there is room for field k
-room : (card : Card) (d page : List ℕ) (at k : ℕ) → k < 8 → Front card d page at k → (at ≤ length page) × (at + length (fieldBytes card k) ≤ length page)
+room : (card : Card) (d page : List ℕ) (at k : ℕ) → k < fieldCount → Front card d page at k → (at ≤ length page) × (at + length (fieldBytes card k) ≤ length page)
 room card d page at k l h =
     let n = kept card d page at k h in
-    let t = length-before card (k + 1) 8 (omega arith) in
+    let t = length-before card (k + 1) fieldCount (omega arith) in
     (omega (arith, h .1, h .3, n, length-suc card k, t), omega (arith, h .1, h .3, n, length-suc card k, t))
 
 abbrev Inv-loop : tie.InvT-loop
 Inv-loop card map page₀ at₀ k₀ page at k = Front card page₀ page at k
 
 abbrev μ-loop : tie.MeasureT-loop
-μ-loop card map page₀ at₀ k₀ page at k = 8 - k
+μ-loop card map page₀ at₀ k₀ page at k = fieldCount - k
 
 slice-write-page : tie.Need-slice-write-page Inv-loop μ-loop
-slice-write-page c = omega (arith, c .before .pre .1, length-some (c .before .args .card) 8)
+slice-write-page c = omega (arith, c .before .pre .1, length-some (c .before .args .card) fieldCount)
 
 loop-holds : tie.Need-loop-holds Inv-loop μ-loop
 unfolding writtenTo
 loop-holds c =
     let a = c .before .args in
-    let some : 0 < length (a .page .now) = omega (arith, c .before .pre .1, length-some (a .card) 8) in (
+    let some : 0 < length (a .page .now) = omega (arith, c .before .pre .1, length-some (a .card) fieldCount) in (
       omega arith,
       refl,
       set-first (a .page .now) (a .map) some ∙ ap₂ (λ (x : ℕ) (r : List ℕ). x ∷ r) (c .before .pre .0 .1) (sym (drop-set-first (a .page .now) (a .map) 1 (omega arith))),
@@ -112,9 +113,9 @@ returns c =
     let l = c .before .loop in
     let card = c .before .before .before .args .card in
     let p = c .before .before .before .args .page .now in
-    let e : l .k ≡ 8 = omega arith in
+    let e : l .k ≡ fieldCount = omega arith in
     l .inv .2 ∙ ap₂ (λ (w : List ℕ) (n : ℕ). w ++ drop n (set p 0 (c .before .before .before .args .map))) (ap (writtenTo card) e) (l .inv .1 ∙ ap (lengthTo card) e)
-    ∙ ap (λ (r : List ℕ). written card ++ r) (drop-set-first p (c .before .before .before .args .map) (lengthTo card 8) (length-some card 8))
+    ∙ ap (λ (r : List ℕ). written card ++ r) (drop-set-first p (c .before .before .before .args .map) (lengthTo card fieldCount) (length-some card fieldCount))
 
 pub put-card-spec : {M : Type 1} → statement M
 put-card-spec =
