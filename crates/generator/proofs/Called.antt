@@ -10,9 +10,10 @@ use lib.Pow.{pow-pos}
 use Rattle.tsc.specs.declared.Card.{Card}
 use Rattle.tsc.specs.declared.State.{State}
 use Rattle.tsc.specs.Constants.{mostWords}
-use Rattle.tsc.specs.Coverage.{IsState}
+use Rattle.tsc.specs.Coverage.{IsState, stepBack}
 use Rattle.tsc.specs.Step.{step}
 use Rattle.tsc.specs.Word.{word}
+use Rattle.tsc.proofs.StepBack.{step-back-in-range, step-of-back, back-only}
 use Rattle.tsc.proofs.Word.{word-lt}
 use Rattle.card_format.specs.Reading.{cardOf}
 use Rattle.card_format.specs.Verdict.{Accepted}
@@ -22,7 +23,7 @@ use Rattle.generator.specs.declared.call.Opened.{Opened}
 use Rattle.generator.specs.declared.Draw.{Draw}
 use Rattle.generator.specs.declared.Draw.the-variants.{Word, Refused}
 use Rattle.stepping.specs.State.{used, Holds, holding}
-use Rattle.generator.specs.Calls.{refusalFor, unlessRefused, opening, drawing}
+use Rattle.generator.specs.Calls.{refusalFor, unlessRefused, opening, drawing, OnlyBefore}
 use Rattle.generator.proofs.Opening.{passed, begun, begun-refused, unless-refused, held, holds}
 
 -- a call that is refused, whatever else it promises of an answer 0
@@ -60,6 +61,14 @@ module _ (bytes xs : List ℕ) (o : Opened) (e : o ≡ opening bytes xs) (z : o 
 -- a state as it is stored over n lent words
 pub stored : (card : Card) (n : ℕ) (ys : List ℕ) (s : State) → n ≡ card .words → IsState card ys → s ≡ holding ys → take n (s .words) ≡ ys
 stored card n ys s e sy h = ap (λ (s : State). take n (s .words)) h ∙ take-filled mostWords n ys (sy .0 ∙ sym e)
+
+-- the step back of an accepted card is the one state before
+pub only-before : (card : Card) → Accepted card → (xs : List ℕ) → IsState card xs → OnlyBefore card (stepBack card xs) xs
+only-before card ok xs sx = (
+  step-back-in-range card xs sx,
+  step-of-back card (ok .formed) (ok .period) xs sx,
+  λ zs sz. back-only card (ok .formed) (ok .period) zs xs sz sx,
+)
 
 -- ---- the word of a draw's answer
 

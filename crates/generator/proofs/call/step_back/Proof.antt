@@ -1,14 +1,14 @@
-use mathlib.Core.Path.{sym, ap, _∙_, subst}
+use mathlib.Core.Path.{sym, _∙_, subst}
+use mathlib.Core.List.{List}
+use Prim.Native.Nat.{ℕ}
 use native.Mathlib.Omega.{arith}
-use Rattle.tsc.specs.Coverage.{IsState, stepBack}
+use Rattle.tsc.specs.Coverage.{stepBack}
 use Rattle.card_format.specs.Reading.{cardOf}
 use Rattle.generator.proofs.Opening.{unless-passed}
 use lib.ListN.{length}
-use Rattle.tsc.specs.Step.{step}
 use Rattle.stepping.specs.State.{holding}
-use Rattle.tsc.proofs.StepBack.{step-back-in-range, step-of-back, back-only}
-use Rattle.generator.specs.Calls.{steppedBack}
-use Rattle.generator.proofs.Called.{call-refused, none, accepted, in-range, few, ready, of-values, stored}
+use Rattle.generator.specs.Calls.{steppedBack, OnlyBefore}
+use Rattle.generator.proofs.Called.{call-refused, none, accepted, in-range, few, ready, of-values, stored, only-before}
 use Rattle.generator.proofs.call.step_back.Statement.{statement}
 use Rattle.generator.proofs.call.step_back.Tie as tie
 
@@ -43,18 +43,12 @@ returns-2 c =
     let card = cardOf bytes in
     let e = c .before .before .before .before .before .before .before .before .before .before .«open» .ensures in
     let z = c .before .before .before .before .before .before .before .before .if1 .left in
-    let held = in-range bytes xs _ e z in
-    let state = step-back-in-range card xs held in
-    let exit = c .before .before .store .ensures ∙ stored card (length xs) (stepBack card xs) _ (in-range bytes xs _ e z .0) state (c .before .before .before .before .previous-state .ensures ∙ of-values bytes xs _ e z (λ c w. holding (stepBack c w))) in
-    let ok = accepted bytes xs _ e z in (
+    let before = only-before card (accepted bytes xs _ e z) xs (in-range bytes xs _ e z) in
+    let exit = c .before .before .store .ensures ∙ stored card (length xs) (stepBack card xs) _ (in-range bytes xs _ e z .0) (before .0) (c .before .before .before .before .previous-state .ensures ∙ of-values bytes xs _ e z (λ c w. holding (stepBack c w))) in (
       sym (none bytes xs _ e z),
       (
         exit ∙ unless-passed bytes xs (stepBack card xs) (none bytes xs _ e z),
-        λ _. (
-          subst (IsState card) (sym exit) state,
-          ap (step card) exit ∙ step-of-back card (ok .formed) (ok .period) xs held,
-          λ zs sz h. back-only card (ok .formed) (ok .period) zs xs sz held h ∙ sym exit,
-        ),
+        λ _. subst (λ (ys : List ℕ). OnlyBefore card ys xs) (sym exit) before,
       ),
     )
 

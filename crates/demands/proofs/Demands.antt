@@ -1,0 +1,134 @@
+-- THE PROOF OF THE CLAIM: each statement of specs/Demands.antt from the theorems of the crates below, and `demands`, which is all of them.
+use mathlib.Core.Path.{_≡_, refl, sym, ap, _∙_}
+use mathlib.Core.Bool.{Bool, true, false, cond}
+use mathlib.Core.List.{List, []}
+use Prim.Native.Nat.{ℕ}
+use borrow.Author.Tests.{ne-eqb, le-ltb}
+use lib.Dec.{eqb}
+use lib.ListN.{length}
+use Rattle.refusals.specs.Refusals.{Check, firstOf, NoneApplies}
+use Rattle.refusals.proofs.Refusals.{first-none, none-first, none-left, none-append}
+use Rattle.tsc.specs.Columns.{column}
+use Rattle.tsc.specs.Step.{step}
+use Rattle.tsc.specs.Coverage.{stepBack}
+use Rattle.tsc.proofs.Step.{step-in-range, column-step}
+use Rattle.tsc.proofs.StepBack.{back-of-step}
+use Rattle.card_format.specs.Reading.{cardOf, formChecks, noCard, reading}
+use Rattle.card_format.specs.Verdict.{cardChecks, verdict, Accepted}
+use Rattle.card_format.specs.Writing.{writing, pageAfter, rewriteChecks, rewriting, pageRewritten}
+use Rattle.card_format.proofs.Verdict.{verdict-covers, accepted-card}
+use Rattle.card_format.proofs.RoundTrip.{accepted-writing}
+use Rattle.generator.specs.Calls.{refusalFor, stepped, steppedBack, drawing}
+use Rattle.generator.proofs.Opening.{passes, unless-passed}
+use Rattle.generator.proofs.Called.{only-before}
+use Rattle.generator.proofs.Draws.{draws-state, draws-word}
+use Rattle.pick.specs.Picks.{pickRefusal, picking, picked}
+use Rattle.pick.proofs.Choice.{pick-chooses, pick-order}
+use Rattle.pick.proofs.Shift.{standby-alike}
+use Rattle.demands.specs.Demands.{ByTable, AnsweredOrRefused, Ready, Published, Undone, SameBytes, SameLots, AcceptedIffCovers, Demands}
+
+-- ---- demand 1
+
+-- a call that is worked out from the first refusal r that applies, and from whether r is 0
+by-first : {A : Type 0} {refused : ℕ → A} {checks : List Check} {lent : List ℕ} (call : Bool → ℕ → A × List ℕ)
+    → ((r : ℕ) → call false r ≡ (refused r, lent)) → let r = firstOf checks in ByTable refused checks lent (call true 0) (call (eqb r 0) r)
+by-first {checks} call h =
+    let r = firstOf checks in
+    record {
+      passes = λ n. ap (λ (r : ℕ). call (eqb r 0) r) (first-none checks n);
+      refuses = λ ne. ap (λ (b : Bool). call b r) (ne-eqb r 0 ne) ∙ h r;
+    }
+
+-- as most are: the good answer and what it leaves, or the refusal and what was lent
+by-table : {A : Type 0} {refused : ℕ → A} {checks : List Check} {lent : List ℕ} {good : A × List ℕ} → let r = firstOf checks in
+    ByTable refused checks lent good (cond (eqb r 0) (good .0) (refused r), cond (eqb r 0) (good .1) lent)
+by-table {refused} {lent} {good} = by-first (λ b r. (cond b (good .0) (refused r), cond b (good .1) lent)) (λ r. refl)
+
+pub answered-or-refused : AnsweredOrRefused
+unfolding verdict reading writing pageAfter rewriting pageRewritten refusalFor stepped steppedBack drawing pickRefusal picking picked
+answered-or-refused =
+    record {
+      ofCheck = λ bytes. by-first (λ b r. (r, [])) (λ r. refl);
+      ofRead = λ bytes. by-first (λ b r. (record { refusal = r; card = cond b (cardOf bytes) noCard }, [])) (λ r. refl);
+      ofWrite = λ card page. by-table;
+      ofRewrite = λ bytes page. by-table;
+      ofStep = λ bytes xs. by-first (λ b r. (r, cond b (step (cardOf bytes) xs) xs)) (λ r. refl);
+      ofStepBack = λ bytes xs. by-first (λ b r. (r, cond b (stepBack (cardOf bytes) xs) xs)) (λ r. refl);
+      ofDraw = λ bytes xs. by-table;
+      ofPick = λ bytes xs shovels times. by-table;
+    }
+
+-- ---- demand 2
+
+-- with an accepted card and a state of its size no call is refused, and it leaves the step or the step back
+module _ (bytes xs : List ℕ) (h : Ready bytes xs) where
+  ok : Accepted (cardOf bytes)
+  ok = accepted-card bytes (h .accepted)
+
+  none : refusalFor bytes xs ≡ 0
+  none = passes bytes xs (h .accepted) (h .state)
+
+  forth : stepped bytes xs ≡ step (cardOf bytes) xs
+  unfolding stepped
+  forth = sym (unless-passed bytes xs _ none)
+
+  back : steppedBack bytes xs ≡ stepBack (cardOf bytes) xs
+  unfolding steppedBack
+  back = sym (unless-passed bytes xs _ none)
+
+pub published : Published
+published =
+    record {
+      columns = λ bytes xs h i l. ap (column i) (forth bytes xs h) ∙ column-step (cardOf bytes) (ok bytes xs h .formed) xs (h .state .0) i l;
+      states = λ bytes xs h. draws-state bytes xs (none bytes xs h);
+      words = λ bytes xs h. draws-word bytes xs (none bytes xs h);
+    }
+
+pub undone : Undone
+undone =
+    record {
+      backOfStep = λ bytes xs h. let card = cardOf bytes in
+          ap (steppedBack bytes) (forth bytes xs h) ∙ back bytes (step card xs) (record { accepted = h .accepted; state = step-in-range card xs })
+          ∙ back-of-step card (ok bytes xs h .formed) (ok bytes xs h .period) xs (h .state);
+      stepOfBack = λ bytes xs h. let card = cardOf bytes in
+          let b = only-before card (ok bytes xs h) xs (h .state) in
+          ap (stepped bytes) (back bytes xs h) ∙ forth bytes (stepBack card xs) (record { accepted = h .accepted; state = b .0 }) ∙ b .1;
+      only = λ bytes xs ys h g e.
+          only-before (cardOf bytes) (ok bytes ys g) ys (g .state) .2 xs (h .state) (sym (forth bytes xs h) ∙ e) ∙ sym (back bytes ys g);
+      backOfStepDefined = λ card a. back-of-step card (a .formed) (a .period);
+      onlyDefined = only-before;
+    }
+
+pub same-bytes : SameBytes
+unfolding verdict rewriteChecks NoneApplies
+same-bytes =
+    record {
+      readAndWritten = λ bytes page b z l.
+          let r = answered-or-refused .ofRead bytes .passes (none-left (formChecks bytes) _ (none-first _ z)) in
+          let e : reading bytes .card ≡ cardOf bytes = λ i. r i .0 .card in
+          rw e (accepted-writing bytes page b z l);
+      rewritten = λ bytes page z l.
+          let room = le-ltb (length page) (length bytes) l in
+          let r = answered-or-refused .ofRewrite bytes page .passes (none-append (cardChecks bytes) _ (none-first _ z) (room, tt)) in
+          (λ i. r i .0, λ i. r i .1);
+    }
+
+pub same-lots : SameLots
+unfolding pickRefusal
+same-lots =
+    record {
+      ranked = λ bytes xs shovels times n. pick-chooses bytes xs shovels times (first-none _ n);
+      onePick = pick-order;
+      shift = standby-alike;
+    }
+
+-- ---- demand 3
+
+pub accepted-iff-covers : AcceptedIffCovers
+accepted-iff-covers = verdict-covers
+
+-- ---- the whole
+
+pub demands : Demands
+demands =
+    record { one = answered-or-refused; twoA = published; twoB = undone; twoC = same-bytes; twoD = same-lots; three = accepted-iff-covers }

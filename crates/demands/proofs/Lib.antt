@@ -1,0 +1,2 @@
+-- The proof of the whole claim.
+pub mod Demands
