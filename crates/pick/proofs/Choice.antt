@@ -65,7 +65,7 @@ module _ (bytes xs shovels times : List ℕ) (none : pickRefusal bytes xs shovel
       let v = passed bytes xs call .0 in
       let ok = accepted-card bytes v in
       let lt = rank-lt shovels times i l t in
-      let d = draw-onto card (ok .formed) (ok .period) r (omega arith) in
+      let d = draw-onto card (ok .formed) (ok .formed .words) (ok .period) r (omega arith) in
       let clear = sym (refusal-list bytes (d .0) shovels times (passes bytes (d .0) v (d .1))) ∙ refusal-list bytes xs shovels times call ∙ none in (
         d .0,
         d .1,

@@ -7,7 +7,7 @@ use mathlib.Core.Path.{_≡_, refl, sym, ap, ap₂, _∙_, subst}
 use mathlib.Core.Logic.{_↔_, _⊎_, inl, inr}
 use mathlib.Core.List.{List}
 use Prim.Native.Nat.{ℕ, zero, suc, pred, _+_, _-_, _*_, _%_, _^_, _<_}
-use native.Mathlib.Nat.{zero-add, suc-add, add-zero, zero-mul, mul-zero, mul-suc, mul-comm, add-comm, le-refl, le-trans, mod-lt, pow-zero, pow-suc, pow-succ', one-le-pow, mod-eq-of-lt, mul-one, one-mul, mul-pos, suc-pred-eq-of-pos, lt-of-lt-of-le, pow-le-pow-right, le-suc, mod-one, div-one, suc-mul, eq-zero-or-pos, mul-mod-left, add-mod}
+use native.Mathlib.Nat.{zero-add, suc-add, add-zero, zero-mul, mul-zero, mul-suc, mul-comm, add-comm, le-refl, mod-lt, pow-zero, pow-suc, pow-succ', one-le-pow, mod-eq-of-lt, mul-one, one-mul, mul-pos, suc-pred-eq-of-pos, lt-of-lt-of-le, pow-le-pow-right, le-suc, mod-one, div-one, suc-mul, eq-zero-or-pos, mul-mod-left, add-mod}
 use native.Mathlib.Decide.{decLt}
 use native.Mathlib.Omega.{arith}
 use lib.Arith.{lt-one}
@@ -207,8 +207,11 @@ module _ (card : Card) (wf : WellFormed card) where
   lowest zero i c = subst (λ (a : ℕ). SingleCycle (size card a) (stepNumber card a) 0) (zero-add i) c
   lowest (suc d) i c = lowest d i (lower (d + i) (subst (λ (a : ℕ). SingleCycle (size card a) (stepNumber card a) 0) (suc-add d i) c))
 
+  some : 0 < m
+  some = omega (arith, wf .words)
+
   half-size : 2 ^ m ≡ 2 ^ pred m * 2
-  half-size = ap (λ (a : ℕ). 2 ^ a) (sym (suc-pred-eq-of-pos (le-trans (le-suc 1) (wf .words)))) ∙ pow-suc 2 (pred m)
+  half-size = ap (λ (a : ℕ). 2 ^ a) (sym (suc-pred-eq-of-pos some)) ∙ pow-suc 2 (pred m)
 
   -- an even power a round does not cover
   powers-must-be-odd : iterate (entry card) (2 ^ m) 0 ≡ 0 → (i : ℕ) → SingleCycle (size card i) (stepNumber card i) 0
@@ -256,7 +259,7 @@ module _ (card : Card) (wf : WellFormed card) where
         go : (powerBelow card 0 0 ≡ 0) ⊎ (0 < powerBelow card 0 0) → 0 < powerBelow card 0 0
         go (inr p) = p
         go (inl e) =
-            let r = table-reaches 1 (pow-mono {i = 1} (le-trans (le-suc 1) (wf .words))) in
+            let r = table-reaches 1 (pow-mono {i = 1} some) in
             let z : _≡_ {A = ℕ} 0 1 = ap (λ (a : ℕ). iterate (entry card) a 0) (sym (ap (λ (a : ℕ). r .0 * a) e ∙ mul-zero (r .0))) ∙ r .1 in
             absurd (omega arith)
 

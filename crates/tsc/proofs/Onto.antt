@@ -1,8 +1,8 @@
--- Every number of n bits is the word of some state and, where the premises of coverage hold, is drawn from some state.
+-- From two words on, every number of n bits is the word of some state and, where the premises of coverage hold, is drawn from some state.
 use mathlib.Core.Path.{_≡_, sym, ap, _∙_, fun-ext}
 use mathlib.Core.Bool.{Bool, true, false, cond}
 use mathlib.Core.List.{List}
-use Prim.Native.Nat.{ℕ, _+_, _%_, _^_, _<_}
+use Prim.Native.Nat.{ℕ, _+_, _%_, _^_, _≤_, _<_}
 use native.Mathlib.Nat.{zero-add, add-zero, zero-mul, zero-div, zero-mod, mod-eq-of-lt}
 use native.Mathlib.Decide.{decLt}
 use native.Mathlib.Omega.{arith}
@@ -71,7 +71,7 @@ module _ (n : ℕ) (pos : 0 < n) where
     filter2-second =
         simp (rotate-zero 11, rotate-zero 12, rotate-zero 13, rotate-zero 22, zero-plus x l, zero-plus 0 none, plus-zero (_⋘_ n x 14) (rotate-lt n x 14 pos l))
 
-module _ (card : Card) (wf : WellFormed card) where
+module _ (card : Card) (wf : WellFormed card) (two : 2 ≤ card .words) where
   -- such a state; past its m words there is 0 as well
   words : ℕ → List ℕ
   words x = tabulate (card .words) (second x)
@@ -84,7 +84,7 @@ module _ (card : Card) (wf : WellFormed card) where
       go (yes l) = getD-tabulate (card .words) (second x) k l
       go (no n) =
           List·getD-eq-default (words x) 0 (omega (arith, length-tabulate (card .words) (second x)))
-          ∙ sym (simp (ne-eqb k 1 (λ e. absurd (omega (arith, wf .words)))))
+          ∙ sym (simp (ne-eqb k 1 (λ e. absurd (omega arith))))
 
   state : (x : ℕ) → x < 2 ^ card .width → IsState card (words x)
   unfolding words
@@ -93,9 +93,9 @@ module _ (card : Card) (wf : WellFormed card) where
   pub word-onto : (w : ℕ) → w < 2 ^ card .width → (xs : List ℕ) × IsState card xs × (word card xs ≡ w)
   unfolding word
   word-onto w l =
-      let two = eqb (card .filter) 2 in
-      let r = rotate-onto n pos (cond two 14 15) w l in
-      (words (r .0), state (r .0) (r .1), rw (fun-ext (at (r .0))) (turned two (r .0) (r .1)) ∙ r .2)
+      let second-filter = eqb (card .filter) 2 in
+      let r = rotate-onto n pos (cond second-filter 14 15) w l in
+      (words (r .0), state (r .0) (r .1), rw (fun-ext (at (r .0))) (turned second-filter (r .0) (r .1)) ∙ r .2)
     where
       n : ℕ
       n = card .width

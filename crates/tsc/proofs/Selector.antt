@@ -14,7 +14,6 @@ use Rattle.cycle.proofs.Sum.{sum-ext}
 use Rattle.cycle.proofs.Digits.{fromDigits, fromDigits-ext, fromDigits-of}
 use Rattle.cycle.proofs.Bits.{bit-xor, bit-mod, mod-pow-mod, shift-add, bit-double}
 use Rattle.tsc.specs.declared.Card.{Card}
-use Rattle.tsc.specs.Constants.{fewestWords}
 use Rattle.tsc.specs.Columns.{column}
 use Rattle.tsc.specs.Selector.{andWords, sumWords, selector}
 use Rattle.tsc.proofs.Columns.{allOnes, popcount, bit-andWords, sumWords-mod}
@@ -86,7 +85,7 @@ selector-lower card xs ys ex ey i l h =
 
 -- THE PARITY LAW. Of all states of i columns, the number of those whose selector bit i is 1 is odd exactly where the constant is odd:
 -- document 002 (4), B[alpha, i] = C modulo 2, so that an odd constant makes an odd parameter
-pub selector-parity : (card : Card) → fewestWords ≤ card .words → (i : ℕ) → i < card .width
+pub selector-parity : (card : Card) → 2 ≤ card .words → (i : ℕ) → i < card .width
     → sum ((2 ^ card .words) ^ i) (λ z. bit i (selector card (stateOf (card .words) i z))) % 2 ≡ card .constant % 2
 selector-parity card enough i l =
     ap (λ (a : ℕ). a % 2)
