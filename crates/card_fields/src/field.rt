@@ -47,12 +47,20 @@ pub fn extent_of(k: usize, m: u32) -> usize
     SIZE[k]
 }
 
-// Whether x is allowed as the number of field k. Callers have asked for the table before, here and below.
+// The least number that field k allows. Callers have asked for the table before, here and below.
+fn least_of(k: usize, m: u32) -> u32
+    requires { ⌜ (k < fieldCount) × (k ≢ tableBit) ⌝ }
+    ensures { λ r. ⌜ r ≡ field m k .least ⌝ }
+{
+    LEAST[k]
+}
+
+// Whether x is allowed as the number of field k.
 pub fn number_allowed(k: usize, m: u32, x: u32) -> bool
     requires { ⌜ (k < fieldCount) × (k ≢ tableBit) ⌝ }
     ensures { λ r. ⌜ r ≡ allowed (field m k) (x ∷ []) ⌝ }
 {
-    if x < LEAST[k] {
+    if x < least_of(k, m) {
         return false;
     }
     x <= MOST[k]

@@ -106,6 +106,6 @@ unfolding cardOf field fields
 sound-card bytes s =
     record {
       words = sound-value bytes s 0 (omega arith) refl .0;
-      width = sound-value bytes s 1 (omega arith) refl .0;
+      width = subst (λ (m : ℕ). field m 1 .least ≤ value bytes 1) (sym (value-words bytes)) (sound-value bytes s 1 (omega arith) refl .0);
       entries = subst (λ (m : ℕ). (y : ℕ) → y < 2 ^ m → entry (cardOf bytes) y < 2 ^ m) (sym (value-words bytes)) (sound-entry bytes s);
     }
