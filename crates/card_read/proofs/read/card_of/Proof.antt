@@ -34,13 +34,13 @@ element-copy-out-t25 : tie.Need-element-copy-out-t25
 element-copy-out-t25 c = omega arith
 
 cast-t26 : tie.Need-cast-t26
-cast-t26 c = omega (arith, c .before .before .before .before .before .before .before .pre 6 (omega arith) (λ e. absurd (omega arith)) (λ e. absurd (omega arith)))
+cast-t26 c = let at = c .before .before .before .before in omega (arith, at .before .before .before .pre 6 (omega arith) (λ e. absurd (omega arith)) (λ e. absurd (omega arith)))
 
 element-copy-out-t29 : tie.Need-element-copy-out-t29
 element-copy-out-t29 c = omega arith
 
 cast-t30 : tie.Need-cast-t30
-cast-t30 c = omega (arith, c .before .before .before .before .before .before .before .before .pre 7 (omega arith) (λ e. absurd (omega arith)) (λ e. absurd (omega arith)))
+cast-t30 c = let at = c .before .before .before .before in omega (arith, at .before .before .before .before .pre 7 (omega arith) (λ e. absurd (omega arith)) (λ e. absurd (omega arith)))
 
 returns : tie.Need-returns
 returns c = search needs

@@ -1,9 +1,9 @@
-use Rattle.tsc.specs.Constants.{mostWords}
+use Rattle.tsc.specs.Constants.{mostWords, tsc1Table}
 use Rattle.card_format.proofs.Lists.{take-filled}
 use lib.Seq.{length-take-le}
 use mathlib.Core.Path.{_≡_, refl, sym, ap, ap₂, _∙_}
 use mathlib.Core.List.{List}
-use mathlib.Core.Bool.{true}
+use mathlib.Core.Bool.{cond, not}
 use Prim.Native.Nat.{ℕ, _^_, _≤_}
 use native.Mathlib.Nat.{mul-one}
 use native.Mathlib.Omega.{arith}
@@ -11,7 +11,7 @@ use borrow.Author.Tests.{not-true, not-false}
 use lib.ListN.{length, getD, take}
 use Rattle.card_read.specs.declared.read.Values.{Values}
 use Rattle.refusals.specs.Refusals.{firstOf}
-use Rattle.card_format.specs.Fields.{field, fields, tableBit, numbers, allowed}
+use Rattle.card_format.specs.Fields.{field, fields, tableBit, numbers, allowed, same}
 use Rattle.card_format.specs.Reading.{partChecks, padded}
 use Rattle.card_read.specs.FieldRead.{fieldRead}
 use Rattle.card_format.proofs.Fields.{few-entries, numbers-table, table-short, table-refusal}
@@ -30,15 +30,29 @@ stored-as part v size t es et h e =
     (ap₂ {C = Values} (λ (n : ℕ) (t : List ℕ). record { refusal = 0; used = n; numbers = v .numbers; table = t })
     (es ∙ sym (mul-one _)) (et ∙ ap (λ (n : ℕ). padded (take n part)) es)))
 
--- the table has the entries of the part
-shown : (c : tie.After-table-from) → let a = c .before .before .before .before .before .args in let m = getD (a .t2 .numbers) 0 0 in
-    (2 ^ m ≤ length (a .part .now)) × (take (2 ^ m) (c .table-from .result) ≡ take (2 ^ m) (a .part .now))
-shown c =
+-- ---- what is known at a place of the code
+
+-- past the first test the table's bytes are there
+long : (c : tie.Else1) → let a = c .before .before .before .before .args in 2 ^ getD (a .t2 .numbers) 0 0 ≤ length (a .part .now)
+long c = omega (arith, c .before .entries .ensures, c .if1 .left)
+
+-- the table read from them has their entries, so the field's refusal goes by it
+by-table : (c : tie.After-table-from) → let a = c .before .before .before .before .before .args in let m = getD (a .t2 .numbers) 0 0 in
+    let xs = take (2 ^ m) (c .table-from .result) in
+    firstOf (partChecks (field m tableBit) (a .part .now)) ≡ cond (not (allowed (field m tableBit) xs)) 2 (cond (same xs tsc1Table) 3 0)
+by-table c =
+    let part = c .before .before .before .before .before .args .part .now in
     let e = c .before .before .entries .ensures in
-    let size = c .before .before .entries .result in (
-      omega (arith, e, c .before .if1 .left),
-      rw (sym e) (ap (λ (t : List ℕ). take size t) (c .table-from .ensures) ∙ take-filled (2 ^ mostWords) size _ (length-take-le size (c .before .before .before .before .before .args .part .now) (c .before .if1 .left))),
-    )
+    let size = c .before .before .entries .result in
+    table-refusal _ part (long (c .before)) _
+    (rw (sym e) (ap (λ (t : List ℕ). take size t) (c .table-from .ensures) ∙ take-filled (2 ^ mostWords) size _ (length-take-le size part (c .before .if1 .left))))
+
+-- past the second test its entries are allowed
+by-absent : (c : tie.Else2) → let t = c .before .before in let a = t .before .before .before .before .before .args in let m = getD (a .t2 .numbers) 0 0 in
+    firstOf (partChecks (field m tableBit) (a .part .now)) ≡ cond (same (take (2 ^ m) (t .table-from .result)) tsc1Table) 3 0
+by-absent c = by-table (c .before .before) ∙ simp (sym (c .before .entries-allowed .ensures) ∙ not-false _ (c .if2 .left))
+
+-- ---- the needs
 
 element-copy-out-m : tie.Need-element-copy-out-m
 element-copy-out-m c = omega arith
@@ -57,7 +71,8 @@ returns c =
 
 table-from-requires : tie.Need-table-from-requires
 table-from-requires c κs =
-    (omega (arith, c .before .entries .ensures, few-entries (getD (c .before .before .before .before .args .t2 .numbers) 0 0) (c .before .before .before .before .pre)), search needs)
+    let s = c .before .before .before .before in
+    (omega (arith, c .before .entries .ensures, few-entries (getD (s .args .t2 .numbers) 0 0) (s .pre)), search needs)
 
 entries-allowed-requires : tie.Need-entries-allowed-requires
 entries-allowed-requires c κs = omega arith
@@ -67,14 +82,9 @@ refused-at-requires-2 c κs = omega arith
 
 returns-2 : tie.Need-returns-2
 returns-2 c =
-    let a = c .before .before .before .before .before .before .before .before .args in
-    let e = shown (c .before .before .before) in
-    c .refused-at2 .ensures ∙ field-refused tableBit (a .part .now) (a .t2) 2 refl
-    (table-refusal _ (a .part .now) (e .0) _ (e .1) ∙ simp (sym (c .before .before .entries-allowed .ensures) ∙ not-true _ (c .before .if2 .taken)))
-
--- past the second test its entries are allowed
-entries : (c : tie.Else2) → let m = getD (c .before .before .before .before .before .before .before .args .t2 .numbers) 0 0 in allowed (field m tableBit) (take (2 ^ m) (c .before .before .table-from .result)) ≡ true
-entries c = sym (c .before .entries-allowed .ensures) ∙ not-false _ (c .if2 .left)
+    let t = c .before .before .before in
+    c .refused-at2 .ensures ∙ field-refused tableBit _ _ 2 refl
+    (by-table t ∙ simp (sym (c .before .before .entries-allowed .ensures) ∙ not-true _ (c .before .if2 .taken)))
 
 is-tsc1-requires : tie.Need-is-tsc1-requires
 is-tsc1-requires c κs = omega arith
@@ -84,17 +94,14 @@ refused-at-requires-3 c κs = omega arith
 
 returns-3 : tie.Need-returns-3
 returns-3 c =
-    let a = c .before .before .before .before .before .before .before .before .before .before .args in
-    let e = shown (c .before .before .before .before .before) in
-    c .refused-at3 .ensures ∙ field-refused tableBit (a .part .now) (a .t2) 3 refl
-    (table-refusal _ (a .part .now) (e .0) _ (e .1) ∙ simp (entries (c .before .before .before), sym (c .before .before .is-tsc1 .ensures) ∙ c .before .if3 .taken))
+    c .refused-at3 .ensures ∙ field-refused tableBit _ _ 3 refl
+    (by-absent (c .before .before .before) ∙ simp (sym (c .before .before .is-tsc1 .ensures) ∙ c .before .if3 .taken))
 
 returns-4 : tie.Need-returns-4
 returns-4 c =
-    let a = c .before .before .before .before .before .before .before .before .before .before .args in
-    let e = shown (c .before .before .before .before .before) in
-    stored-as (a .part .now) (a .t2) _ _ (c .before .before .before .before .before .before .before .entries .ensures) (c .before .before .before .before .before .table-from .ensures) (e .0)
-    (table-refusal _ (a .part .now) (e .0) _ (e .1) ∙ simp (entries (c .before .before .before), sym (c .before .before .is-tsc1 .ensures) ∙ c .before .if3 .left))
+    let t = c .before .before .before .before .before in
+    stored-as _ _ _ _ (t .before .before .entries .ensures) (t .table-from .ensures) (long (t .before))
+    (by-absent (c .before .before .before) ∙ simp (sym (c .before .before .is-tsc1 .ensures) ∙ c .before .if3 .left))
 
 pub read-table-spec : {M : Type 1} → statement M
 read-table-spec =

@@ -70,15 +70,15 @@ put-field-requires c κs =
 
 add-at : tie.Need-add-at Inv-loop μ-loop
 add-at c =
-    let l = c .before .before .before .before .before .loop in
+    let o = c .before .before .before .before .before in
+    let l = o .loop in
+    let a = o .before .before .args in
     omega (
       arith,
       c .before .before .put-field .ensures .0,
-      room (c .before .before .before .before .before .before .before .args .card) _ (l .page) (l .at) (l .k) (omega arith)
-          (l .inv) .1,
-      kept (c .before .before .before .before .before .before .before .args .card) _ (l .page) (l .at) (l .k) (l .inv),
-      length-set
-          (c .before .before .before .before .before .before .before .args .page .now) 0 (c .before .before .before .before .before .before .before .args .map),
+      room (a .card) _ (l .page) (l .at) (l .k) (omega arith) (l .inv) .1,
+      kept (a .card) _ (l .page) (l .at) (l .k) (l .inv),
+      length-set (a .page .now) 0 (a .map),
     )
 
 add-k : tie.Need-add-k Inv-loop μ-loop
@@ -89,9 +89,11 @@ loop-less c = omega arith
 
 loop-again : tie.Need-loop-again Inv-loop μ-loop
 loop-again c =
-    let l = c .before .before .before .before .before .loop in
-    let card = c .before .before .before .before .before .before .before .args .card in
-    let d = set (c .before .before .before .before .before .before .before .args .page .now) 0 (c .before .before .before .before .before .before .before .args .map) in
+    let o = c .before .before .before .before .before in
+    let l = o .loop in
+    let a = o .before .before .args in
+    let card = a .card in
+    let d = set (a .page .now) 0 (a .map) in
     let f = fieldBytes card (l .k) in
     let e = c .before .before .put-field .ensures in (
       omega arith,
@@ -105,17 +107,18 @@ loop-again c =
 
 same-length : tie.Need-same-length Inv-loop μ-loop
 same-length c =
-    kept (c .before .before .before .args .card) _ (c .before .loop .page) (c .before .loop .at) (c .before .loop .k) (c .before .loop .inv) ∙ length-set
-    (c .before .before .before .args .page .now) 0 (c .before .before .before .args .map)
+    let l = c .before .loop in
+    let a = c .before .before .before .args in
+    kept (a .card) _ (l .page) (l .at) (l .k) (l .inv) ∙ length-set (a .page .now) 0 (a .map)
 
 returns : tie.Need-returns Inv-loop μ-loop
 returns c =
     let l = c .before .loop in
-    let card = c .before .before .before .args .card in
-    let p = c .before .before .before .args .page .now in
+    let a = c .before .before .before .args in
+    let card = a .card in
     let e : l .k ≡ fieldCount = omega arith in
-    l .inv .2 ∙ ap₂ (λ (w : List ℕ) (n : ℕ). w ++ drop n (set p 0 (c .before .before .before .args .map))) (ap (writtenTo card) e) (l .inv .1 ∙ ap (lengthTo card) e)
-    ∙ ap (λ (r : List ℕ). written card ++ r) (drop-set-first p (c .before .before .before .args .map) (lengthTo card fieldCount) (length-some card fieldCount))
+    l .inv .2 ∙ ap₂ (λ (w : List ℕ) (n : ℕ). w ++ drop n (set (a .page .now) 0 (a .map))) (ap (writtenTo card) e) (l .inv .1 ∙ ap (lengthTo card) e)
+    ∙ ap (λ (r : List ℕ). written card ++ r) (drop-set-first (a .page .now) (a .map) (lengthTo card fieldCount) (length-some card fieldCount))
 
 pub put-card-spec : {M : Type 1} → statement M
 put-card-spec =
