@@ -9,7 +9,7 @@ use lib.ListN.{length, getD, take, length-drop}
 use lib.Pow.{shl-exact, pow-mono}
 use lib.Seq.{length-take-le, take-all}
 use Rattle.cycle.specs.Notation.{bit}
-use Rattle.cycle.proofs.Digits.{length-tabulate, tabulate-ext, tabulate-getD}
+use Rattle.cycle.proofs.Digits.{length-tabulate, getD-tabulate, tabulate-ext, tabulate-getD}
 use Rattle.tsc.specs.Constants.{mostWords}
 use Rattle.tsc.specs.Columns.{column}
 use Rattle.tsc.proofs.Columns.{column-lt}
@@ -36,6 +36,10 @@ column-few i k ws e =
 pub length-withColumn : (i c : ℕ) (ws : List ℕ) → length (withColumn i c ws) ≡ mostWords
 unfolding withColumn
 length-withColumn i c ws = length-tabulate mostWords (λ k. getD ws k 0 + bit k c * 2 ^ i)
+
+pub getD-withColumn : (i c : ℕ) (ws : List ℕ) (k : ℕ) → k < mostWords → getD (withColumn i c ws) k 0 ≡ getD ws k 0 + bit k c * 2 ^ i
+unfolding withColumn
+getD-withColumn i c ws k l = getD-tabulate mostWords (λ k. getD ws k 0 + bit k c * 2 ^ i) k l
 
 -- column i of a state on top of the columns below it: the columns up to i
 pub withColumn-low : (i : ℕ) (ws : List ℕ) → length ws ≡ mostWords → withColumn i (column i ws) (lowWords i ws) ≡ lowWords (i + 1) ws

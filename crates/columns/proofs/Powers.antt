@@ -1,9 +1,10 @@
 -- A table of powers, filled in along the cycle.
-use mathlib.Core.Path.{_≡_, _∙_, subst}
+use mathlib.Core.Path.{_≡_, sym, ap, ap₂, _∙_, subst}
 use mathlib.Core.Bool.{Bool, true, false, cond}
 use mathlib.Core.List.{List}
 use Prim.Native.Nat.{ℕ, _+_, _^_, _<_, _≤_}
 use native.Mathlib.Nat.{lt-of-lt-of-le}
+use native.Mathlib.Numerals.{add-one}
 use native.Mathlib.Decide.{ℕ-discrete, decLt}
 use native.Mathlib.Omega.{arith}
 use borrow.Author.Tests.{lt-ltb, le-ltb}
@@ -13,7 +14,7 @@ use lib.Pow.{pow-pos, pow-mono}
 use lib.Seq.{getD-set-same, getD-set-other}
 use Rattle.cycle.specs.Notation.{iterate}
 use Rattle.cycle.specs.Cycle.{SingleCycle}
-use Rattle.cycle.proofs.Iterate.{iterate-below}
+use Rattle.cycle.proofs.Iterate.{iterate-add, iterate-below}
 use Rattle.cycle.proofs.Every.{extend}
 use Rattle.card_format.proofs.Lists.{getD-filler}
 use Rattle.tsc.specs.declared.Card.{Card}
@@ -33,6 +34,11 @@ stands-lt card wf j = iterate-below (2 ^ card .words) (entry card) (wf .entries)
 pub stands-few : (card : Card) → WellFormed card → card .words ≤ mostWords → (j : ℕ) → stands card j < 2 ^ mostWords
 stands-few card wf few j = lt-of-lt-of-le (stands-lt card wf j) (pow-mono few)
 
+-- one application more
+pub stands-next : (card : Card) (j : ℕ) {x : ℕ} → x ≡ stands card j → entry card x ≡ stands card (j + 1)
+unfolding iterate
+stands-next card j e = ap (entry card) e ∙ ap (stands card) (sym (add-one j))
+
 -- t has where the first j entries of the cycle go in k applications, and 0 past the table's entries
 pub record Filled (card : Card) (k j : ℕ) (t : List ℕ) : Type 0 where
   pub size : length t ≡ 2 ^ mostWords
@@ -48,7 +54,7 @@ filled-none card k =
     }
 
 -- the entry number j of the cycle gets its image
-pub filled-next : (card : Card) → WellFormed card → card .words ≤ mostWords → (k j : ℕ) (t : List ℕ) → Filled card k j t
+filled-next : (card : Card) → WellFormed card → card .words ≤ mostWords → (k j : ℕ) (t : List ℕ) → Filled card k j t
     → Filled card k (j + 1) (set t (stands card j) (iterate (entry card) k (stands card j)))
 filled-next card wf few k j t f =
     record {
@@ -67,6 +73,12 @@ filled-next card wf few k j t f =
     go : (i : ℕ) → i < j → Dec (stands card i ≡ stands card j) → getD (set t (stands card j) v) (stands card i) 0 ≡ iterate (entry card) k (stands card i)
     go i l (yes e) = rw e here
     go i l (no ne) = getD-set-other t (stands card j) (stands card i) v 0 ne ∙ f .done i l
+
+-- as the loop writes it: x stands at number j of the cycle, and y is k entries ahead
+pub filled-along : (card : Card) → WellFormed card → card .words ≤ mostWords → (k j : ℕ) {x y : ℕ} (t : List ℕ) → x ≡ stands card j → y ≡ stands card (k + j)
+    → Filled card k j t → Filled card k (j + 1) (set t x y)
+filled-along card wf few k j t ex ey f =
+    subst (Filled card k (j + 1)) (sym (ap₂ (set t) ex (ey ∙ iterate-add (entry card) k j 0))) (filled-next card wf few k j t f)
 
 -- one round fills in every entry
 pub filled-power : (card : Card) (k : ℕ) (t : List ℕ) → SingleCycle (2 ^ card .words) (entry card) 0 → Filled card k (2 ^ card .words) t → IsPower card k t

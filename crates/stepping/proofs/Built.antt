@@ -45,40 +45,49 @@ module _ (xs : List ℕ) (h : length xs ≤ mostWords) where
 pub built-lt : (xs : List ℕ) (i : ℕ) (s : State) → Built xs i s → (k : ℕ) → k < mostWords → getD (s .words) k 0 < 2 ^ i
 built-lt xs i s b k l = rw (b, getD-lowWords i (holding xs .words) k) (mod-lt _ (pow-pos i))
 
-pub built-all : (m n : ℕ) (xs : List ℕ) (s : State) → InRange m n xs → Built xs n s → s ≡ holding xs
-built-all m n xs s r b = ap {B = State} (λ (w : List ℕ). record { words = w }) (b ∙ lowWords-all n (holding xs .words) (holding-lt m n xs r))
+-- with every column built
+pub built-all : (m n i : ℕ) (xs : List ℕ) (s : State) → InRange m n xs → i ≡ n → Built xs i s → s ≡ holding xs
+built-all m n i xs s r e b =
+    let ws = holding xs .words in
+    ap {B = State} (λ (w : List ℕ). record { words = w }) (b ∙ ap (λ (i : ℕ). lowWords i ws) e ∙ lowWords-all n ws (holding-lt m n xs r))
 
--- a state has the columns of the words that the card uses
-pub column-used : (card : Card) (s : State) → Holds card s → (i : ℕ) → column i (s .words) ≡ column i (used card s)
-column-used card s h i = ap (λ (t : State). column i (t .words)) (h .1) ∙ column-holding i (used card s)
+-- column i of a state s of the card, put through the table as bit i of a selector z says
+module _ (card : Card) (ok : Accepted card) (p : Powers) (s : State) (held : Holds card s) (i : ℕ) (l : i < card .width) where
+  -- s has the columns of the words that the card uses
+  column-used : column i (s .words) ≡ column i (used card s)
+  column-used = ap (λ (t : State). column i (t .words)) (held .1) ∙ column-holding i (used card s)
 
-module _ (card : Card) (ok : Accepted card) (p : Powers) (xs : List ℕ) (sx : IsState card xs) (i : ℕ) (l : i < card .width) where
   column-few : (ys : List ℕ) → IsState card ys → column i ys < 2 ^ card .words
   column-few ys sy = columns (card .words) ys (sy .0) (card .width) i l
 
   -- column i of the step
-  pub step-column : IsPower card (card .«odd_power») (p .odd) → IsPower card (card .«even_power») (p .even)
-      → imageOf p (bit i (selector card xs)) (column i xs) ≡ column i (step card xs)
-  step-column odd even =
-      image-power card p (card .«odd_power») (card .«even_power») (bit i (selector card xs)) (column i xs) odd even (column-few xs sx)
-      ∙ sym (column-step card (ok .formed) xs (sx .0) i l)
+  pub step-column : {z : ℕ} → z ≡ selector card (used card s) → IsPower card (card .«odd_power») (p .odd) × IsPower card (card .«even_power») (p .even)
+      → imageOf p (bit i z) (column i (s .words)) ≡ column i (step card (used card s))
+  step-column e pw =
+      let xs : List ℕ = used card s in
+      ap₂ (λ (z c : ℕ). imageOf p (bit i z) c) e column-used
+      ∙ image-power card p (card .«odd_power») (card .«even_power») (bit i (selector card xs)) (column i xs) (pw .0) (pw .1) (column-few xs (held .0))
+      ∙ sym (column-step card (ok .formed) xs (held .0 .0) i l)
 
   -- column i of the step back, once the columns below it are found: they are all that the selector bit depends on
-  pub back-column : IsPower card (undone card (card .«odd_power»)) (p .odd) → IsPower card (undone card (card .«even_power»)) (p .even) → (s : State) → Built (stepBack card xs) i s
-      → imageOf p (bit i (selector card (take (card .words) (s .words)))) (column i xs) ≡ column i (stepBack card xs)
-  back-column odd even s b =
+  pub back-column : {z : ℕ} (found : State) → z ≡ selector card (used card found) → Built (stepBack card (used card s)) i found
+      → IsPower card (undone card (card .«odd_power»)) (p .odd) × IsPower card (undone card (card .«even_power»)) (p .even)
+      → imageOf p (bit i z) (column i (s .words)) ≡ column i (stepBack card (used card s))
+  back-column found e b pw =
       let m : ℕ = card .words in
+      let xs : List ℕ = used card s in
       let ys : List ℕ = stepBack card xs in
-      let sy : IsState card ys = step-back-in-range card xs sx in
+      let sy : IsState card ys = step-back-in-range card xs (held .0) in
       let z : ℕ = bit i (selector card ys) in
-      let low : take m (s .words) ≡ lowWords i ys = ap (take m) b ∙ take-lowWords m i (holding ys .words) ∙ ap (lowWords i) (take-filled mostWords m ys (sy .0)) in
-      let same : bit i (selector card (take m (s .words))) ≡ z =
+      let low : used card found ≡ lowWords i ys =
+      ap (take m) b ∙ take-lowWords m i (holding ys .words) ∙ ap (lowWords i) (take-filled mostWords m ys (sy .0)) in
+      let same : bit i (selector card (used card found)) ≡ z =
       ap (λ (w : List ℕ). bit i (selector card w)) low
       ∙ selector-lower card (lowWords i ys) ys (length-lowWords i ys ∙ sy .0) (sy .0) i l (λ j k. column-lowWords i j ys k) in
       let moved : column i xs ≡ iterate (entry card) (power card z) (column i ys) =
-      ap (column i) (sym (step-of-back card (ok .formed) (ok .period) xs sx)) ∙ column-step card (ok .formed) ys (sy .0) i l in
-      ap (λ (a : ℕ). imageOf p a (column i xs)) same
-      ∙ image-power card p (undone card (card .«odd_power»)) (undone card (card .«even_power»)) z (column i xs) odd even (column-few xs sx)
+      ap (column i) (sym (step-of-back card (ok .formed) (ok .period) xs (held .0))) ∙ column-step card (ok .formed) ys (sy .0) i l in
+      ap₂ (imageOf p) (ap (bit i) e ∙ same) column-used
+      ∙ image-power card p (undone card (card .«odd_power»)) (undone card (card .«even_power»)) z (column i xs) (pw .0) (pw .1) (column-few xs (held .0))
       ∙ ap (iterate (entry card) (cond (eqb z 1) (undone card (card .«odd_power»)) (undone card (card .«even_power»)))) moved
       ∙ back (eqb z 1) (column i ys) (column-few ys sy)
     where

@@ -36,7 +36,9 @@ module _ (xs : List ℕ) where
 
   pub twice-none : ((i : ℕ) → i < length xs → repeatsAt xs i ≡ false) → twice xs ≡ false
   unfolding repeatsAt twice alike
-  twice-none h = simp (every-of (length xs) (λ i. leb (occurs xs (getD xs i 0)) 1) (λ i l. le-leb (occurs xs (getD xs i 0)) 1 (once (getD xs i 0) (decLt 1 (occurs xs (getD xs i 0))))))
+  twice-none h =
+      simp (every-of (length xs) (λ i. leb (occurs xs (getD xs i 0)) 1)
+      (λ i l. le-leb (occurs xs (getD xs i 0)) 1 (once (getD xs i 0) (decLt 1 (occurs xs (getD xs i 0))))))
     where
       once : (x : ℕ) → Dec (1 < occurs xs x) → occurs xs x ≤ 1
       once x (no n) = omega arith

@@ -1,7 +1,7 @@
 -- For loops that go over the first m words from the last to the first: what is left from word k on.
-use mathlib.Core.Path.{_≡_, refl}
+use mathlib.Core.Path.{_≡_, refl, ap, _∙_}
 use mathlib.Core.List.{List, [], _∷_}
-use Prim.Native.Nat.{ℕ, zero, suc, _<_, _≤_}
+use Prim.Native.Nat.{ℕ, zero, suc, _-_, _<_, _≤_}
 use native.Mathlib.Nat.{le-of-eq}
 use native.Mathlib.Omega.{arith}
 use lib.ListN.{length, getD, take, drop, drop-of-length-le}
@@ -19,3 +19,9 @@ words-next k zero xs l h = absurd (omega arith)
 words-next k (suc m) [] l h = absurd (omega arith)
 words-next zero (suc m) (x ∷ xs) l h = refl
 words-next (suc k) (suc m) (x ∷ xs) l h = words-next k m xs (omega arith) (omega arith)
+
+-- one word more, for a loop that has come down to k
+pub words-down : (k m : ℕ) (xs : List ℕ) → 0 < k → k ≤ m → m ≤ length xs → wordsFrom (k - 1) m xs ≡ getD xs (k - 1) 0 ∷ wordsFrom k m xs
+words-down k m xs p l h =
+    let e : suc (k - 1) ≡ k = omega arith in
+    words-next (k - 1) m xs (omega arith) h ∙ ap (λ (j : ℕ). getD xs (k - 1) 0 ∷ wordsFrom j m xs) e

@@ -1,5 +1,5 @@
 use mathlib.Core.Path.{_≡_, sym, ap, ap₂, _∙_}
-use Prim.Native.Nat.{ℕ, suc, _+_, _-_, _*_, _≤_, _<_}
+use Prim.Native.Nat.{ℕ, _+_, _*_, _≤_, _<_}
 use native.Mathlib.Omega.{arith}
 use borrow.Author.Needs.{needs}
 use lib.ListN.{length}
@@ -7,13 +7,10 @@ use lib.Seq.{take-all}
 use Rattle.cycle.proofs.Bits.{bit-lt}
 use Rattle.tsc.specs.Constants.{mostWords, widestWidth}
 use Rattle.tsc.specs.Columns.{column}
-use Rattle.words.proofs.Words.{wordsFrom, words-none, words-next}
+use Rattle.words.proofs.Words.{wordsFrom, words-none, words-down}
 use Rattle.columns.proofs.Placed.{column-few}
 use Rattle.columns.proofs.column.column_of.Statement.{statement}
 use Rattle.columns.proofs.column.column_of.Tie as tie
-use Rattle.columns.proofs.column.column_of.Reads as reads
-use Rattle.columns.proofs.column.column_of.Lts as lts
-use Rattle.columns.proofs.column.bit_of.Reads as bit-of-reads
 
 abbrev Inv-loop : tie.InvT-loop
 Inv-loop i s c₀ k₀ c k = (k ≤ mostWords) × (i < widestWidth) × (length (s .words) ≡ mostWords) × (c ≡ column i (wordsFrom k mostWords (s .words)))
@@ -23,7 +20,10 @@ abbrev μ-loop : tie.MeasureT-loop
 
 loop-holds : tie.Need-loop-holds Inv-loop μ-loop
 unfolding column
-loop-holds c = let a = c .args in let four : length (a .t1 .words) ≡ mostWords = search needs in (omega arith, omega arith, four, ap (column (a .i)) (sym (words-none mostWords (a .t1 .words) (omega arith))))
+loop-holds c =
+    let a = c .args in
+    let four : length (a .t1 .words) ≡ mostWords = search needs in
+    (omega arith, omega arith, four, ap (column (a .i)) (sym (words-none mostWords (a .t1 .words) (omega arith))))
 
 sub-k : tie.Need-sub-k Inv-loop μ-loop
 sub-k c = omega arith
@@ -58,10 +58,18 @@ loop-less c = omega arith
 
 loop-again : tie.Need-loop-again Inv-loop μ-loop
 unfolding column
-loop-again c = let a = c .before .before .before .before .args in let l = c .before .before .before .loop in let e : suc (l .k - 1) ≡ l .k = omega arith in (omega arith, omega arith, l .inv .2, ap₂ (λ (b d : ℕ). b + 2 * d) (c .bit-of .ensures) (l .inv .3 ∙ ap (λ (k : ℕ). column (a .i) (wordsFrom k mostWords (a .t1 .words))) (sym e)) ∙ ap (column (a .i)) (sym (words-next (l .k - 1) mostWords (a .t1 .words) (omega arith) (omega arith))))
+loop-again c =
+    let a = c .before .before .before .before .args in
+    let l = c .before .before .before .loop in
+    let more = words-down (l .k) mostWords (a .t1 .words) (omega arith) (omega arith) (omega arith) in
+    (omega arith, omega arith, l .inv .2, ap₂ (λ (b d : ℕ). b + 2 * d) (c .bit-of .ensures) (l .inv .3) ∙ ap (column (a .i)) (sym more))
 
 returns : tie.Need-returns Inv-loop μ-loop
-returns c = let a = c .before .before .args in let l = c .before .loop in let e : l .k ≡ 0 = omega arith in l .inv .3 ∙ ap (λ (k : ℕ). column (a .i) (wordsFrom k mostWords (a .t1 .words))) e ∙ ap (column (a .i)) (take-all mostWords (a .t1 .words) (omega arith))
+returns c =
+    let a = c .before .before .args in
+    let l = c .before .loop in
+    let e : l .k ≡ 0 = omega arith in
+    l .inv .3 ∙ ap (λ (k : ℕ). column (a .i) (wordsFrom k mostWords (a .t1 .words))) e ∙ ap (column (a .i)) (take-all mostWords (a .t1 .words) (omega arith))
 
 pub column-of-spec : {M : Type 1} → statement M
 column-of-spec =

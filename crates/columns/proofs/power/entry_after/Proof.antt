@@ -1,10 +1,8 @@
-use mathlib.Core.Path.{_≡_, refl, sym, ap, _∙_}
+use mathlib.Core.Path.{_≡_, refl, ap, _∙_}
 use Prim.Native.Nat.{_-_, _<_, _≤_}
-use native.Mathlib.Numerals.{add-one}
 use native.Mathlib.Omega.{arith}
 use Rattle.cycle.specs.Notation.{iterate}
-use Rattle.tsc.specs.Step.{entry}
-use Rattle.columns.proofs.Powers.{stands, stands-few}
+use Rattle.columns.proofs.Powers.{stands, stands-few, stands-next}
 use Rattle.columns.proofs.power.entry_after.Statement.{statement}
 use Rattle.columns.proofs.power.entry_after.Tie as tie
 
@@ -18,8 +16,11 @@ loop-holds : tie.Need-loop-holds Inv-loop μ-loop
 unfolding iterate
 loop-holds c = (omega arith, refl)
 
+-- y is an entry of the table
 few : (c : tie.In-loop Inv-loop μ-loop) → c .before .loop .y < 16
-few c = rw (c .before .loop .inv .1) (stands-few (c .before .before .args .t1) (c .before .before .pre .0) (c .before .before .pre .1) (c .before .loop .counter))
+few c =
+    let s = c .before .before in
+    rw (c .before .loop .inv .1) (stands-few (s .args .t1) (s .pre .0) (s .pre .1) (c .before .loop .counter))
 
 cast-y : tie.Need-cast-y Inv-loop μ-loop
 cast-y c = omega (arith, few c)
@@ -34,11 +35,14 @@ loop-less : tie.Need-loop-less Inv-loop μ-loop
 loop-less c = omega arith
 
 loop-again : tie.Need-loop-again Inv-loop μ-loop
-unfolding iterate
-loop-again c = let a = c .before .before .before .args in let l = c .before .before .loop in (omega arith, ap (entry (a .t1)) (l .inv .1) ∙ ap (stands (a .t1)) (sym (add-one (l .counter))))
+loop-again c = let l = c .before .before .loop in (omega arith, stands-next (c .before .before .before .args .t1) (l .counter) (l .inv .1))
 
 returns : tie.Need-returns Inv-loop μ-loop
-returns c = let a = c .before .before .args in let l = c .before .loop in let e : l .counter ≡ a .applications = omega arith in l .inv .1 ∙ ap (stands (a .t1)) e
+returns c =
+    let a = c .before .before .args in
+    let l = c .before .loop in
+    let e : l .counter ≡ a .applications = omega arith in
+    l .inv .1 ∙ ap (stands (a .t1)) e
 
 pub entry-after-spec : {M : Type 1} → statement M
 entry-after-spec =

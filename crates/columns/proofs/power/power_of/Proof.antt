@@ -1,18 +1,17 @@
-use mathlib.Core.Path.{_≡_, refl, sym, ap, ap₂, _∙_, subst}
-use Prim.Native.Nat.{ℕ, suc, _+_, _-_, _^_, _<_, _≤_}
-use native.Mathlib.Numerals.{add-one}
+use mathlib.Core.Path.{_≡_, refl, sym, ap, _∙_, subst}
+use Prim.Native.Nat.{ℕ, _+_, _-_, _^_, _<_, _≤_}
 use native.Mathlib.Nat.{add-zero}
 use native.Mathlib.Omega.{arith}
-use lib.ListN.{set}
 use Rattle.cycle.specs.Notation.{iterate}
-use Rattle.cycle.proofs.Iterate.{iterate-add, iterate-mod}
+use Rattle.cycle.proofs.Iterate.{iterate-mod}
 use Rattle.tsc.specs.Step.{entry}
-use Rattle.columns.proofs.Powers.{stands, stands-few, Filled, filled-none, filled-next, filled-power}
+use Rattle.columns.proofs.Powers.{stands, stands-few, stands-next, Filled, filled-none, filled-along, filled-power}
 use Rattle.columns.proofs.power.power_of.Statement.{statement}
 use Rattle.columns.proofs.power.power_of.Tie as tie
 
 abbrev Inv-loop : tie.InvT-loop
-Inv-loop times card m power₀ x₀ y₀ counter₀ end power x y counter = (end ≡ 2 ^ card .words) × (counter ≤ end) × (x ≡ stands card counter) × (y ≡ stands card (times + counter)) × Filled card times counter power
+Inv-loop times card m power₀ x₀ y₀ counter₀ end power x y counter =
+    (end ≡ 2 ^ card .words) × (counter ≤ end) × (x ≡ stands card counter) × (y ≡ stands card (times + counter)) × Filled card times counter power
 
 abbrev μ-loop : tie.MeasureT-loop
 μ-loop times card m power₀ x₀ y₀ counter₀ end power x y counter = end - counter
@@ -31,13 +30,28 @@ entries-requires c κs = c .before .before .pre .1
 
 loop-holds : tie.Need-loop-holds Inv-loop μ-loop
 unfolding iterate
-loop-holds c = let a = c .before .before .before .args in let k = a .times in (c .entries .ensures, omega arith, refl, c .before .entry-after .ensures ∙ ap (stands (a .t1)) (c .before .before .reduce .ensures) ∙ iterate-mod (entry (a .t1)) (2 ^ a .t1 .words) 0 (c .before .before .before .pre .2 .returns) k ∙ ap (stands (a .t1)) (sym (add-zero k)), filled-none (a .t1) k)
+loop-holds c =
+    let s = c .before .before .before in
+    let card = s .args .t1 in
+    let k = s .args .times in
+    let ahead = c .before .entry-after .ensures ∙ ap (stands card) (c .before .before .reduce .ensures) in (
+      c .entries .ensures,
+      omega arith,
+      refl,
+      ahead ∙ iterate-mod (entry card) (2 ^ card .words) 0 (s .pre .2 .returns) k ∙ ap (stands card) (sym (add-zero k)),
+      filled-none card k,
+    )
 
+-- x and y are entries of the table
 few-x : (c : tie.In-loop Inv-loop μ-loop) → c .before .loop .x < 16
-few-x c = let s = c .before .before .before .before .before in rw (c .before .loop .inv .2) (stands-few (s .args .t1) (s .pre .0) (s .pre .1) (c .before .loop .counter))
+few-x c =
+    let s = c .before .before .before .before .before in
+    rw (c .before .loop .inv .2) (stands-few (s .args .t1) (s .pre .0) (s .pre .1) (c .before .loop .counter))
 
 few-y : (c : tie.In-loop Inv-loop μ-loop) → c .before .loop .y < 16
-few-y c = let s = c .before .before .before .before .before in rw (c .before .loop .inv .3) (stands-few (s .args .t1) (s .pre .0) (s .pre .1) (s .args .times + c .before .loop .counter))
+few-y c =
+    let s = c .before .before .before .before .before in
+    rw (c .before .loop .inv .3) (stands-few (s .args .t1) (s .pre .0) (s .pre .1) (s .args .times + c .before .loop .counter))
 
 cast-power : tie.Need-cast-power Inv-loop μ-loop
 cast-power c = omega (arith, few-x c)
@@ -64,11 +78,27 @@ loop-less : tie.Need-loop-less Inv-loop μ-loop
 loop-less c = omega arith
 
 loop-again : tie.Need-loop-again Inv-loop μ-loop
-unfolding iterate
-loop-again c = let a = c .before .before .before .before .before .before .before .args in let l = c .before .before .before .loop in let p = c .before .before .before .before .before .before .before .pre in let e : suc (a .times + l .counter) ≡ a .times + (l .counter + 1) = omega arith in (l .inv .0, omega arith, ap (entry (a .t1)) (l .inv .2) ∙ ap (stands (a .t1)) (sym (add-one (l .counter))), ap (entry (a .t1)) (l .inv .3) ∙ ap (stands (a .t1)) e, subst (Filled (a .t1) (a .times) (l .counter + 1)) (sym (ap₂ (set (l .power)) (l .inv .2) (l .inv .3 ∙ iterate-add (entry (a .t1)) (a .times) (l .counter) 0))) (filled-next (a .t1) (p .0) (p .1) (a .times) (l .counter) (l .power) (l .inv .4)))
+loop-again c =
+    let turn = c .before .before in
+    let s = turn .before .before .before .before .before in
+    let card = s .args .t1 in
+    let k = s .args .times in
+    let l = turn .before .loop in
+    let e : k + l .counter + 1 ≡ k + (l .counter + 1) = omega arith in (
+      l .inv .0,
+      omega arith,
+      stands-next card (l .counter) (l .inv .2),
+      stands-next card (k + l .counter) (l .inv .3) ∙ ap (stands card) e,
+      filled-along card (s .pre .0) (s .pre .1) k (l .counter) (l .power) (l .inv .2) (l .inv .3) (l .inv .4),
+    )
 
 returns : tie.Need-returns Inv-loop μ-loop
-returns c = let a = c .before .before .before .before .before .args in let l = c .before .loop in let e : l .counter ≡ 2 ^ a .t1 .words = omega arith in filled-power (a .t1) (a .times) (l .power) (c .before .before .before .before .before .pre .2) (subst (λ (j : ℕ). Filled (a .t1) (a .times) j (l .power)) e (l .inv .4))
+returns c =
+    let s = c .before .before .before .before .before in
+    let card = s .args .t1 in
+    let l = c .before .loop in
+    let e : l .counter ≡ 2 ^ card .words = omega arith in
+    filled-power card (s .args .times) (l .power) (s .pre .2) (subst (λ (j : ℕ). Filled card (s .args .times) j (l .power)) e (l .inv .4))
 
 pub power-of-spec : {M : Type 1} → statement M
 power-of-spec =

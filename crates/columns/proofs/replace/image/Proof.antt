@@ -4,8 +4,6 @@ use native.Mathlib.Omega.{arith}
 use borrow.Author.Needs.{needs}
 use Rattle.columns.proofs.replace.image.Statement.{statement}
 use Rattle.columns.proofs.replace.image.Tie as tie
-use Rattle.columns.proofs.replace.image.Reads as reads
-use Rattle.columns.proofs.replace.image.Lts as lts
 
 element-copy-out-result : tie.Need-element-copy-out-result
 element-copy-out-result c = omega arith

@@ -9,12 +9,6 @@ use Rattle.columns.specs.Replace.{withColumn, imageOf}
 use borrow.Author.Needs.{needs}
 use Rattle.columns.proofs.replace.replace_column.Statement.{statement}
 use Rattle.columns.proofs.replace.replace_column.Tie as tie
-use Rattle.columns.proofs.replace.replace_column.Reads as reads
-use Rattle.columns.proofs.replace.replace_column.Lts as lts
-use Rattle.columns.proofs.column.bit_of.Reads as bit-of-reads
-use Rattle.columns.proofs.column.column_of.Reads as column-of-reads
-use Rattle.columns.proofs.column.with_column.Reads as with-column-reads
-use Rattle.columns.proofs.replace.image.Reads as image-reads
 
 bit-of-requires : tie.Need-bit-of-requires
 bit-of-requires c κs = omega arith
@@ -23,13 +17,19 @@ column-of-requires : tie.Need-column-of-requires
 column-of-requires c κs = omega arith
 
 image-requires : tie.Need-image-requires
-image-requires c κs = let a = c .before .before .args in let four : length (a .s .words) ≡ mostWords = search needs in rw (c .column-of .ensures) (subst (λ (k : ℕ). column (a .i) (a .s .words) < 2 ^ k) four (column-lt (a .i) (a .s .words)))
+image-requires c κs =
+    let a = c .before .before .args in
+    let four : length (a .s .words) ≡ mostWords = search needs in
+    rw (c .column-of .ensures) (subst (λ (k : ℕ). column (a .i) (a .s .words) < 2 ^ k) four (column-lt (a .i) (a .s .words)))
 
 with-column-requires : tie.Need-with-column-requires
 with-column-requires c κs = search needs
 
 returns : tie.Need-returns
-returns c = let a = c .before .before .before .before .args in c .with-column .ensures ∙ ap (λ (v : ℕ). withColumn (a .i) v (a .below .words)) (c .before .image .ensures ∙ ap₂ (imageOf (a .p)) (c .before .before .before .bit-of .ensures) (c .before .before .column-of .ensures))
+returns c =
+    let a = c .before .before .before .before .args in
+    let image = c .before .image .ensures ∙ ap₂ (imageOf (a .p)) (c .before .before .before .bit-of .ensures) (c .before .before .column-of .ensures) in
+    c .with-column .ensures ∙ ap (λ (v : ℕ). withColumn (a .i) v (a .below .words)) image
 
 pub replace-column-spec : {M : Type 1} → statement M
 replace-column-spec =

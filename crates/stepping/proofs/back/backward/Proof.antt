@@ -21,7 +21,12 @@ powers-of-requires : tie.Need-powers-of-requires
 powers-of-requires c κs = let ok = c .before .before .before .before .pre in (ok .formed, ok .few, ok .period .cycle)
 
 returns : tie.Need-returns
-returns c = let card = c .before .before .before .before .before .args .card in let p = c .powers-of .result in (subst (λ (k : ℕ). IsPower card k (p .odd)) (c .before .before .undoing .ensures) (c .powers-of .ensures .0), subst (λ (k : ℕ). IsPower card k (p .even)) (c .before .undoing2 .ensures) (c .powers-of .ensures .1))
+returns c =
+    let card = c .before .before .before .before .before .args .card in
+    let p = c .powers-of .result in (
+      subst (λ (k : ℕ). IsPower card k (p .odd)) (c .before .before .undoing .ensures) (c .powers-of .ensures .0),
+      subst (λ (k : ℕ). IsPower card k (p .even)) (c .before .undoing2 .ensures) (c .powers-of .ensures .1),
+    )
 
 pub backward-spec : {M : Type 1} → statement M
 backward-spec =

@@ -1,14 +1,13 @@
-use mathlib.Core.Path.{_≡_, refl, ap₂, _∙_, subst}
+use mathlib.Core.Path.{refl}
+use mathlib.Core.List.{List}
 use Prim.Native.Nat.{ℕ, _-_, _≤_}
 use native.Mathlib.Omega.{arith}
 use lib.ListN.{length}
-use Rattle.cycle.specs.Notation.{bit}
 use Rattle.tsc.specs.Constants.{mostWords}
-use Rattle.tsc.specs.Coverage.{stepBack}
+use Rattle.tsc.specs.Coverage.{IsState, stepBack}
 use Rattle.tsc.proofs.StepBack.{step-back-in-range}
-use Rattle.columns.specs.Replace.{imageOf}
 use Rattle.stepping.specs.State.{used}
-use Rattle.stepping.proofs.Built.{Built, built-none, built-next, built-lt, built-all, column-used, back-column}
+use Rattle.stepping.proofs.Built.{Built, built-none, built-next, built-lt, built-all, back-column}
 use Rattle.stepping.proofs.back.previous_state.Statement.{statement}
 use Rattle.stepping.proofs.back.previous_state.Tie as tie
 
@@ -18,11 +17,18 @@ Inv-loop card p s found₀ i₀ found i = (i ≤ card .width) × Built (stepBack
 abbrev μ-loop : tie.MeasureT-loop
 μ-loop card p s found₀ i₀ found i = card .width - i
 
-size : (c : tie.Start Inv-loop μ-loop) → length (stepBack (c .args .card) (used (c .args .card) (c .args .s))) ≤ mostWords
-size c = omega (arith, step-back-in-range (c .args .card) (used (c .args .card) (c .args .s)) (c .pre .0 .1 .0) .0, c .pre .0 .0 .few)
+-- the words of the step back, which the loop finds; they are a state, and fit one by value
+abbrev earlier : tie.Start Inv-loop μ-loop → List ℕ
+earlier c = stepBack (c .args .card) (used (c .args .card) (c .args .s))
+
+in-range : (c : tie.Start Inv-loop μ-loop) → IsState (c .args .card) (earlier c)
+in-range c = step-back-in-range (c .args .card) (used (c .args .card) (c .args .s)) (c .pre .0 .1 .0)
+
+size : (c : tie.Start Inv-loop μ-loop) → length (earlier c) ≤ mostWords
+size c = omega (arith, in-range c .0, c .pre .0 .0 .few)
 
 loop-holds : tie.Need-loop-holds Inv-loop μ-loop
-loop-holds c = let a = c .args in (omega arith, built-none (stepBack (a .card) (used (a .card) (a .s))) (size c) _ refl)
+loop-holds c = (omega arith, built-none (earlier c) (size c) _ refl)
 
 cast-if1 : tie.Need-cast-if1 Inv-loop μ-loop
 cast-if1 c = omega arith
@@ -31,7 +37,10 @@ selector-of-requires : tie.Need-selector-of-requires Inv-loop μ-loop
 selector-of-requires c κs = let ok = c .before .before .before .pre .0 .0 in (omega (arith, ok .formed .width), ok .narrow, ok .few)
 
 replace-column-requires : tie.Need-replace-column-requires Inv-loop μ-loop
-replace-column-requires c κs = let a = c .before .before .before .before .args in let l = c .before .before .before .loop in (omega (arith, c .before .before .before .before .pre .0 .0 .narrow), built-lt (stepBack (a .card) (used (a .card) (a .s))) (l .i) (l .found) (l .inv .1))
+replace-column-requires c κs =
+    let s = c .before .before .before .before in
+    let l = c .before .before .before .loop in
+    (omega (arith, s .pre .0 .0 .narrow), built-lt (earlier s) (l .i) (l .found) (l .inv .1))
 
 add-i : tie.Need-add-i Inv-loop μ-loop
 add-i c = omega arith
@@ -40,10 +49,21 @@ loop-less : tie.Need-loop-less Inv-loop μ-loop
 loop-less c = omega arith
 
 loop-again : tie.Need-loop-again Inv-loop μ-loop
-loop-again c = let a = c .before .before .before .before .before .args in let l = c .before .before .before .before .loop in let pre = c .before .before .before .before .before .pre in (omega arith, built-next _ (size (c .before .before .before .before .before)) (l .i) _ (l .found) _ (l .inv .1) (c .replace-column .ensures) (ap₂ (λ (z d : ℕ). imageOf (a .p) (bit (l .i) z) d) (c .before .selector-of .ensures) (column-used (a .card) (a .s) (pre .0 .1) (l .i)) ∙ back-column (a .card) (pre .0 .0) (a .p) (used (a .card) (a .s)) (pre .0 .1 .0) (l .i) (c .before .before .if1 .taken) (pre .1 .0) (pre .1 .1) (l .found) (l .inv .1)))
+loop-again c =
+    let s = c .before .before .before .before .before in
+    let a = s .args in
+    let l = c .before .before .before .before .loop in
+    let ok = s .pre .0 in
+    let inside = c .before .before .if1 .taken in
+    let made = back-column (a .card) (ok .0) (a .p) (a .s) (ok .1) (l .i) inside (l .found) (c .before .selector-of .ensures) (l .inv .1) (s .pre .1) in
+    (omega arith, built-next (earlier s) (size s) (l .i) _ (l .found) _ (l .inv .1) (c .replace-column .ensures) made)
 
 returns : tie.Need-returns Inv-loop μ-loop
-returns c = let a = c .before .before .before .args in let l = c .before .before .loop in let e : l .i ≡ a .card .width = omega arith in let before = stepBack (a .card) (used (a .card) (a .s)) in built-all _ _ before (l .found) (step-back-in-range (a .card) (used (a .card) (a .s)) (c .before .before .before .pre .0 .1 .0)) (subst (λ (i : ℕ). Built before i (l .found)) e (l .inv .1))
+returns c =
+    let s = c .before .before .before in
+    let a = s .args in
+    let l = c .before .before .loop in
+    built-all (a .card .words) (a .card .width) (l .i) (earlier s) (l .found) (in-range s) (omega arith) (l .inv .1)
 
 pub previous-state-spec : {M : Type 1} → statement M
 previous-state-spec =

@@ -20,7 +20,9 @@ reduce-requires : tie.Need-reduce-requires
 reduce-requires c κs = let ok = c .before .before .pre in (omega (arith, ok .formed .words), omega (arith, ok .few))
 
 sub-result : tie.Need-sub-result
-sub-result c = omega (arith, c .before .entries .ensures, c .reduce .ensures, mod-lt (c .before .before .before .args .times) (pow-pos (c .before .before .before .args .card .words)))
+sub-result c =
+    let a = c .before .before .before .args in
+    omega (arith, c .before .entries .ensures, c .reduce .ensures, mod-lt (a .times) (pow-pos (a .card .words)))
 
 returns : tie.Need-returns
 returns c = ap₂ (λ (x y : ℕ). x - y) (c .before .entries .ensures) (c .reduce .ensures)

@@ -1,14 +1,13 @@
-use mathlib.Core.Path.{_≡_, refl, ap₂, _∙_, subst}
+use mathlib.Core.Path.{refl}
+use mathlib.Core.List.{List}
 use Prim.Native.Nat.{ℕ, _-_, _≤_}
 use native.Mathlib.Omega.{arith}
 use lib.ListN.{length}
-use Rattle.cycle.specs.Notation.{bit}
 use Rattle.tsc.specs.Constants.{mostWords}
-use Rattle.columns.specs.Replace.{imageOf}
 use Rattle.tsc.specs.Step.{step}
 use Rattle.tsc.proofs.Step.{step-in-range}
 use Rattle.stepping.specs.State.{used}
-use Rattle.stepping.proofs.Built.{Built, built-none, built-next, built-lt, built-all, column-used, step-column}
+use Rattle.stepping.proofs.Built.{Built, built-none, built-next, built-lt, built-all, step-column}
 use Rattle.stepping.proofs.step.next_state.Statement.{statement}
 use Rattle.stepping.proofs.step.next_state.Tie as tie
 
@@ -18,20 +17,27 @@ Inv-loop card p s select out₀ i₀ out i = (i ≤ card .width) × Built (step 
 abbrev μ-loop : tie.MeasureT-loop
 μ-loop card p s select out₀ i₀ out i = card .width - i
 
+-- the words of the step, which the loop builds; they fit a state
+abbrev after : tie.Start Inv-loop μ-loop → List ℕ
+after c = step (c .args .card) (used (c .args .card) (c .args .s))
+
+size : (c : tie.Start Inv-loop μ-loop) → length (after c) ≤ mostWords
+size c = omega (arith, step-in-range (c .args .card) (used (c .args .card) (c .args .s)) .0, c .pre .0 .0 .few)
+
 selector-of-requires : tie.Need-selector-of-requires Inv-loop μ-loop
 selector-of-requires c κs = let ok = c .pre .0 .0 in (omega (arith, ok .formed .width), ok .narrow, ok .few)
 
-size : (c : tie.Start Inv-loop μ-loop) → length (step (c .args .card) (used (c .args .card) (c .args .s))) ≤ mostWords
-size c = omega (arith, step-in-range (c .args .card) (used (c .args .card) (c .args .s)) .0, c .pre .0 .0 .few)
-
 loop-holds : tie.Need-loop-holds Inv-loop μ-loop
-loop-holds c = let a = c .before .args in (omega arith, built-none (step (a .card) (used (a .card) (a .s))) (size (c .before)) _ refl)
+loop-holds c = (omega arith, built-none (after (c .before)) (size (c .before)) _ refl)
 
 cast-if1 : tie.Need-cast-if1 Inv-loop μ-loop
 cast-if1 c = omega arith
 
 replace-column-requires : tie.Need-replace-column-requires Inv-loop μ-loop
-replace-column-requires c κs = let a = c .before .before .before .before .args in let l = c .before .before .loop in (omega (arith, c .before .before .before .before .pre .0 .0 .narrow), built-lt (step (a .card) (used (a .card) (a .s))) (l .i) (l .out) (l .inv .1))
+replace-column-requires c κs =
+    let s = c .before .before .before .before in
+    let l = c .before .before .loop in
+    (omega (arith, s .pre .0 .0 .narrow), built-lt (after s) (l .i) (l .out) (l .inv .1))
 
 add-i : tie.Need-add-i Inv-loop μ-loop
 add-i c = omega arith
@@ -40,10 +46,21 @@ loop-less : tie.Need-loop-less Inv-loop μ-loop
 loop-less c = omega arith
 
 loop-again : tie.Need-loop-again Inv-loop μ-loop
-loop-again c = let a = c .before .before .before .before .before .args in let l = c .before .before .before .loop in let pre = c .before .before .before .before .before .pre in (omega arith, built-next _ (size (c .before .before .before .before .before)) (l .i) _ (l .out) _ (l .inv .1) (c .replace-column .ensures) (ap₂ (λ (z d : ℕ). imageOf (a .p) (bit (l .i) z) d) (c .before .before .before .before .selector-of .ensures) (column-used (a .card) (a .s) (pre .0 .1) (l .i)) ∙ step-column (a .card) (pre .0 .0) (a .p) (used (a .card) (a .s)) (pre .0 .1 .0) (l .i) (c .before .if1 .taken) (pre .1 .0) (pre .1 .1)))
+loop-again c =
+    let s = c .before .before .before .before .before in
+    let a = s .args in
+    let l = c .before .before .before .loop in
+    let ok = s .pre .0 in
+    let inside = c .before .if1 .taken in
+    let made = step-column (a .card) (ok .0) (a .p) (a .s) (ok .1) (l .i) inside (c .before .before .before .before .selector-of .ensures) (s .pre .1) in
+    (omega arith, built-next (after s) (size s) (l .i) _ (l .out) _ (l .inv .1) (c .replace-column .ensures) made)
 
 returns : tie.Need-returns Inv-loop μ-loop
-returns c = let a = c .before .before .before .before .args in let l = c .before .before .loop in let e : l .i ≡ a .card .width = omega arith in let next = step (a .card) (used (a .card) (a .s)) in built-all _ _ next (l .out) (step-in-range (a .card) (used (a .card) (a .s))) (subst (λ (i : ℕ). Built next i (l .out)) e (l .inv .1))
+returns c =
+    let s = c .before .before .before .before in
+    let a = s .args in
+    let l = c .before .before .loop in
+    built-all (a .card .words) (a .card .width) (l .i) (after s) (l .out) (step-in-range (a .card) (used (a .card) (a .s))) (omega arith) (l .inv .1)
 
 pub next-state-spec : {M : Type 1} → statement M
 next-state-spec =

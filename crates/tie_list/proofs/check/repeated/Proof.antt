@@ -1,4 +1,4 @@
-use mathlib.Core.Path.{_≡_, sym, _∙_}
+use mathlib.Core.Path.{_≡_, sym}
 use mathlib.Core.Bool.{false}
 use Prim.Native.Nat.{ℕ, _-_, _<_, _≤_}
 use native.Mathlib.Omega.{arith}
@@ -22,7 +22,9 @@ repeats-at-requires : tie.Need-repeats-at-requires Inv-loop μ-loop
 repeats-at-requires c κs = omega arith
 
 returns : tie.Need-returns Inv-loop μ-loop
-returns c = let a = c .before .before .before .before .before .args in sym (twice-found (a .shovels .now) (c .before .before .before .loop .i) (omega arith) (sym (c .before .repeats-at .ensures) ∙ c .if1 .taken))
+returns c =
+    let shovels = c .before .before .before .before .before .args .shovels .now in
+    sym (twice-found shovels (c .before .before .before .loop .i) (omega arith) (rw (c .before .repeats-at .ensures) at (c .if1 .taken)))
 
 add-i : tie.Need-add-i Inv-loop μ-loop
 add-i c = omega arith
@@ -31,10 +33,14 @@ loop-less : tie.Need-loop-less Inv-loop μ-loop
 loop-less c = omega arith
 
 loop-again : tie.Need-loop-again Inv-loop μ-loop
-loop-again c = let a = c .before .before .before .before .before .args in let l = c .before .before .before .loop in (omega arith, extend (λ (j : ℕ). repeatsAt (a .shovels .now) j ≡ false) (l .i) (l .inv .1) (sym (c .before .repeats-at .ensures) ∙ c .if1 .left))
+loop-again c =
+    let shovels = c .before .before .before .before .before .args .shovels .now in
+    let l = c .before .before .before .loop in
+    let here = rw (c .before .repeats-at .ensures) at (c .if1 .left) in
+    (omega arith, extend (λ (j : ℕ). repeatsAt shovels j ≡ false) (l .i) (l .inv .1) here)
 
 returns-2 : tie.Need-returns-2 Inv-loop μ-loop
-returns-2 c = let a = c .before .before .before .args in let l = c .before .loop in sym (twice-none (a .shovels .now) (λ j h. l .inv .1 j (omega arith)))
+returns-2 c = sym (twice-none (c .before .before .before .args .shovels .now) (λ j h. c .before .loop .inv .1 j (omega arith)))
 
 pub repeated-spec : {M : Type 1} → statement M
 repeated-spec =

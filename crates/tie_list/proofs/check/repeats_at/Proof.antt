@@ -29,7 +29,10 @@ shared-slice-read-if1 : tie.Need-shared-slice-read-if1 Inv-loop μ-loop
 shared-slice-read-if1 c = omega arith
 
 returns : tie.Need-returns Inv-loop μ-loop
-returns c = let l = c .before .before .before .loop in let a = c .before .before .before .before .before .args in sym (repeats-found (a .shovels .now) (a .i) (a .i - l .d) (omega arith) (c .if1 .taken ∙ l .inv .2))
+returns c =
+    let a = c .before .before .before .before .before .args in
+    let l = c .before .before .before .loop in
+    sym (repeats-found (a .shovels .now) (a .i) (a .i - l .d) (omega arith) (c .if1 .taken ∙ l .inv .2))
 
 add-d : tie.Need-add-d Inv-loop μ-loop
 add-d c = omega arith
@@ -38,10 +41,16 @@ loop-less : tie.Need-loop-less Inv-loop μ-loop
 loop-less c = omega arith
 
 loop-again : tie.Need-loop-again Inv-loop μ-loop
-loop-again c = let l = c .before .before .before .loop in let a = c .before .before .before .before .before .args in (l .inv .0, omega arith, l .inv .2, farther (a .shovels .now) (a .i) _ (l .d) (l .inv .3) (c .if1 .left))
+loop-again c =
+    let a = c .before .before .before .before .before .args in
+    let l = c .before .before .before .loop in
+    (l .inv .0, omega arith, l .inv .2, farther (a .shovels .now) (a .i) _ (l .d) (l .inv .3) (c .if1 .left))
 
 returns-2 : tie.Need-returns-2 Inv-loop μ-loop
-returns-2 c = let l = c .before .loop in let a = c .before .before .before .args in sym (repeats-none (a .shovels .now) (a .i) (λ j lj e. l .inv .3 j lj (omega arith) (e ∙ sym (l .inv .2))))
+returns-2 c =
+    let a = c .before .before .before .args in
+    let l = c .before .loop in
+    sym (repeats-none (a .shovels .now) (a .i) (λ j lj e. l .inv .3 j lj (omega arith) (e ∙ sym (l .inv .2))))
 
 pub repeats-at-spec : {M : Type 1} → statement M
 repeats-at-spec =

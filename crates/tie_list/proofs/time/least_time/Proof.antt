@@ -35,10 +35,17 @@ loop-less : tie.Need-loop-less Inv-loop μ-loop
 loop-less c = omega arith
 
 loop-again : tie.Need-loop-again Inv-loop μ-loop
-loop-again c = let l = c .before .before .before .loop in (omega arith, rw (c .lesser .ensures) (least-next (c .before .before .before .before .before .before .args .times .now) (l .i) (l .least) (l .inv .1)))
+loop-again c =
+    let turn = c .before .before in
+    let l = turn .before .loop in
+    (omega arith, rw (c .lesser .ensures) (least-next (turn .before .before .before .before .args .times .now) (l .i) (l .least) (l .inv .1)))
 
 returns : tie.Need-returns Inv-loop μ-loop
-returns c = let l = c .before .loop in let e : l .i ≡ length (c .before .before .before .before .args .times .now) = omega arith in subst (λ (n : ℕ). LeastOf (c .before .before .before .before .args .times .now) n (l .least)) e (l .inv .1)
+returns c =
+    let l = c .before .loop in
+    let times = c .before .before .before .before .args .times .now in
+    let e : l .i ≡ length times = omega arith in
+    subst (λ (n : ℕ). LeastOf times n (l .least)) e (l .inv .1)
 
 pub least-time-spec : {M : Type 1} → statement M
 least-time-spec =

@@ -29,14 +29,18 @@ shr-result : tie.Need-shr-result
 shr-result c = omega arith
 
 -- the two parts of the rotated word, before they are added
-turned : (c : tie.After-reduce) → let a = c .before .before .args in c .reduce .result + a .x / 2 ^ (a .n - a .k % a .n) ≡ _⋘_ (a .n) (a .x) (a .k)
+turned : (c : tie.After-reduce) → let a = c .before .before .args in
+    c .reduce .result + a .x / 2 ^ (a .n - a .k % a .n) ≡ _⋘_ (a .n) (a .x) (a .k)
 unfolding _⋘_
 turned c =
     let a = c .before .before .args in
     ap (λ (m : ℕ). m + a .x / 2 ^ (a .n - a .k % a .n)) (c .reduce .ensures ∙ mod-pow-mod 32 (a .n) (a .x * 2 ^ (a .k % a .n)) (c .before .before .pre .1))
 
 add-result : tie.Need-add-result
-add-result c = let a = c .before .before .args in let p = c .before .before .pre in omega (arith, turned c, rotate-lt (a .n) (a .x) (a .k) (p .0) (p .2), pow-mono {i = a .n} {j = 32} (p .1))
+add-result c =
+    let a = c .before .before .args in
+    let p = c .before .before .pre in
+    omega (arith, turned c, rotate-lt (a .n) (a .x) (a .k) (p .0) (p .2), pow-mono {i = a .n} {j = 32} (p .1))
 
 returns-2 : tie.Need-returns-2
 returns-2 c = turned c

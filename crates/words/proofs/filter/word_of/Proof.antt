@@ -4,10 +4,6 @@ use Rattle.tsc.specs.Word.{word}
 use borrow.Author.Needs.{needs}
 use Rattle.words.proofs.filter.word_of.Statement.{statement}
 use Rattle.words.proofs.filter.word_of.Tie as tie
-use Rattle.words.proofs.filter.word_of.Reads as reads
-use Rattle.words.proofs.filter.word_of.Lts as lts
-use Rattle.words.proofs.filter.filter_1.Reads as filter-1-reads
-use Rattle.words.proofs.filter.filter_2.Reads as filter-2-reads
 
 cast-n : tie.Need-cast-n
 cast-n c = omega arith

@@ -1,9 +1,11 @@
-use mathlib.Core.Path.{refl}
+use mathlib.Core.Path.{_≡_, refl}
+use Prim.Native.Nat.{_+_, _%_, _^_}
 use native.Mathlib.Nat.{two-mul}
 use borrow.Author.Tests.{eq-eqb, ne-eqb}
 use native.Mathlib.Omega.{arith}
-use lib.Bits.{xor-zero-r}
-use Rattle.tsc.specs.Selector.{selector}
+use lib.Bits.{bitXor, xor-zero-r}
+use lib.ListN.{take}
+use Rattle.tsc.specs.Selector.{andWords, selector}
 use Rattle.tsc.specs.Word.{_⊞_}
 use Rattle.words.proofs.selector.selector_of.Statement.{statement}
 use Rattle.words.proofs.selector.selector_of.Tie as tie
@@ -26,13 +28,21 @@ sum-words-requires c κs = omega arith
 add-requires-2 : tie.Need-add-requires-2
 add-requires-2 c κs = omega arith
 
+-- the selector without the sum term: (p + C) XOR p
+moved : (c : tie.After-add) → let a = c .before .before .before .before .args in
+    let p = andWords (a .card .width) (take (a .card .words) (a .s .words)) in
+    bitXor (c .add .result) (c .before .and-words .result) ≡ bitXor ((p + a .card .constant) % 2 ^ a .card .width) p
+unfolding _⊞_
+moved c = rw (c .add .ensures, c .before .and-words .ensures) refl
+
 returns : tie.Need-returns
 unfolding selector _⊞_
-returns c = rw (c .add2 .ensures, c .before .sum-words .ensures, c .before .before .before .before .add .ensures, c .before .before .before .before .before .and-words .ensures, eq-eqb _ _ (c .before .before .if1 .taken), two-mul) refl
+returns c =
+    rw (moved (c .before .before .before .before), c .add2 .ensures, c .before .sum-words .ensures, eq-eqb _ _ (c .before .before .if1 .taken), two-mul) refl
 
 returns-2 : tie.Need-returns-2
-unfolding selector _⊞_
-returns-2 c = rw (c .before .before .add .ensures, c .before .before .before .and-words .ensures, ne-eqb _ _ (c .if1 .left), xor-zero-r) refl
+unfolding selector
+returns-2 c = rw (moved (c .before .before), ne-eqb _ _ (c .if1 .left), xor-zero-r) refl
 
 pub selector-of-spec : {M : Type 1} → statement M
 selector-of-spec =

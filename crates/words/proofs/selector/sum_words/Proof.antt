@@ -1,6 +1,6 @@
 use mathlib.Core.Path.{_≡_, sym, ap, _∙_}
 use mathlib.Core.List.{List}
-use Prim.Native.Nat.{ℕ, suc, _+_, _-_, _%_, _^_, _≤_}
+use Prim.Native.Nat.{ℕ, _+_, _-_, _%_, _^_, _≤_}
 use native.Mathlib.Nat.{add-mod-mod}
 use native.Mathlib.Omega.{arith}
 use borrow.Author.Needs.{needs}
@@ -8,13 +8,9 @@ use lib.ListN.{length, getD}
 use Rattle.tsc.specs.Constants.{mostWords}
 use Rattle.tsc.specs.Selector.{sumWords}
 use Rattle.cycle.proofs.Bits.{mod-pow-mod}
-use Rattle.words.proofs.Words.{wordsFrom, words-none, words-next}
+use Rattle.words.proofs.Words.{wordsFrom, words-none, words-down}
 use Rattle.words.proofs.selector.sum_words.Statement.{statement}
 use Rattle.words.proofs.selector.sum_words.Tie as tie
-use Rattle.words.proofs.selector.sum_words.Reads as reads
-use Rattle.words.proofs.selector.sum_words.Lts as lts
-use Rattle.std.proofs.num.wrapping_add_u32.Reads as wrapping-add-u32-reads
-use Rattle.words.proofs.arithmetic.reduce.Reads as reduce-reads
 
 abbrev Inv-loop : tie.InvT-loop
 Inv-loop n m s sum₀ k₀ sum k = (k ≤ m) × (m ≤ mostWords) × (length (s .words) ≡ mostWords) × (sum ≡ sumWords (wordsFrom k m (s .words)) % 2 ^ 32)
@@ -24,7 +20,14 @@ abbrev μ-loop : tie.MeasureT-loop
 
 loop-holds : tie.Need-loop-holds Inv-loop μ-loop
 unfolding sumWords
-loop-holds c = let a = c .args in let four : length (a .t3 .words) ≡ mostWords = search needs in (omega arith, omega arith, four, ap (λ (l : List ℕ). sumWords l % 2 ^ 32) (sym (words-none (a .m) (a .t3 .words) (omega arith))))
+loop-holds c =
+    let a = c .args in
+    let four : length (a .t3 .words) ≡ mostWords = search needs in (
+      omega arith,
+      omega arith,
+      four,
+      ap (λ (l : List ℕ). sumWords l % 2 ^ 32) (sym (words-none (a .m) (a .t3 .words) (omega arith))),
+    )
 
 sub-k : tie.Need-sub-k Inv-loop μ-loop
 sub-k c = omega arith
@@ -43,13 +46,27 @@ loop-less c = omega arith
 
 loop-again : tie.Need-loop-again Inv-loop μ-loop
 unfolding sumWords
-loop-again c = let a = c .before .before .before .before .args in let l = c .before .before .before .loop in let e : suc (l .k - 1) ≡ l .k = omega arith in (omega arith, omega arith, l .inv .2, c .wrapping-add-u32 .ensures ∙ ap (λ (t : ℕ). (getD (a .t3 .words) (l .k - 1) 0 + t) % 2 ^ 32) (l .inv .3 ∙ ap (λ (k : ℕ). sumWords (wordsFrom k (a .m) (a .t3 .words)) % 2 ^ 32) (sym e)) ∙ add-mod-mod _ _ _ ∙ ap (λ (l : List ℕ). sumWords l % 2 ^ 32) (sym (words-next (l .k - 1) (a .m) (a .t3 .words) (omega arith) (omega arith))))
+loop-again c =
+    let a = c .before .before .before .before .args in
+    let l = c .before .before .before .loop in
+    let more = words-down (l .k) (a .m) (a .t3 .words) (omega arith) (omega arith) (omega arith) in (
+      omega arith,
+      omega arith,
+      l .inv .2,
+      c .wrapping-add-u32 .ensures ∙ ap (λ (t : ℕ). (getD (a .t3 .words) (l .k - 1) 0 + t) % 2 ^ 32) (l .inv .3) ∙ add-mod-mod _ _ _
+          ∙ ap (λ (l : List ℕ). sumWords l % 2 ^ 32) (sym more),
+    )
 
 reduce-requires : tie.Need-reduce-requires Inv-loop μ-loop
 reduce-requires c κs = (c .before .before .pre .0, c .before .before .pre .1)
 
 returns : tie.Need-returns Inv-loop μ-loop
-returns c = let a = c .before .before .before .args in let l = c .before .before .loop in let e : l .k ≡ 0 = omega arith in c .reduce .ensures ∙ ap (λ (t : ℕ). t % 2 ^ a .n) (l .inv .3 ∙ ap (λ (k : ℕ). sumWords (wordsFrom k (a .m) (a .t3 .words)) % 2 ^ 32) e) ∙ mod-pow-mod 32 (a .n) _ (c .before .before .before .pre .1)
+returns c =
+    let a = c .before .before .before .args in
+    let l = c .before .before .loop in
+    let e : l .k ≡ 0 = omega arith in
+    let sum = l .inv .3 ∙ ap (λ (k : ℕ). sumWords (wordsFrom k (a .m) (a .t3 .words)) % 2 ^ 32) e in
+    c .reduce .ensures ∙ ap (λ (t : ℕ). t % 2 ^ a .n) sum ∙ mod-pow-mod 32 (a .n) _ (c .before .before .before .pre .1)
 
 pub sum-words-spec : {M : Type 1} → statement M
 sum-words-spec =
