@@ -1,5 +1,5 @@
 use mathlib.Core.Path.{_≡_, sym, ap, ap₂, _∙_}
-use Prim.Native.Nat.{ℕ, _+_, _*_, _≤_, _<_}
+use Prim.Native.Nat.{ℕ, _+_, _*_, _^_, _≤_, _<_}
 use native.Mathlib.Omega.{arith}
 use borrow.Author.Needs.{needs}
 use lib.ListN.{length}
@@ -37,8 +37,8 @@ element-copy-out-bit-of c = omega arith
 bit-of-requires : tie.Need-bit-of-requires Inv-loop μ-loop
 bit-of-requires c κs = omega arith
 
--- a column of at most 4 words, and one bit: room enough
-few : (c : tie.After-bit-of Inv-loop μ-loop) → c .before .before .before .loop .c < 16
+-- a column has a bit for each word: room enough for one more
+few : (c : tie.After-bit-of Inv-loop μ-loop) → c .before .before .before .loop .c < 2 ^ mostWords
 few c =
     let a = c .before .before .before .before .args in
     let l = c .before .before .before .loop in

@@ -1,7 +1,8 @@
 use mathlib.Core.Path.{_≡_, refl, ap, _∙_}
-use Prim.Native.Nat.{_-_, _<_, _≤_}
+use Prim.Native.Nat.{_-_, _^_, _<_, _≤_}
 use native.Mathlib.Omega.{arith}
 use Rattle.cycle.specs.Notation.{iterate}
+use Rattle.tsc.specs.Constants.{mostWords}
 use Rattle.columns.proofs.Powers.{stands, stands-few, stands-next}
 use Rattle.columns.proofs.power.entry_after.Statement.{statement}
 use Rattle.columns.proofs.power.entry_after.Tie as tie
@@ -17,7 +18,7 @@ unfolding iterate
 loop-holds c = (omega arith, refl)
 
 -- y is an entry of the table
-few : (c : tie.In-loop Inv-loop μ-loop) → c .before .loop .y < 16
+few : (c : tie.In-loop Inv-loop μ-loop) → c .before .loop .y < 2 ^ mostWords
 few c =
     let s = c .before .before in
     rw (c .before .loop .inv .1) (stands-few (s .args .t1) (s .pre .0) (s .pre .1) (c .before .loop .counter))

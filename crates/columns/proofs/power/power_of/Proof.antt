@@ -5,6 +5,7 @@ use native.Mathlib.Omega.{arith}
 use Rattle.cycle.specs.Notation.{iterate}
 use Rattle.cycle.proofs.Iterate.{iterate-mod}
 use Rattle.tsc.specs.Step.{entry}
+use Rattle.tsc.specs.Constants.{mostWords}
 use Rattle.columns.proofs.Powers.{stands, stands-few, stands-next, Filled, filled-none, filled-along, filled-power}
 use Rattle.columns.proofs.power.power_of.Statement.{statement}
 use Rattle.columns.proofs.power.power_of.Tie as tie
@@ -43,12 +44,12 @@ loop-holds c =
     )
 
 -- x and y are entries of the table
-few-x : (c : tie.In-loop Inv-loop μ-loop) → c .before .loop .x < 16
+few-x : (c : tie.In-loop Inv-loop μ-loop) → c .before .loop .x < 2 ^ mostWords
 few-x c =
     let s = c .before .before .before .before .before in
     rw (c .before .loop .inv .2) (stands-few (s .args .t1) (s .pre .0) (s .pre .1) (c .before .loop .counter))
 
-few-y : (c : tie.In-loop Inv-loop μ-loop) → c .before .loop .y < 16
+few-y : (c : tie.In-loop Inv-loop μ-loop) → c .before .loop .y < 2 ^ mostWords
 few-y c =
     let s = c .before .before .before .before .before in
     rw (c .before .loop .inv .3) (stands-few (s .args .t1) (s .pre .0) (s .pre .1) (s .args .times + c .before .loop .counter))
