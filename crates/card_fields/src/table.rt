@@ -12,7 +12,7 @@ use tsc::DEFAULT_WORDS;
 use tsc::TABLE_SIZE;
 
 // TSC-1's table, document 002 (14), whatever the most entries of a table are.
-const TSC1_SIZE: usize = 16;
+const TSC1_SIZE: usize = 1 << DEFAULT_WORDS;
 
 const TSC1_TABLE: [u8; TSC1_SIZE] = [3, 5, 9, 13, 1, 6, 11, 15, 4, 0, 8, 14, 10, 7, 2, 12];
 

@@ -3,7 +3,7 @@
 // The most words of a state, and the entries of a table for that many.
 pub const MOST_WORDS: usize = 4;
 
-pub const TABLE_SIZE: usize = 16;
+pub const TABLE_SIZE: usize = 1 << MOST_WORDS;
 
 // m of a card that does not give it: the one m whose table may be absent.
 pub const DEFAULT_WORDS: u32 = 4;
