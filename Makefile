@@ -1,6 +1,6 @@
 # Thin targets: README.md says what each is for.
 SHELL = /bin/bash
-.PHONY: run test lib example bindings difftest bench pictures fmt vectors
+.PHONY: run test lib example bindings difftest bench pictures fmt vectors lines
 
 # the card that the program is fed, as bytes in hex
 CARD = $(shell grep -v '^\#' cards/program.hex)
@@ -57,6 +57,13 @@ pictures:
 
 fmt:
 	rt fmt
+
+# lines without comments, imports and blank ones, and the must-fail edits: what the notes in docs/changes tell
+lines:
+	@for part in specs src proofs; do \
+	    printf '%s ' $$part; \
+	    find crates -path "*/$$part/*" \( -name '*.antt' -o -name '*.rt' \) -exec cat {} + | grep -vcE '^[[:space:]]*(--|//|use |ghost use |$$)'; \
+	done; printf 'edits '; ls crates/*/must-fail/*.edit | wc -l
 
 # crates whose stored output the second program prints, each with that program's part
 STORED = draw_vectors:vectors pick_vectors:picks inspect_card:inspect inspect_p1:inspect inspect_p2:inspect \
