@@ -32,7 +32,7 @@ told : (c : tie.After-list-refusal) → c .list-refusal .result ≡ pickRefusal 
 told c =
     let a = c .before .before .before .before .before .before .before .before .before .args in
     c .list-refusal .ensures
-    ∙ refusal-list (a .card .now) (a .state .now) (a .shovels .now) (a .times .now) (begun (a .card .now) (a .state .now) _ (c .before .before .before .«open» .ensures) (c .before .if1 .left) .0)
+    ∙ refusal-list (a .card .now) (a .state .now) (a .shovels .now) (a .times .now) (begun (a .card .now) (a .state .now) _ (c .before .before .before .«open» .ensures) (c .before .if1 .left) .none)
 
 -- and a list that is not refused has a tie at least, and no more than shovels
 allowed : (c : tie.Else2) → Allowed (c .before .before .before .before .before .before .before .before .before .before .args .shovels .now) (c .before .before .before .before .before .before .before .before .before .before .args .times .now)
@@ -57,7 +57,7 @@ cast-drawn-rank : tie.Need-cast-drawn-rank
 cast-drawn-rank c = omega (arith, tied (c .before .before) .1)
 
 drawn-rank-requires : tie.Need-drawn-rank-requires
-drawn-rank-requires c κs = let a = c .before .before .before .before .before .before .before .before .before .before .before .before .before .before .before .args in let e = c .before .before .before .before .before .before .before .before .before .«open» .ensures in let z = c .before .before .before .before .before .before .before .if1 .left in let ok = ready (a .card .now) (a .state .now) _ e z in (ok .0, ok .1, sym (of-values (a .card .now) (a .state .now) _ e z (λ c w. w)), tied (c .before .before .before) .0)
+drawn-rank-requires c κs = let a = c .before .before .before .before .before .before .before .before .before .before .before .before .before .before .before .args in let e = c .before .before .before .before .before .before .before .before .before .«open» .ensures in let z = c .before .before .before .before .before .before .before .if1 .left in let k = begun (a .card .now) (a .state .now) _ e z in (ready k .0, ready k .1, sym (of-values k (λ c w. w)), tied (c .before .before .before) .0)
 
 cast-chosen-by : tie.Need-cast-chosen-by
 cast-chosen-by c = omega arith
@@ -76,7 +76,7 @@ returns-3 c =
     let a = c .before .before .before .before .before .before .before .before .before .before .before .before .before .before .before .before .before .before .before .args in
     let bytes = a .card .now in
     let xs = a .state .now in
-    let card = begun bytes xs _ (c .before .before .before .before .before .before .before .before .before .before .before .before .before .«open» .ensures) (c .before .before .before .before .before .before .before .before .before .before .before .if1 .left) .1 in
+    let card = begun bytes xs _ (c .before .before .before .before .before .before .before .before .before .before .before .before .before .«open» .ensures) (c .before .before .before .before .before .before .before .before .before .before .before .if1 .left) .card-is in
     let k = c .before .before .before .before .before .before .before .ties-of .ensures in
     picking-chosen bytes xs (a .shovels .now) (a .times .now) (sym (told (c .before .before .before .before .before .before .before .before .before .before)) ∙ c .before .before .before .before .before .before .before .before .before .if2 .left) _ _ _
     (c .chosen-by .ensures ∙ ap (chosen (a .shovels .now) (a .times .now)) (c .before .before .before .drawn-rank .ensures .0 ∙ ap₂ (λ (card : Card) (k : ℕ). drawnRank card xs k) card k)) k
