@@ -2,7 +2,7 @@
 use mathlib.Core.Path.{_≡_, sym, ap, ap₂, _∙_, subst}
 use mathlib.Core.Logic.{_≢_}
 use mathlib.Core.List.{List}
-use Prim.Native.Nat.{ℕ, _^_, _≤_, _<_}
+use Prim.Native.Nat.{ℕ, zero, _^_, _≤_, _<_}
 use native.Mathlib.Omega.{arith}
 use borrow.Author.Tests.{eq-eqb, ne-eqb}
 use lib.ListN.{length, take}
@@ -13,7 +13,8 @@ use Rattle.tsc.specs.Constants.{mostWords}
 use Rattle.tsc.specs.Coverage.{IsState, stepBack}
 use Rattle.tsc.specs.Step.{step}
 use Rattle.tsc.specs.Word.{word}
-use Rattle.tsc.proofs.StepBack.{step-back-in-range, step-of-back, back-only}
+use Rattle.tsc.proofs.Step.{step-in-range}
+use Rattle.tsc.proofs.StepBack.{step-back-in-range, back-of-step, step-of-back, back-only}
 use Rattle.tsc.proofs.Word.{word-lt}
 use Rattle.card_format.specs.Reading.{cardOf}
 use Rattle.card_format.specs.Verdict.{Accepted}
@@ -23,44 +24,8 @@ use Rattle.generator.specs.declared.call.Opened.{Opened}
 use Rattle.generator.specs.declared.Draw.{Draw}
 use Rattle.generator.specs.declared.Draw.the-variants.{Word, Refused}
 use Rattle.stepping.specs.State.{used, Holds, holding}
-use Rattle.generator.specs.Calls.{refusalFor, unlessRefused, opening, drawing, OnlyBefore}
-use Rattle.generator.proofs.Opening.{passed, begun, begun-refused, unless-refused, held, holds}
-
--- a call that is refused, whatever else it promises of an answer 0
-pub call-refused : (bytes xs ys : List ℕ) (A : Type 0) (o : Opened) → o ≡ opening bytes xs → o .refusal ≢ 0
-    → (o .refusal ≡ refusalFor bytes xs) × ((xs ≡ unlessRefused bytes xs ys) × (o .refusal ≡ 0 → A))
-call-refused bytes xs ys A o e ne = let b = begun-refused bytes xs o e ne in (b .0, (unless-refused bytes xs ys (b .1), λ z. absurd (ne z)))
-
-module _ (bytes xs : List ℕ) (o : Opened) (e : o ≡ opening bytes xs) (z : o .refusal ≡ 0) where
-  pub none : refusalFor bytes xs ≡ 0
-  none = begun bytes xs o e z .0
-
-  pub accepted : Accepted (cardOf bytes)
-  accepted = accepted-card bytes (passed bytes xs none .0)
-
-  pub in-range : IsState (cardOf bytes) xs
-  in-range = passed bytes xs none .1
-
-  pub few : length xs ≤ mostWords
-  few = omega (arith, in-range .0, accepted .few)
-
-  card-is : o .card ≡ cardOf bytes
-  card-is = begun bytes xs o e z .1
-
-  pub ready : Accepted (o .card) × Holds (o .card) (o .state)
-  ready =
-      rw (card-is, begun bytes xs o e z .2) (accepted, holds (cardOf bytes) xs in-range)
-
-  pub size : length xs ≡ o .card .words
-  size = rw card-is (in-range .0)
-
-  -- what is worked out from the values is worked out from the card's bytes and the lent words
-  pub of-values : {A : Type 0} (f : Card → List ℕ → A) → f (o .card) (used (o .card) (o .state)) ≡ f (cardOf bytes) xs
-  of-values f = ap₂ f card-is (ap₂ used card-is (begun bytes xs o e z .2) ∙ held (cardOf bytes) xs in-range)
-
--- a state as it is stored over n lent words
-pub stored : (card : Card) (n : ℕ) (ys : List ℕ) (s : State) → n ≡ card .words → IsState card ys → s ≡ holding ys → take n (s .words) ≡ ys
-stored card n ys s e sy h = ap (λ (s : State). take n (s .words)) h ∙ take-filled mostWords n ys (sy .0 ∙ sym e)
+use Rattle.generator.specs.Calls.{refusalFor, unlessRefused, opening, stepped, steppedBack, OnlyBefore, drawing}
+use Rattle.generator.proofs.Opening.{Clear, passed, begun-refused, unless-refused, unless-passed, held, holds}
 
 -- the step back of an accepted card is the one state before
 pub only-before : (card : Card) → Accepted card → (xs : List ℕ) → IsState card xs → OnlyBefore card (stepBack card xs) xs
@@ -70,17 +35,74 @@ only-before card ok xs sx = (
   λ zs sz. back-only card (ok .formed) (ok .period) zs xs sz sx,
 )
 
+-- a call that is refused, whatever else it promises of an answer 0
+pub call-refused : (bytes xs ys : List ℕ) (A : Type 0) (o : Opened) → o ≡ opening bytes xs → o .refusal ≢ 0
+    → (o .refusal ≡ refusalFor bytes xs) × ((xs ≡ unlessRefused bytes xs ys) × (o .refusal ≡ 0 → A))
+call-refused bytes xs ys A o e ne = let b = begun-refused bytes xs o e ne in (b .0, (unless-refused bytes xs ys (b .1), λ z. absurd (ne z)))
+
+-- a state as it is stored over n lent words
+pub stored : (card : Card) (n : ℕ) (ys : List ℕ) (s : State) → n ≡ card .words → IsState card ys → s ≡ holding ys → take n (s .words) ≡ ys
+stored card n ys s e sy h = ap (λ (s : State). take n (s .words)) h ∙ take-filled mostWords n ys (sy .0 ∙ sym e)
+
+-- ---- a call that is not refused
+
+module _ {bytes xs : List ℕ} {o : Opened} (k : Clear bytes xs o) where
+  accepted : Accepted (cardOf bytes)
+  accepted = accepted-card bytes (passed bytes xs (k .none) .0)
+
+  in-range : IsState (cardOf bytes) xs
+  in-range = passed bytes xs (k .none) .1
+
+  pub few : length xs ≤ mostWords
+  few = omega (arith, in-range .0, accepted .few)
+
+  pub ready : Accepted (o .card) × Holds (o .card) (o .state)
+  ready = rw (k .card-is, k .state-is) (accepted, holds (cardOf bytes) xs in-range)
+
+  pub size : length xs ≡ o .card .words
+  size = rw (k .card-is) (in-range .0)
+
+  -- what is worked out from the values is worked out from the card's bytes and the lent words
+  pub of-values : {A : Type 0} (f : Card → List ℕ → A) → f (o .card) (used (o .card) (o .state)) ≡ f (cardOf bytes) xs
+  of-values f = ap₂ f (k .card-is) (ap₂ used (k .card-is) (k .state-is) ∙ held (cardOf bytes) xs in-range)
+
+  -- what step and step back promise of the words ys that they leave, once s is worked out from the values and stored
+  pub step-made : {s : State} {ys : List ℕ} → s ≡ holding (step (o .card) (used (o .card) (o .state))) → ys ≡ take (length xs) (s .words)
+      → (0 ≡ refusalFor bytes xs) × ((ys ≡ stepped bytes xs) × (zero ≡ 0 → IsState (cardOf bytes) ys × (stepBack (cardOf bytes) ys ≡ xs)))
+  unfolding stepped
+  step-made {s} {ys} h e =
+      let card = cardOf bytes in
+      let state = step-in-range card xs in
+      let made = h ∙ of-values (λ c w. holding (step c w)) in
+      let exit : ys ≡ step card xs = e ∙ stored card (length xs) (step card xs) s (in-range .0) state made in (
+        sym (k .none),
+        (
+          exit ∙ unless-passed bytes xs (step card xs) (k .none),
+          λ _. (subst (IsState card) (sym exit) state, ap (stepBack card) exit ∙ back-of-step card (accepted .formed) (accepted .period) xs in-range),
+        ),
+      )
+
+  pub step-back-made : {s : State} {ys : List ℕ} → s ≡ holding (stepBack (o .card) (used (o .card) (o .state))) → ys ≡ take (length xs) (s .words)
+      → (0 ≡ refusalFor bytes xs) × ((ys ≡ steppedBack bytes xs) × (zero ≡ 0 → OnlyBefore (cardOf bytes) ys xs))
+  unfolding steppedBack
+  step-back-made {s} {ys} h e =
+      let card = cardOf bytes in
+      let before = only-before card accepted xs in-range in
+      let made = h ∙ of-values (λ c w. holding (stepBack c w)) in
+      let exit : ys ≡ stepBack card xs = e ∙ stored card (length xs) (stepBack card xs) s (in-range .0) (before .0) made in
+      (sym (k .none), (exit ∙ unless-passed bytes xs (stepBack card xs) (k .none), λ _. subst (λ (ys : List ℕ). OnlyBefore card ys xs) (sym exit) before))
+
 -- ---- the word of a draw's answer
 
 wordIn : Draw → ℕ
 wordIn (Word w) = w
 wordIn (Refused r) = 0
 
-pub narrow-word : (card : Card) (xs : List ℕ) (v w : ℕ) → v ≡ word card xs → Word v ≡ Word w → w < 2 ^ card .width
+narrow-word : (card : Card) (xs : List ℕ) (v w : ℕ) → v ≡ word card xs → Word v ≡ Word w → w < 2 ^ card .width
 unfolding wordIn
 narrow-word card xs v w e h = subst (λ (a : ℕ). a < 2 ^ card .width) (sym e ∙ ap wordIn h) (word-lt card xs)
 
-pub narrow-refused : (n r w : ℕ) → Refused r ≡ Word w → w < 2 ^ n
+narrow-refused : (n r w : ℕ) → Refused r ≡ Word w → w < 2 ^ n
 unfolding wordIn
 narrow-refused n r w h = subst (λ (a : ℕ). a < 2 ^ n) (ap wordIn h) (pow-pos n)
 
@@ -91,3 +113,23 @@ drawing-refused bytes xs r e ne = ap Refused e ∙ simp (ne-eqb (refusalFor byte
 pub drawing-word : (bytes xs : List ℕ) (w : ℕ) → w ≡ word (cardOf bytes) (step (cardOf bytes) xs) → refusalFor bytes xs ≡ 0 → Word w ≡ drawing bytes xs
 unfolding drawing
 drawing-word bytes xs w e z = ap Word e ∙ simp (eq-eqb (refusalFor bytes xs) 0 z)
+
+-- ---- what a draw promises of its answer and of the words ys that it leaves
+
+pub draw-refused : (bytes xs : List ℕ) (o : Opened) → o ≡ opening bytes xs → o .refusal ≢ 0
+    → (Refused (o .refusal) ≡ drawing bytes xs) × ((xs ≡ stepped bytes xs) × ((w : ℕ) → Refused (o .refusal) ≡ Word w → w < 2 ^ cardOf bytes .width))
+unfolding stepped
+draw-refused bytes xs o e ne =
+    let b = begun-refused bytes xs o e ne in
+    (drawing-refused bytes xs (o .refusal) (b .0) (b .1), (unless-refused bytes xs (step (cardOf bytes) xs) (b .1), narrow-refused _ _))
+
+pub draw-made : {bytes xs : List ℕ} {o : Opened} → Clear bytes xs o → {v : ℕ} {ys : List ℕ}
+    → v ≡ word (o .card) (step (o .card) (used (o .card) (o .state))) → ys ≡ step (o .card) (used (o .card) (o .state))
+    → (Word v ≡ drawing bytes xs) × ((ys ≡ stepped bytes xs) × ((w : ℕ) → Word v ≡ Word w → w < 2 ^ cardOf bytes .width))
+unfolding stepped
+draw-made {bytes} {xs} k {v} {ys} ev ey =
+    let card = cardOf bytes in
+    let drawn : v ≡ word card (step card xs) = ev ∙ of-values k (λ c w. word c (step c w)) in (
+      drawing-word bytes xs v drawn (k .none),
+      (ey ∙ of-values k step ∙ unless-passed bytes xs (step card xs) (k .none), λ w h. narrow-word card (step card xs) v w drawn h),
+    )

@@ -22,7 +22,9 @@ module _ (bytes start : List ℕ) (z : refusalFor bytes start ≡ 0) where
   pub draws-state : (t : ℕ) → iterate (stepped bytes) t start ≡ orbit (cardOf bytes) start t
   unfolding iterate stepped
   draws-state zero = refl
-  draws-state (suc t) = ap (stepped bytes) (draws-state t) ∙ sym (unless-passed bytes (orbit (cardOf bytes) start t) (orbit (cardOf bytes) start (suc t)) (never-refused t))
+  draws-state (suc t) =
+      ap (stepped bytes) (draws-state t)
+      ∙ sym (unless-passed bytes (orbit (cardOf bytes) start t) (orbit (cardOf bytes) start (suc t)) (never-refused t))
 
   pub draws-word : (t : ℕ) → drawing bytes (iterate (stepped bytes) t start) ≡ Word (word (cardOf bytes) (orbit (cardOf bytes) start (suc t)))
   unfolding iterate

@@ -21,6 +21,12 @@ use Rattle.stepping.specs.State.{used, Holds, holding}
 use Rattle.generator.specs.Calls.{stateChecks, refusalFor, unlessRefused, opened, refusedOpening, opening}
 use Rattle.card_format.proofs.Lists.{take-filled}
 
+-- what a call goes on with once nothing is refused: the values of the card and of the state
+pub record Clear (bytes xs : List ℕ) (o : Opened) : Type 0 where
+  pub none : refusalFor bytes xs ≡ 0
+  pub card-is : o .card ≡ cardOf bytes
+  pub state-is : o .state ≡ holding xs
+
 module _ (bytes xs : List ℕ) where
   pub refusal-card : verdict bytes ≢ 0 → verdict bytes ≡ refusalFor bytes xs
   unfolding verdict refusalFor
@@ -69,11 +75,13 @@ module _ (bytes xs : List ℕ) where
       go (yes z) = absurd (ne (ap (λ (o : Opened). o .refusal) (e ∙ sym (opening-passed z))))
       go (no n) = (ap (λ (o : Opened). o .refusal) (e ∙ sym (opening-refused (refusalFor bytes xs) n refl)), n)
 
-  pub begun : (o : Opened) → o ≡ opening bytes xs → o .refusal ≡ 0 → (refusalFor bytes xs ≡ 0) × (o .card ≡ cardOf bytes) × (o .state ≡ holding xs)
+  pub begun : (o : Opened) → o ≡ opening bytes xs → o .refusal ≡ 0 → Clear bytes xs o
   begun o e z = go (ℕ-discrete (refusalFor bytes xs) 0)
     where
-      go : Dec (refusalFor bytes xs ≡ 0) → (refusalFor bytes xs ≡ 0) × (o .card ≡ cardOf bytes) × (o .state ≡ holding xs)
-      go (yes p) = let f = e ∙ sym (opening-passed p) in (p, ap (λ (o : Opened). o .card) f, ap (λ (o : Opened). o .state) f)
+      go : Dec (refusalFor bytes xs ≡ 0) → Clear bytes xs o
+      go (yes p) =
+          let f = e ∙ sym (opening-passed p) in
+          record { none = p; card-is = ap (λ (o : Opened). o .card) f; state-is = ap (λ (o : Opened). o .state) f }
       go (no n) = absurd (n (sym (ap (λ (o : Opened). o .refusal) (e ∙ sym (opening-refused (refusalFor bytes xs) n refl))) ∙ z))
 
   pub unless-refused : (ys : List ℕ) → refusalFor bytes xs ≢ 0 → xs ≡ unlessRefused bytes xs ys

@@ -20,14 +20,13 @@ use Rattle.generator.proofs.Opening.{passed, passes}
 use Rattle.generator.specs.Calls.{callChecks}
 use Rattle.ties.specs.Ties.{mostShovels, isTie, ties, rank, TieAt, chosen}
 use Rattle.ties.specs.Order.{Permutes, reordered, SameShovels}
-use Rattle.ties.proofs.Least.{ties-some, ties-le}
 use Rattle.ties.proofs.Rank.{rank-lt, tie-of-rank, chosen-is}
 use Rattle.ties.proofs.Order.{length-reordered, ties-reordered, chosen-reordered, twice-reordered}
 use Rattle.tie_list.specs.Checks.{listChecks}
 use Rattle.tie_list.proofs.Allowed.{Allowed}
 use Rattle.pick.specs.declared.Pick.the-variants.{Shovel}
 use Rattle.pick.specs.Picks.{pickRefusal, drawnRank, drawnState, picking, picked}
-use Rattle.pick.proofs.Picking.{refusal-list, pick-passed, picking-refused, picking-chosen}
+use Rattle.pick.proofs.Picking.{refusal-list, pick-passed, picking-refused, picking-chosen, ties-few}
 
 -- the rank drawn is one of the ties' ranks
 pub drawn-rank-lt : (card : Card) (xs : List ℕ) (k : ℕ) → 0 < k → drawnRank card xs k < k
@@ -45,10 +44,11 @@ module _ (bytes xs shovels times : List ℕ) (none : pickRefusal bytes xs shovel
 
   -- k is from 1 to 64
   pub ties-from-one : (0 < ties times) × (ties times ≤ mostShovels)
-  ties-from-one = (ties-some times (allowed .some), omega (arith, ties-le times, allowed .few))
+  ties-from-one = ties-few allowed
 
   -- the chosen shovel is one of the ties, and has as many ties below it as the rank drawn says
-  pub pick-chooses : (i : ℕ) × TieAt shovels times (drawnRank (cardOf bytes) xs (ties times)) i × (picking bytes xs shovels times ≡ Shovel (getD shovels i 0) (ties times))
+  pub pick-chooses : (i : ℕ) × TieAt shovels times (drawnRank (cardOf bytes) xs (ties times)) i
+      × (picking bytes xs shovels times ≡ Shovel (getD shovels i 0) (ties times))
   pick-chooses =
       let r : ℕ = drawnRank (cardOf bytes) xs (ties times) in
       let t = tie-of-rank shovels times (allowed .once) (allowed .paired) r (drawn-rank-lt (cardOf bytes) xs (ties times) (ties-from-one .0)) in
@@ -70,7 +70,8 @@ module _ (bytes xs shovels times : List ℕ) (none : pickRefusal bytes xs shovel
         d .0,
         d .1,
         sym (picking-chosen bytes (d .0) shovels times clear _ _ _
-            (sym (ap (chosen shovels times) (drawn k (d .0) r lt (d .2)) ∙ chosen-is shovels times r i (record { listed = l; tie = t; ranked = refl }))) refl refl .0),
+            (sym (ap (chosen shovels times) (drawn k (d .0) r lt (d .2)) ∙ chosen-is shovels times r i (record { listed = l; tie = t; ranked = refl })))
+            refl refl .0),
       )
     where
       drawn : (k : ℕ) (ys : List ℕ) (r : ℕ) → r < k → word (cardOf bytes) (step (cardOf bytes) ys) ≡ r → drawnRank (cardOf bytes) ys k ≡ r
@@ -109,7 +110,7 @@ module _ (f : ℕ → ℕ) (shovels times : List ℕ) (s : Permutes (length shov
             let card = cardOf bytes in
             let k : ℕ = ties times in
             let e = sym (ties-reordered f times p) in
-            let same = chosen-reordered f times p shovels (ok .paired) (ok .once) (drawnRank card xs k) (drawn-rank-lt card xs k (ties-some times (ok .some))) in
+            let same = chosen-reordered f times p shovels (ok .paired) (ok .once) (drawnRank card xs k) (drawn-rank-lt card xs k (ties-few ok .0)) in
             let a = picking-chosen bytes xs (reordered f shovels) (reordered f times) (refusal-reordered ∙ z) _ k (drawnState card xs k)
             (sym same ∙ ap (λ (k : ℕ). chosen (reordered f shovels) (reordered f times) (drawnRank card xs k)) e) e (ap (drawnState card xs) e) in
             let b = picking-chosen bytes xs shovels times z _ k _ refl refl refl in

@@ -1,7 +1,10 @@
 use mathlib.Core.Path.{ap, _∙_}
+use mathlib.Core.List.{List}
+use Prim.Native.Nat.{ℕ}
 use native.Mathlib.Omega.{arith}
 use lib.ListN.{length}
 use Rattle.tsc.specs.declared.State.{State}
+use Rattle.tsc.specs.Coverage.{IsState}
 use Rattle.tsc.specs.Step.{step}
 use Rattle.tsc.specs.Word.{word}
 use Rattle.tsc.proofs.Step.{step-in-range}
@@ -10,6 +13,13 @@ use Rattle.stepping.proofs.Holding.{word-holding, holding-lt}
 use Rattle.generator.proofs.Called.{stored}
 use Rattle.generator.proofs.call.advance.Statement.{statement}
 use Rattle.generator.proofs.call.advance.Tie as tie
+
+-- the words that the state comes to
+abbrev after : tie.Start → List ℕ
+after c = step (c .args .card) (used (c .args .card) (c .args .s))
+
+in-range : (c : tie.Start) → IsState (c .args .card) (after c)
+in-range c = step-in-range (c .args .card) (used (c .args .card) (c .args .s))
 
 forward-requires : tie.Need-forward-requires
 forward-requires c κs = c .before .pre .0
@@ -21,13 +31,25 @@ store-requires : tie.Need-store-requires
 store-requires c κs = let p = c .before .before .before .before .pre in omega (arith, p .2, p .0 .few)
 
 word-of-requires : tie.Need-word-of-requires
-word-of-requires c κs = let a = c .before .before .before .before .before .before .before .args in let ok = c .before .before .before .before .before .before .before .pre .0 in let ys = step (a .card) (used (a .card) (a .s)) in ((omega (arith, ok .formed .width), ok .narrow), λ k l. rw (c .before .before .before .before .next-state .ensures) (holding-lt (a .card .words) (a .card .width) ys (step-in-range (a .card) (used (a .card) (a .s))) k))
+word-of-requires c κs =
+    let next = c .before .before .before .before in
+    let s = next .before .before .before in
+    let card = s .args .card in
+    let ok = s .pre .0 in
+    ((omega (arith, ok .formed .width), ok .narrow), λ k l. rw (next .next-state .ensures) (holding-lt (card .words) (card .width) (after s) (in-range s) k))
 
 same-length : tie.Need-same-length
 same-length c = omega arith
 
 returns : tie.Need-returns
-returns c = let a = c .before .before .before .before .before .before .before .before .args in let ys = step (a .card) (used (a .card) (a .s)) in let next = c .before .before .before .before .before .next-state .ensures in (c .word-of .ensures ∙ ap (λ (s : State). word (a .card) (s .words)) next ∙ word-holding (a .card) ys, c .before .before .before .store .ensures ∙ stored (a .card) (length (a .state .now)) ys _ (c .before .before .before .before .before .before .before .before .pre .2) (step-in-range (a .card) (used (a .card) (a .s))) next)
+returns c =
+    let next = c .before .before .before .before .before in
+    let s = next .before .before .before in
+    let a = s .args in
+    let e = next .next-state .ensures in (
+      c .word-of .ensures ∙ ap (λ (s : State). word (a .card) (s .words)) e ∙ word-holding (a .card) (after s),
+      c .before .before .before .store .ensures ∙ stored (a .card) (length (a .state .now)) (after s) _ (s .pre .2) (in-range s) e,
+    )
 
 pub advance-spec : {M : Type 1} → statement M
 advance-spec =

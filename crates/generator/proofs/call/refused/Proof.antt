@@ -12,7 +12,9 @@ refused-requires : tie.Need-refused-requires
 refused-requires c κs = omega arith
 
 returns : tie.Need-returns
-returns c = ap {B = Opened} (λ (k : Card). record { refusal = c .before .before .args .number; card = k; state = holding [] }) (ap (λ (r : Reading). r .card) (c .before .refused .ensures))
+returns c =
+    let e = ap (λ (r : Reading). r .card) (c .before .refused .ensures) in
+    ap {B = Opened} (λ (k : Card). record { refusal = c .before .before .args .number; card = k; state = holding [] }) e
 
 pub refused-spec : {M : Type 1} → statement M
 refused-spec = tie.close (tie.spec refused-requires returns)

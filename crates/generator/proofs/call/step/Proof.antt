@@ -1,17 +1,24 @@
-use mathlib.Core.Path.{sym, ap, _∙_, subst}
+use mathlib.Core.List.{List}
+use Prim.Native.Nat.{ℕ}
 use native.Mathlib.Omega.{arith}
-use Rattle.tsc.specs.Coverage.{IsState, stepBack}
-use Rattle.card_format.specs.Reading.{cardOf}
-use Rattle.generator.proofs.Opening.{unless-passed}
-use lib.ListN.{length}
 use Rattle.tsc.specs.Step.{step}
-use Rattle.stepping.specs.State.{holding}
-use Rattle.tsc.proofs.Step.{step-in-range}
-use Rattle.tsc.proofs.StepBack.{back-of-step}
+use Rattle.card_format.specs.Reading.{cardOf}
 use Rattle.generator.specs.Calls.{stepped}
-use Rattle.generator.proofs.Called.{call-refused, none, accepted, in-range, few, ready, of-values, stored}
+use Rattle.generator.proofs.Opening.{Clear, begun}
+use Rattle.generator.proofs.Called.{call-refused, few, ready, step-made}
 use Rattle.generator.proofs.call.step.Statement.{statement}
 use Rattle.generator.proofs.call.step.Tie as tie
+
+-- the card's bytes and the state's words, as they are lent
+abbrev bytes : tie.After-struct-known → List ℕ
+bytes c = c .before .before .before .before .before .args .card .now
+
+abbrev xs : tie.After-struct-known → List ℕ
+xs c = c .before .before .before .before .before .args .state .now
+
+-- past the first test nothing is refused
+clear : (c : tie.Else1) → Clear (bytes (c .before)) (xs (c .before)) (c .before .before .«open» .result)
+clear c = begun _ _ _ (c .before .before .«open» .ensures) (c .if1 .left)
 
 open-requires : tie.Need-open-requires
 open-requires c κs = omega arith
@@ -21,37 +28,26 @@ same-length c = omega arith
 
 returns : tie.Need-returns
 unfolding stepped
-returns c = let a = c .before .before .before .before .before .before .args in call-refused (a .card .now) (a .state .now) (step (cardOf (a .card .now)) (a .state .now)) _ _ (c .before .before .«open» .ensures) (c .if1 .taken)
+returns c =
+    let o = c .before in
+    call-refused (bytes o) (xs o) (step (cardOf (bytes o)) (xs o)) _ _ (o .before .«open» .ensures) (c .if1 .taken)
 
 forward-requires : tie.Need-forward-requires
-forward-requires c κs = let a = c .before .before .before .before .before .before .before .before .args in ready (a .card .now) (a .state .now) _ (c .before .before .before .before .«open» .ensures) (c .before .before .if1 .left) .0
+forward-requires c κs = ready (clear (c .before .before)) .0
 
 next-state-requires : tie.Need-next-state-requires
-next-state-requires c κs = let a = c .before .before .before .before .before .before .before .before .before .args in (ready (a .card .now) (a .state .now) _ (c .before .before .before .before .before .«open» .ensures) (c .before .before .before .if1 .left), c .forward .ensures)
+next-state-requires c κs = (ready (clear (c .before .before .before)), c .forward .ensures)
 
 store-requires : tie.Need-store-requires
-store-requires c κs = let a = c .before .before .before .before .before .before .before .before .before .before .before .args in few (a .card .now) (a .state .now) _ (c .before .before .before .before .before .before .before .«open» .ensures) (c .before .before .before .before .before .if1 .left)
+store-requires c κs = few (clear (c .before .before .before .before .before))
 
 same-length-2 : tie.Need-same-length-2
 same-length-2 c = omega arith
 
 returns-2 : tie.Need-returns-2
-unfolding stepped
 returns-2 c =
-    let bytes = c .before .before .before .before .before .before .before .before .before .before .before .before .before .before .args .card .now in
-    let xs = c .before .before .before .before .before .before .before .before .before .before .before .before .before .before .args .state .now in
-    let card = cardOf bytes in
-    let e = c .before .before .before .before .before .before .before .before .before .before .«open» .ensures in
-    let z = c .before .before .before .before .before .before .before .before .if1 .left in
-    let state = step-in-range card xs in
-    let exit = c .before .before .store .ensures ∙ stored card (length xs) (step card xs) _ (in-range bytes xs _ e z .0) state (c .before .before .before .before .next-state .ensures ∙ of-values bytes xs _ e z (λ c w. holding (step c w))) in
-    let ok = accepted bytes xs _ e z in (
-      sym (none bytes xs _ e z),
-      (
-        exit ∙ unless-passed bytes xs (step card xs) (none bytes xs _ e z),
-        λ _. (subst (IsState card) (sym exit) state, ap (stepBack card) exit ∙ back-of-step card (ok .formed) (ok .period) xs (in-range bytes xs _ e z)),
-      ),
-    )
+    let made = c .before .before .before .before in
+    step-made (clear (made .before .before .before .before)) (made .next-state .ensures) (c .before .before .store .ensures)
 
 pub step-spec : {M : Type 1} → statement M
 step-spec =

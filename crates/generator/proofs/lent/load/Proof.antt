@@ -38,10 +38,18 @@ loop-less : tie.Need-loop-less Inv-loop μ-loop
 loop-less c = omega arith
 
 loop-again : tie.Need-loop-again Inv-loop μ-loop
-loop-again c = let l = c .before .before .loop in let x = c .before .before .before .args .state .now in (omega arith, omega arith, ap (λ (t : List ℕ). set t (l .k) (getD x (l .k) 0)) (l .inv .2) ∙ over-suc x (replicate mostWords 0) (l .k) (omega arith) (omega arith))
+loop-again c =
+    let x = c .before .before .before .args .state .now in
+    let l = c .before .before .loop in
+    let here = over-suc x (replicate mostWords 0) (l .k) (omega arith) (omega arith) in
+    (omega arith, omega arith, ap (λ (t : List ℕ). set t (l .k) (getD x (l .k) 0)) (l .inv .2) ∙ here)
 
 returns : tie.Need-returns Inv-loop μ-loop
-returns c = let l = c .before .loop in let x = c .before .before .args .state .now in let e : l .k ≡ length x = omega arith in ap {B = State} (λ (w : List ℕ). record { words = w }) (l .inv .2 ∙ ap (over x (replicate mostWords 0)) e ∙ over-holding x)
+returns c =
+    let x = c .before .before .args .state .now in
+    let l = c .before .loop in
+    let e : l .k ≡ length x = omega arith in
+    ap {B = State} (λ (w : List ℕ). record { words = w }) (l .inv .2 ∙ ap (over x (replicate mostWords 0)) e ∙ over-holding x)
 
 pub load-spec : {M : Type 1} → statement M
 load-spec =

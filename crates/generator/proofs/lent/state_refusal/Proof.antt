@@ -1,12 +1,14 @@
-use mathlib.Core.Path.{_≡_, sym, _∙_}
-use mathlib.Core.Bool.{true}
+use mathlib.Core.Path.{_≡_, refl}
+use mathlib.Core.Bool.{Bool, true, false, cond, not}
+use mathlib.Core.List.{List}
 use Prim.Native.Nat.{ℕ, _-_, _^_, _<_, _≤_}
 use native.Mathlib.Omega.{arith}
 use borrow.Author.Tests.{eq-eqb, ne-eqb, lt-ltb, le-ltb, leb-true, leb-false}
 use lib.Dec.{ltb}
 use lib.ListN.{length, getD}
+use Rattle.cycle.specs.Notation.{every}
 use Rattle.cycle.proofs.Every.{every-not, every-of, extend}
-use Rattle.refusals.specs.Refusals.{firstOf}
+use Rattle.refusals.specs.Refusals.{firstOf, wordTooWide}
 use Rattle.generator.specs.Calls.{stateChecks}
 use Rattle.generator.proofs.lent.state_refusal.Statement.{statement}
 use Rattle.generator.proofs.lent.state_refusal.Tie as tie
@@ -16,6 +18,30 @@ Inv-loop state n k₀ k = (k ≤ length state) × ((j : ℕ) → j < k → ltb (
 
 abbrev μ-loop : tie.MeasureT-loop
 μ-loop state n k₀ k = length state - k
+
+-- the lent words, and whether word j of them has n bits
+abbrev words : tie.At-loop Inv-loop μ-loop → List ℕ
+words c = c .before .before .before .before .before .args .state .now
+
+abbrev narrow : tie.At-loop Inv-loop μ-loop → ℕ → Bool
+narrow c j = ltb (getD (words c) j 0) (2 ^ c .before .before .before .before .before .args .card .width)
+
+-- at the loop the words are as many as the card has: all that is left to ask is whether each has n bits
+told : (c : tie.At-loop Inv-loop μ-loop) → let card = c .before .before .before .before .before .args .card in
+    firstOf (stateChecks card (words c)) ≡ cond (not (every (length (words c)) (narrow c))) (wordTooWide .number) 0
+unfolding stateChecks firstOf
+told c = simp (eq-eqb _ _ (c .before .before .if1 .left))
+
+-- what the test of word k comes to
+wide : (c : tie.Then2 Inv-loop μ-loop) → let l = c .before .before .before .before in narrow l (l .loop .k) ≡ false
+wide c =
+    let l = c .before .before .before .before in
+    le-ltb (getD (words l) (l .loop .k) 0) _ (leb-true _ _ (rw (c .before .exceeds .ensures) at (c .if2 .taken)))
+
+fits : (c : tie.Else2 Inv-loop μ-loop) → let l = c .before .before .before .before in narrow l (l .loop .k) ≡ true
+fits c =
+    let l = c .before .before .before .before in
+    lt-ltb (getD (words l) (l .loop .k) 0) _ (leb-false _ _ (rw (c .before .exceeds .ensures) at (c .if2 .left)))
 
 cast-if1 : tie.Need-cast-if1 Inv-loop μ-loop
 cast-if1 c = omega arith
@@ -40,8 +66,9 @@ exceeds-requires : tie.Need-exceeds-requires Inv-loop μ-loop
 exceeds-requires c κs = tt
 
 returns-2 : tie.Need-returns-2 Inv-loop μ-loop
-unfolding stateChecks firstOf
-returns-2 c = let a = c .before .before .before .before .before .before .before .before .before .args in let x = a .state .now in let k = c .before .before .before .before .loop .k in simp (eq-eqb _ _ (c .before .before .before .before .before .before .if1 .left), every-not (length x) (λ k. ltb (getD x k 0) (2 ^ a .card .width)) k (omega arith) (le-ltb (getD x k 0) (2 ^ a .card .width) (leb-true _ _ (sym (c .before .exceeds .ensures) ∙ c .if2 .taken))))
+returns-2 c =
+    let l = c .before .before .before .before in
+    rw (told l, every-not (length (words l)) (narrow l) (l .loop .k) (omega arith) (wide c)) refl
 
 add-k : tie.Need-add-k Inv-loop μ-loop
 add-k c = omega arith
@@ -50,11 +77,14 @@ loop-less : tie.Need-loop-less Inv-loop μ-loop
 loop-less c = omega arith
 
 loop-again : tie.Need-loop-again Inv-loop μ-loop
-loop-again c = let a = c .before .before .before .before .before .before .before .before .before .args in let l = c .before .before .before .before .loop in (omega arith, extend (λ j. ltb (getD (a .state .now) j 0) (2 ^ a .card .width) ≡ true) (l .k) (l .inv .1) (lt-ltb (getD (a .state .now) (l .k) 0) (2 ^ a .card .width) (leb-false _ _ (sym (c .before .exceeds .ensures) ∙ c .if2 .left))))
+loop-again c =
+    let l = c .before .before .before .before in
+    (omega arith, extend (λ j. narrow l j ≡ true) (l .loop .k) (l .loop .inv .1) (fits c))
 
 returns-3 : tie.Need-returns-3 Inv-loop μ-loop
-unfolding stateChecks firstOf
-returns-3 c = let a = c .before .before .before .before .before .before .args in let l = c .before .loop in let x = a .state .now in let e : l .k ≡ length x = omega arith in simp (eq-eqb _ _ (c .before .before .before .if1 .left), every-of (length x) (λ k. ltb (getD x k 0) (2 ^ a .card .width)) (λ j h. l .inv .1 j (omega arith)))
+returns-3 c =
+    let l = c .before in
+    rw (told l, every-of (length (words l)) (narrow l) (λ j h. l .loop .inv .1 j (omega arith))) refl
 
 pub state-refusal-spec : {M : Type 1} → statement M
 state-refusal-spec =

@@ -9,11 +9,10 @@ use Rattle.tsc.specs.Constants.{mostWords}
 use Rattle.card_format.proofs.Lists.{over, over-suc}
 use Rattle.generator.proofs.lent.store.Statement.{statement}
 use Rattle.generator.proofs.lent.store.Tie as tie
-use Rattle.generator.proofs.lent.store.Reads as reads
-use Rattle.generator.proofs.lent.store.Lts as lts
 
 abbrev Inv-loop : tie.InvT-loop
-Inv-loop state₀ s k₀ state k = (k ≤ length state₀) × (length state₀ ≤ mostWords) × (length state ≡ length state₀) × (length (s .words) ≡ mostWords) × (state ≡ over (s .words) state₀ k)
+Inv-loop state₀ s k₀ state k =
+    (k ≤ length state₀) × (length state₀ ≤ mostWords) × (length state ≡ length state₀) × (length (s .words) ≡ mostWords) × (state ≡ over (s .words) state₀ k)
 
 abbrev μ-loop : tie.MeasureT-loop
 μ-loop state₀ s k₀ state k = length state₀ - k
@@ -40,13 +39,27 @@ loop-less : tie.Need-loop-less Inv-loop μ-loop
 loop-less c = omega arith
 
 loop-again : tie.Need-loop-again Inv-loop μ-loop
-loop-again c = let a = c .before .before .before .args in let l = c .before .before .loop in (omega arith, omega arith, length-set (l .state) (l .k) _ ∙ l .inv .2, l .inv .3, ap (λ (t : List ℕ). set t (l .k) (getD (a .t1 .words) (l .k) 0)) (l .inv .4) ∙ over-suc (a .t1 .words) (a .state .now) (l .k) (omega arith) (omega arith))
+loop-again c =
+    let a = c .before .before .before .args in
+    let l = c .before .before .loop in
+    let here = over-suc (a .t1 .words) (a .state .now) (l .k) (omega arith) (omega arith) in (
+      omega arith,
+      omega arith,
+      length-set (l .state) (l .k) _ ∙ l .inv .2,
+      l .inv .3,
+      ap (λ (t : List ℕ). set t (l .k) (getD (a .t1 .words) (l .k) 0)) (l .inv .4) ∙ here,
+    )
 
 same-length : tie.Need-same-length Inv-loop μ-loop
 same-length c = c .before .loop .inv .2
 
 returns : tie.Need-returns Inv-loop μ-loop
-returns c = let a = c .before .before .args in let l = c .before .loop in let e : l .k ≡ length (a .state .now) = omega arith in l .inv .4 ∙ ap (over (a .t1 .words) (a .state .now)) e ∙ ap (λ (r : List ℕ). take (length (a .state .now)) (a .t1 .words) ++ r) (drop-length (a .state .now)) ∙ append-nil _
+returns c =
+    let s = c .before .before .args .t1 .words in
+    let x = c .before .before .args .state .now in
+    let l = c .before .loop in
+    let e : l .k ≡ length x = omega arith in
+    l .inv .4 ∙ ap (over s x) e ∙ ap (λ (r : List ℕ). take (length x) s ++ r) (drop-length x) ∙ append-nil _
 
 pub store-spec : {M : Type 1} → statement M
 store-spec =

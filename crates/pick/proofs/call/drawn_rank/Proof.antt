@@ -16,13 +16,20 @@ advance-requires : tie.Need-advance-requires
 advance-requires c κs = let p = c .before .before .before .pre in (p .0, p .1, ap length (p .2) ∙ p .1 .0 .0)
 
 rank-in-requires : tie.Need-rank-in-requires
-rank-in-requires c κs = c .before .before .before .before .before .before .pre .3
+rank-in-requires c κs = let moved = c .before .before in moved .before .before .before .before .pre .3
 
 same-length : tie.Need-same-length
 same-length c = omega arith
 
 returns-2 : tie.Need-returns-2
-returns-2 c = let a = c .before .before .before .before .before .before .before .args in let e = sym (c .before .before .before .before .before .before .before .pre .2) in rw (ne-eqb _ _ (c .before .before .before .before .before .if1 .left)) (c .rank-in .ensures ∙ ap (λ (w : ℕ). w % a .k) (c .before .before .before .advance .ensures .0 ∙ ap (λ (xs : List ℕ). word (a .card) (step (a .card) xs)) e), c .before .before .before .advance .ensures .1 ∙ ap (step (a .card)) e)
+returns-2 c =
+    let moved = c .before .before .before in
+    let s = moved .before .before .before .before in
+    let a = s .args in
+    let e = sym (s .pre .2) in
+    let drawn = moved .advance .ensures .0 ∙ ap (λ (xs : List ℕ). word (a .card) (step (a .card) xs)) e in
+    let words = moved .advance .ensures .1 ∙ ap (step (a .card)) e in
+    rw (ne-eqb _ _ (moved .before .before .if1 .left)) (c .rank-in .ensures ∙ ap (λ (w : ℕ). w % a .k) drawn, words)
 
 pub drawn-rank-spec : {M : Type 1} → statement M
 drawn-rank-spec =

@@ -1,16 +1,32 @@
-use mathlib.Core.Path.{_≡_, sym, ap, ap₂, _∙_}
-use Prim.Native.Nat.{ℕ, _<_, _≤_}
+use mathlib.Core.Path.{sym, _∙_}
+use Prim.Native.Nat.{_<_, _≤_}
 use native.Mathlib.Omega.{arith}
-use Rattle.tsc.specs.declared.Card.{Card}
-use Rattle.generator.proofs.Opening.{begun, begun-refused}
+use Rattle.generator.proofs.Opening.{Clear, begun}
 use Rattle.generator.proofs.Called.{ready, of-values}
-use Rattle.ties.specs.Ties.{mostShovels, chosen}
-use Rattle.ties.proofs.Least.{ties-some, ties-le}
-use Rattle.tie_list.proofs.Allowed.{Allowed, list-allowed}
-use Rattle.pick.specs.Picks.{pickRefusal, drawnRank, drawnState}
-use Rattle.pick.proofs.Picking.{refusal-call, refusal-list, picking-refused, picking-chosen}
+use Rattle.ties.specs.Ties.{mostShovels}
+use Rattle.pick.proofs.Picking.{Granted, pick-refused-call, pick-refused-list, granted, ties-few, pick-made}
 use Rattle.pick.proofs.call.pick.Statement.{statement}
 use Rattle.pick.proofs.call.pick.Tie as tie
+
+-- where the pick begins, with what it is handed
+abbrev start : tie.After-open → tie.Start
+start c = let o = c .before in o .before .before .before .before .before
+
+-- past the first test the card and the state are not refused
+clear : (c : tie.Else1) → let o = c .before .before in
+    let a = start o .args in
+    Clear (a .card .now) (a .state .now) (o .«open» .result)
+clear c = begun _ _ _ (c .before .before .«open» .ensures) (c .if1 .left)
+
+-- past the second the list is not
+passed : (c : tie.Else2) → let o = c .before .before .before .before in
+    let a = start o .args in
+    Granted (a .card .now) (a .state .now) (a .shovels .now) (a .times .now) (o .«open» .result)
+passed c = granted _ _ _ _ _ (clear (c .before .before)) (sym (c .before .list-refusal .ensures) ∙ c .if2 .left)
+
+-- then there is a tie at least, and there are no more than shovels
+tied : (c : tie.After-ties-of) → (0 < c .ties-of .result) × (c .ties-of .result ≤ mostShovels)
+tied c = rw (c .ties-of .ensures) (ties-few (passed (c .before .before) .allowed))
 
 open-requires : tie.Need-open-requires
 open-requires c κs = omega arith
@@ -19,7 +35,10 @@ same-length : tie.Need-same-length
 same-length c = omega arith
 
 returns : tie.Need-returns
-returns c = let a = c .before .before .before .before .before .before .before .before .args in let b = begun-refused (a .card .now) (a .state .now) _ (c .before .before .«open» .ensures) (c .if1 .taken) in picking-refused (a .card .now) (a .state .now) (a .shovels .now) (a .times .now) _ (c .if1 .taken) (b .0 ∙ refusal-call (a .card .now) (a .state .now) (a .shovels .now) (a .times .now) (b .1))
+returns c =
+    let o = c .before .before in
+    let a = start o .args in
+    pick-refused-call (a .card .now) (a .state .now) (a .shovels .now) (a .times .now) _ (o .«open» .ensures) (c .if1 .taken)
 
 list-refusal-requires : tie.Need-list-refusal-requires
 list-refusal-requires c κs = tt
@@ -27,28 +46,11 @@ list-refusal-requires c κs = tt
 same-length-2 : tie.Need-same-length-2
 same-length-2 c = omega arith
 
--- once the call's own checks are passed, the list's refusal is the pick's
-told : (c : tie.After-list-refusal) → c .list-refusal .result ≡ pickRefusal (c .before .before .before .before .before .before .before .before .before .args .card .now) (c .before .before .before .before .before .before .before .before .before .args .state .now) (c .before .before .before .before .before .before .before .before .before .args .shovels .now) (c .before .before .before .before .before .before .before .before .before .args .times .now)
-told c =
-    let a = c .before .before .before .before .before .before .before .before .before .args in
-    c .list-refusal .ensures
-    ∙ refusal-list (a .card .now) (a .state .now) (a .shovels .now) (a .times .now) (begun (a .card .now) (a .state .now) _ (c .before .before .before .«open» .ensures) (c .before .if1 .left) .0)
-
--- and a list that is not refused has a tie at least, and no more than shovels
-allowed : (c : tie.Else2) → Allowed (c .before .before .before .before .before .before .before .before .before .before .args .shovels .now) (c .before .before .before .before .before .before .before .before .before .before .args .times .now)
-allowed c = list-allowed (c .before .before .before .before .before .before .before .before .before .before .args .shovels .now) (c .before .before .before .before .before .before .before .before .before .before .args .times .now) (sym (c .before .list-refusal .ensures) ∙ c .if2 .left)
-
-tied : (c : tie.After-ties-of) → (0 < c .ties-of .result) × (c .ties-of .result ≤ mostShovels)
-tied c =
-    let ok = allowed (c .before .before) in
-    let times = c .before .before .before .before .before .before .before .before .before .before .before .before .args .times .now in
-    (omega (arith, c .ties-of .ensures, ties-some times (ok .some)), omega (arith, c .ties-of .ensures, ties-le times, ok .few))
-
 returns-2 : tie.Need-returns-2
-returns-2 c = let a = c .before .before .before .before .before .before .before .before .before .before .args in picking-refused (a .card .now) (a .state .now) (a .shovels .now) (a .times .now) _ (c .if2 .taken) (told (c .before))
+returns-2 c = pick-refused-list _ _ _ _ (clear (c .before .before)) _ (c .before .list-refusal .ensures) (c .if2 .taken)
 
 least-time-requires : tie.Need-least-time-requires
-least-time-requires c κs = allowed c .some
+least-time-requires c κs = passed c .allowed .some
 
 ties-of-requires : tie.Need-ties-of-requires
 ties-of-requires c κs = c .least-time .ensures
@@ -57,30 +59,30 @@ cast-drawn-rank : tie.Need-cast-drawn-rank
 cast-drawn-rank c = omega (arith, tied (c .before .before) .1)
 
 drawn-rank-requires : tie.Need-drawn-rank-requires
-drawn-rank-requires c κs = let a = c .before .before .before .before .before .before .before .before .before .before .before .before .before .before .before .args in let e = c .before .before .before .before .before .before .before .before .before .«open» .ensures in let z = c .before .before .before .before .before .before .before .if1 .left in let ok = ready (a .card .now) (a .state .now) _ e z in (ok .0, ok .1, sym (of-values (a .card .now) (a .state .now) _ e z (λ c w. w)), tied (c .before .before .before) .0)
+drawn-rank-requires c κs =
+    let k = passed (c .before .before .before .before .before) .clear in
+    (ready k .0, ready k .1, sym (of-values k (λ c w. w)), tied (c .before .before .before) .0)
 
 cast-chosen-by : tie.Need-cast-chosen-by
 cast-chosen-by c = omega arith
 
 chosen-by-requires : tie.Need-chosen-by-requires
-chosen-by-requires c κs = record { paired = allowed (c .before .before .before .before .before .before .before .before) .paired; least = c .before .before .before .before .before .before .before .least-time .ensures }
+chosen-by-requires c κs =
+    let drawn = c .before .before in
+    let ties = drawn .before .before .before .before in
+    record { paired = passed (ties .before .before) .allowed .paired; least = ties .before .least-time .ensures }
 
 cast-t20 : tie.Need-cast-t20
-cast-t20 c = omega (arith, tied (c .before .before .before .before .before .before .before) .1)
+cast-t20 c = let drawn = c .before .before .before in omega (arith, tied (drawn .before .before .before .before) .1)
 
 same-length-3 : tie.Need-same-length-3
 same-length-3 c = omega arith
 
 returns-3 : tie.Need-returns-3
 returns-3 c =
-    let a = c .before .before .before .before .before .before .before .before .before .before .before .before .before .before .before .before .before .before .before .args in
-    let bytes = a .card .now in
-    let xs = a .state .now in
-    let card = begun bytes xs _ (c .before .before .before .before .before .before .before .before .before .before .before .before .before .«open» .ensures) (c .before .before .before .before .before .before .before .before .before .before .before .if1 .left) .1 in
-    let k = c .before .before .before .before .before .before .before .ties-of .ensures in
-    picking-chosen bytes xs (a .shovels .now) (a .times .now) (sym (told (c .before .before .before .before .before .before .before .before .before .before)) ∙ c .before .before .before .before .before .before .before .before .before .if2 .left) _ _ _
-    (c .chosen-by .ensures ∙ ap (chosen (a .shovels .now) (a .times .now)) (c .before .before .before .drawn-rank .ensures .0 ∙ ap₂ (λ (card : Card) (k : ℕ). drawnRank card xs k) card k)) k
-    (c .before .before .before .drawn-rank .ensures .1 ∙ ap₂ (λ (card : Card) (k : ℕ). drawnState card xs k) card k)
+    let drawn = c .before .before .before in
+    let ties = drawn .before .before .before .before in
+    pick-made (passed (ties .before .before)) (ties .ties-of .ensures) (drawn .drawn-rank .ensures) (c .chosen-by .ensures)
 
 pub pick-spec : {M : Type 1} → statement M
 pick-spec =
