@@ -20,8 +20,8 @@ same-length c = search needs
 
 returns : tie.Need-returns
 returns c =
-    c .before .before .written .ensures ∙ ap (λ (r : Reading). pageAfter (r .card) (c .before .before .before .before .before .before .before .before .before .args .page .now))
-    (c .before .before .before .before .before .read .ensures)
+    let r = c .before .before .before .before .before in
+    c .before .before .written .ensures ∙ ap (λ (found : Reading). pageAfter (found .card) (r .before .before .before .before .args .page .now)) (r .read .ensures)
 
 pub again-spec : {M : Type 1} → statement M
 again-spec = tie.close (tie.spec read-requires written-requires same-length returns)

@@ -22,13 +22,21 @@ array-share-prefix-page : tie.Need-array-share-prefix-page
 array-share-prefix-page c = omega arith
 
 slice-aggregate-print-run : tie.Need-slice-aggregate-print-run
-slice-aggregate-print-run c = let page = c .before .before .before .before .before .before .before .write .last .1 .0 in let size : length page ≡ 32 = search needs in sym (length-take-le _ page (omega arith))
+slice-aggregate-print-run c =
+    let at = c .before .before .before in
+    let page = at .before .before .before .before .write .last .1 .0 in
+    let size : length page ≡ 32 = search needs in
+    sym (length-take-le _ page (omega arith))
 
 array-borrow-prefix-words : tie.Need-array-borrow-prefix-words
 array-borrow-prefix-words c = omega arith
 
 slice-aggregate-print-run-2 : tie.Need-slice-aggregate-print-run-2
-slice-aggregate-print-run-2 c = let words = c .before .before .before .before .before .before .before .before .before .before .before .args .start in let four : length words ≡ 4 = search needs in sym (length-take-le _ words (omega arith))
+slice-aggregate-print-run-2 c =
+    let at = c .before .before .before .before .before .before in
+    let words = at .before .before .before .before .before .args .start in
+    let four : length words ≡ 4 = search needs in
+    sym (length-take-le _ words (omega arith))
 
 print-run-requires : tie.Need-print-run-requires
 print-run-requires c κs = omega arith
