@@ -16,14 +16,16 @@ use Rattle.tiedraw.specs.Answers.{writtenLength, writtenFrom, pageFrom}
 
 module _ (card : Card) (page : List ℕ) where
   -- an overlong table: refusal 2, and the page as it was
-  pub overlong-refused : 2 ^ mostWords < length (card .table) → (writtenLength (Refused (outOfRange .number)) ≡ writtenFrom card (length page)) × (page ≡ pageFrom card page)
+  pub overlong-refused : 2 ^ mostWords < length (card .table)
+      → (writtenLength (Refused (outOfRange .number)) ≡ writtenFrom card (length page)) × (page ≡ pageFrom card page)
   unfolding writtenFrom pageFrom
   overlong-refused long = rw (lt-ltb (2 ^ mostWords) (length (card .table)) long) (refl, refl)
 
-  -- else the writer's own answer and page
-  pub fitting-written : length (card .table) ≤ 2 ^ mostWords → (writtenLength (writing card (length page)) ≡ writtenFrom card (length page)) × (pageAfter card page ≡ pageFrom card page)
+  -- else the writer's own answer and page, for the same card
+  pub fitting-written : {written : Card} → written ≡ card → length (card .table) ≤ 2 ^ mostWords
+      → (writtenLength (writing written (length page)) ≡ writtenFrom card (length page)) × (pageAfter written page ≡ pageFrom card page)
   unfolding writtenFrom pageFrom
-  fitting-written fits = rw (le-ltb (2 ^ mostWords) (length (card .table)) fits) (refl, refl)
+  fitting-written e fits = rw (e, le-ltb (2 ^ mostWords) (length (card .table)) fits) (refl, refl)
 
 module _ (table : List ℕ) where
   -- zeros make no table overlong that was not, and none shorter

@@ -1,5 +1,5 @@
--- Demand 1 at the C interface: an answer tells the first refusal that applies, 0 where none does; and where it is not 0, its other fields are 0 and what was lent
--- is as it was.
+-- Demand 1 at the C interface: an answer tells the first refusal that applies, 0 where none does; and where it is not 0, its other fields are 0 and
+-- what was lent is as it was.
 use mathlib.Core.Path.{_≡_, refl, sym, ap, _∙_}
 use mathlib.Core.Logic.{_≢_}
 use mathlib.Core.Bool.{Bool, true, false, cond}
@@ -51,7 +51,8 @@ module _ (bytes xs shovels times : List ℕ) where
   unfolding picking
   pick-told = told (λ (p : Pick). choice p .refusal) (pickRefusal bytes xs shovels times) _ _ refl refl
 
-  pub pick-refused : choice (picking bytes xs shovels times) .refusal ≢ 0 → (choice (picking bytes xs shovels times) .shovel ≡ 0) × (choice (picking bytes xs shovels times) .ties ≡ 0) × (picked bytes xs shovels times ≡ xs)
+  pub pick-refused : choice (picking bytes xs shovels times) .refusal ≢ 0
+      → (choice (picking bytes xs shovels times) .shovel ≡ 0) × (choice (picking bytes xs shovels times) .ties ≡ 0) × (picked bytes xs shovels times ≡ xs)
   pick-refused ne =
       let p = picking-refused bytes xs shovels times _ (λ z. ne (pick-told ∙ z)) refl in
       (ap (λ (p : Pick). choice p .shovel) (sym (p .0)), ap (λ (p : Pick). choice p .ties) (sym (p .0)), sym (p .1))
@@ -66,7 +67,8 @@ module _ (card : Card) (page : List ℕ) where
   unfolding writtenFrom
   write-told = go (overlong card)
     where
-      go : (b : Bool) → writtenLength (cond b (Refused (outOfRange .number)) (writing card (length page))) .refusal ≡ cond b (outOfRange .number) (firstOf (writeChecks card (length page)))
+      go : (b : Bool) → writtenLength (cond b (Refused (outOfRange .number)) (writing card (length page))) .refusal
+          ≡ cond b (outOfRange .number) (firstOf (writeChecks card (length page)))
       go true = refl
       go false = writing-told
 
@@ -74,7 +76,8 @@ module _ (card : Card) (page : List ℕ) where
   unfolding writtenFrom pageFrom
   write-refused = go (overlong card)
     where
-      go : (b : Bool) → let w = writtenLength (cond b (Refused (outOfRange .number)) (writing card (length page))) in w .refusal ≢ 0 → (w .length ≡ 0) × (cond b page (pageAfter card page) ≡ page)
+      go : (b : Bool) → let w = writtenLength (cond b (Refused (outOfRange .number)) (writing card (length page))) in
+          w .refusal ≢ 0 → (w .length ≡ 0) × (cond b page (pageAfter card page) ≡ page)
       go true ne = (refl, refl)
       go false ne =
           let w = writing-refused card page _ (λ z. ne (writing-told ∙ z)) refl in

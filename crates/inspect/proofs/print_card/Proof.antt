@@ -32,11 +32,16 @@ write-all-requires-2 c κs = omega arith
 cast-m : tie.Need-cast-m
 cast-m c = omega arith
 
+-- the check, before anything was printed
+abbrev checked : tie.After-struct-known2 → tie.After-accept
+checked c = let printed = c .before .before .before in printed .before .before .before .before
+
 -- an accepted card has no more words than a state
-few : (c : tie.After-struct-known3) → c .before .before .before .before .before .before .before .before .before .accept .result .card .words ≤ mostWords
+few : (c : tie.After-struct-known3) → checked (c .before .before) .accept .result .card .words ≤ mostWords
 few c =
-    let bytes = c .before .before .before .before .before .before .before .before .before .before .before .args .card .now in
-    let p = accepting-passed bytes _ (c .before .before .before .before .before .before .before .before .before .accept .ensures) (c .before .if1 .taken) in
+    let found = checked (c .before .before) in
+    let bytes = found .before .before .args .card .now in
+    let p = accepting-passed bytes _ (found .accept .ensures) (c .before .if1 .taken) in
     omega (arith, accepted-card bytes (p .0) .few, ap (λ (card : Card). card .words) (p .1))
 
 array-borrow-prefix-state : tie.Need-array-borrow-prefix-state

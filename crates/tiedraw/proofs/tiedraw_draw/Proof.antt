@@ -19,13 +19,18 @@ same-length : tie.Need-same-length
 same-length c = omega arith
 
 returns : tie.Need-returns
-returns c = (ap drawn (sym (c .before .word .given .1) ∙ c .before .before .before .before .before .draw .ensures .0), (c .before .before .before .before .before .draw .ensures .1 .0, c .before .before .before .before .before .draw .ensures .1 .1 _ (c .before .word .given .1)))
+returns c =
+    let d = c .before .before .before .before .before .draw .ensures in
+    let e = c .before .word .given .1 in
+    (ap drawn (sym e ∙ d .0), (d .1 .0, d .1 .1 _ e))
 
 same-length-2 : tie.Need-same-length-2
 same-length-2 c = omega arith
 
 returns-2 : tie.Need-returns-2
-returns-2 c = (ap drawn (sym (c .before .number .given .1) ∙ c .before .before .before .before .before .draw .ensures .0), (c .before .before .before .before .before .draw .ensures .1 .0, pow-pos _))
+returns-2 c =
+    let d = c .before .before .before .before .before .draw .ensures in
+    (ap drawn (sym (c .before .number .given .1) ∙ d .0), (d .1 .0, pow-pos _))
 
 pub tiedraw-draw-spec : {M : Type 1} → statement M
 tiedraw-draw-spec =

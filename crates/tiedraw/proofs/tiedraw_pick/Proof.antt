@@ -18,13 +18,19 @@ same-length : tie.Need-same-length
 same-length c = omega arith
 
 returns : tie.Need-returns
-returns c = (ap choice (sym (c .before .number .given .1) ∙ c .before .before .before .before .before .pick .ensures .0), c .before .before .before .before .before .pick .ensures .1)
+returns c = (
+  ap choice (sym (c .before .number .given .1) ∙ c .before .before .before .before .before .pick .ensures .0),
+  c .before .before .before .before .before .pick .ensures .1,
+)
 
 same-length-2 : tie.Need-same-length-2
 same-length-2 c = omega arith
 
 returns-2 : tie.Need-returns-2
-returns-2 c = (ap choice (sym (c .before .number2 .given .1) ∙ c .before .before .before .before .before .pick .ensures .0), c .before .before .before .before .before .pick .ensures .1)
+returns-2 c = (
+  ap choice (sym (c .before .number2 .given .1) ∙ c .before .before .before .before .before .pick .ensures .0),
+  c .before .before .before .before .before .pick .ensures .1,
+)
 
 pub tiedraw-pick-spec : {M : Type 1} → statement M
 tiedraw-pick-spec =

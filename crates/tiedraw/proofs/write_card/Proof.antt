@@ -18,13 +18,13 @@ same-length : tie.Need-same-length
 same-length c = omega arith
 
 returns : tie.Need-returns
-returns c = (ap writtenLength (sym (c .before .length .given .1) ∙ c .before .before .before .before .before .write .ensures .0), c .before .before .before .before .before .write .ensures .1)
+returns c = let w = c .before .before .before .before .before .write .ensures in (ap writtenLength (sym (c .before .length .given .1) ∙ w .0), w .1)
 
 same-length-2 : tie.Need-same-length-2
 same-length-2 c = omega arith
 
 returns-2 : tie.Need-returns-2
-returns-2 c = (ap writtenLength (sym (c .before .number .given .1) ∙ c .before .before .before .before .before .write .ensures .0), c .before .before .before .before .before .write .ensures .1)
+returns-2 c = let w = c .before .before .before .before .before .write .ensures in (ap writtenLength (sym (c .before .number .given .1) ∙ w .0), w .1)
 
 pub write-card-spec : {M : Type 1} → statement M
 write-card-spec =

@@ -39,8 +39,8 @@ shl-out : tie.Need-shl-out Inv-loop μ-loop
 shl-out c = c .before .before .before .before .pre .0
 
 -- the bit that a word gets
-here : (c : tie.After-bit-of Inv-loop μ-loop)
-    → let a = c .before .before .before .before .args in let k = c .before .before .before .loop .k in
+here : (c : tie.After-bit-of Inv-loop μ-loop) → let a = c .before .before .before .before .args in
+    let k = c .before .before .before .loop .k in
     c .bit-of .result * 2 ^ a .i % 2 ^ 32 ≡ bit k (a .c) * 2 ^ a .i
 here c =
     let s = c .before .before .before .before in
@@ -49,8 +49,8 @@ here c =
     ap (λ (b : ℕ). b * 2 ^ s .args .i % 2 ^ 32) (c .bit-of .ensures) ∙ placed b (s .args .i) 32 (bit-lt k (s .args .c)) (s .pre .0)
 
 -- and the word then
-written : (c : tie.After-bit-of Inv-loop μ-loop)
-    → let a = c .before .before .before .before .args in let k = c .before .before .before .loop .k in
+written : (c : tie.After-bit-of Inv-loop μ-loop) → let a = c .before .before .before .before .args in
+    let k = c .before .before .before .loop .k in
     getD (a .t1 .words) k 0 + c .bit-of .result * 2 ^ a .i % 2 ^ 32 ≡ getD (withColumn (a .i) (a .c) (a .t1 .words)) k 0
 written c =
     let a = c .before .before .before .before .args in
