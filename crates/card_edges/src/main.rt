@@ -1,7 +1,6 @@
 // Cards and values at the edges, run: document 01, At the edges, the order of refusals (docs/DECISIONS.md), and the writer's refusals. A line for each.
 ghost use mathlib.Core.Path.{_≡_};
-ghost use Rattle.card_format.specs.Reading.{reading};
-ghost use Rattle.card_format.specs.Writing.{pageAfter};
+ghost use Rattle.card_format.specs.Writing.{pageAfter, pageRewritten};
 use card_format::Written;
 use tsc::Card;
 
@@ -110,12 +109,10 @@ fn long_cards() {
     print_verdict(&[0; 3000]);
 }
 
-// The writer's answer, and the whole page after it.
-fn written(name: &[u8], values: Card, page: &mut [u8])
-    ensures { λ _. ⌜ now (page .exit) ≡ pageAfter values (now (page .entry)) ⌝ }
-{
+// A writer's answer, and the whole page after it.
+fn print_written(name: &[u8], answer: Written, page: &[u8]) {
     io::write_all(1, name);
-    match card_write::write::write(values, page) {
+    match answer {
         Written::Length(n) => {
             io::write_all(1, b": length ");
             io::print_decimal(1, n as u64);
@@ -130,13 +127,20 @@ fn written(name: &[u8], values: Card, page: &mut [u8])
     io::write_all(1, b"\n");
 }
 
+// Values written.
+fn written(name: &[u8], values: Card, page: &mut [u8])
+    ensures { λ _. ⌜ now (page .exit) ≡ pageAfter values (now (page .entry)) ⌝ }
+{
+    let answer = card_write::write::write(values, page);
+    print_written(name, answer, page);
+}
+
 // A card read and written again.
 fn again(name: &[u8], card: &[u8], page: &mut [u8])
-    ensures { λ _. ⌜ now (page .exit) ≡ pageAfter (reading (now (card .entry)) .card) (now (page .entry)) ⌝ }
+    ensures { λ _. ⌜ now (page .exit) ≡ pageRewritten (now (card .entry)) (now (page .entry)) ⌝ }
 {
-    let found = card_read::read::read(card);
-    let values = found.card;
-    written(name, values, page);
+    let answer = card_write::rewrite::rewrite(card, page);
+    print_written(name, answer, page);
 }
 
 // Values written to a page of 12 bytes.
