@@ -8,16 +8,17 @@ use Rattle.refusals.specs.Refusals.{firstOf}
 use Rattle.card_read.specs.FieldRead.{missing, endChecks}
 use Rattle.card_read.proofs.read.end_refusal.Statement.{statement}
 use Rattle.card_read.proofs.read.end_refusal.Tie as tie
+use lib.Dec.{lit<}
 
 -- past the first test the table is not missing
 given : (c : tie.Else1) → let a = c .before .before .before .args in missing (a .next) fieldCount (getD (a .t4 .numbers) 0 0) ≡ false
 given c = sym (c .before .table-missing .ensures) ∙ c .if1 .left
 
 element-copy-out-table-missing : tie.Need-element-copy-out-table-missing
-element-copy-out-table-missing c = omega arith
+element-copy-out-table-missing c = lit< tt
 
 table-missing-requires : tie.Need-table-missing-requires
-table-missing-requires c κs = omega arith
+table-missing-requires c κs = tt
 
 returns : tie.Need-returns
 unfolding endChecks firstOf
@@ -28,13 +29,13 @@ unfolding endChecks firstOf
 returns-2 c = simp (given (c .before), lt-ltb _ _ (c .if2 .taken))
 
 element-copy-out-exceeds : tie.Need-element-copy-out-exceeds
-element-copy-out-exceeds c = omega arith
+element-copy-out-exceeds c = lit< tt
 
 element-copy-out-exceeds-2 : tie.Need-element-copy-out-exceeds-2
-element-copy-out-exceeds-2 c = omega arith
+element-copy-out-exceeds-2 c = lit< tt
 
 exceeds-requires : tie.Need-exceeds-requires
-exceeds-requires c κs = omega arith
+exceeds-requires c κs = tt
 
 returns-3 : tie.Need-returns-3
 unfolding endChecks firstOf

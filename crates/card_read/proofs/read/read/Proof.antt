@@ -22,6 +22,7 @@ use Rattle.card_read.proofs.Map.{lowest-one, left-all, ones-none, ones-
 use Rattle.card_read.proofs.Reader.{Reached, Rest, reached-map, rest-gap, rest-here, rest-next, rest-refused, words-few, told-end, end-reached, told-empty, card-read, reading-refused, reading-accepted, byte-values}
 use Rattle.card_read.proofs.read.read.Statement.{statement}
 use Rattle.card_read.proofs.read.read.Tie as tie
+use lib.Dec.{lit<}
 
 abbrev Inv-loop : tie.InvT-loop
 Inv-loop card v₀ left₀ next₀ at₀ counter₀ end v left next at counter = Rest card left next at v × (counter + ones left ≡ end) × (next ≤ fieldCount) × (end ≤ 8)
@@ -71,13 +72,13 @@ passed c =
 -- ---- the needs
 
 refused-requires : tie.Need-refused-requires Inv-loop μ-loop
-refused-requires c κs = omega arith
+refused-requires c κs = tt
 
 returns : tie.Need-returns Inv-loop μ-loop
 returns c = c .refused .ensures ∙ reading-refused _ 1 (λ e. absurd (omega arith)) (told-empty _ (c .before .if1 .taken))
 
 absent-table-requires : tie.Need-absent-table-requires Inv-loop μ-loop
-absent-table-requires c κs = omega arith
+absent-table-requires c κs = tt
 
 shared-slice-read-left : tie.Need-shared-slice-read-left Inv-loop μ-loop
 shared-slice-read-left c = omega arith
@@ -97,13 +98,13 @@ cast-k : tie.Need-cast-k Inv-loop μ-loop
 cast-k c = omega (arith, trailing-le 8 (c .before .loop .left))
 
 element-copy-out-table-missing : tie.Need-element-copy-out-table-missing Inv-loop μ-loop
-element-copy-out-table-missing c = omega arith
+element-copy-out-table-missing c = lit< tt
 
 table-missing-requires : tie.Need-table-missing-requires Inv-loop μ-loop
-table-missing-requires c κs = omega arith
+table-missing-requires c κs = tt
 
 refused-requires-2 : tie.Need-refused-requires-2 Inv-loop μ-loop
-refused-requires-2 c κs = omega arith
+refused-requires-2 c κs = tt
 
 returns-2 : tie.Need-returns-2 Inv-loop μ-loop
 returns-2 c =
@@ -127,7 +128,7 @@ read-field-requires c κs =
     (rest-here _ (l .left) (l .next) (l .at) (l .v) (l .inv .0) (some (e .before .before .before)) (given e) .1, words-few _ (l .next) (l .at) (l .v) (l .inv .0 .reached))
 
 refused-requires-3 : tie.Need-refused-requires-3 Inv-loop μ-loop
-refused-requires-3 c κs = omega arith
+refused-requires-3 c κs = tt
 
 returns-3 : tie.Need-returns-3 Inv-loop μ-loop
 returns-3 c =
@@ -165,10 +166,10 @@ loop-again c =
     )
 
 end-refusal-requires : tie.Need-end-refusal-requires Inv-loop μ-loop
-end-refusal-requires c κs = omega arith
+end-refusal-requires c κs = tt
 
 refused-requires-4 : tie.Need-refused-requires-4 Inv-loop μ-loop
-refused-requires-4 c κs = omega arith
+refused-requires-4 c κs = tt
 
 returns-4 : tie.Need-returns-4 Inv-loop μ-loop
 returns-4 c = c .refused4 .ensures ∙ reading-refused _ _ (c .before .if4 .taken) (end-told (c .before .before))

@@ -5,7 +5,7 @@ use mathlib.Core.Logic.{_≢_}
 use mathlib.Core.List.{List}
 use Prim.Native.Nat.{ℕ, _≤_, _<_}
 use borrow.Author.Tests.{ne-eqb, eqb-true}
-use lib.Dec.{eqb}
+use lib.Dec.{eqb, lit<}
 use lib.ListN.{length, getD, set}
 use Rattle.card_fields.specs.declared.number.Number.the-variants.{Value, Refused}
 use Rattle.card_read.specs.declared.read.Values.{Values}
@@ -50,7 +50,7 @@ returns c =
     full (a .k) (a .part .now) (a .t3) _ (c .read-table .ensures ∙ ap (λ (k : ℕ). fieldRead k (a .part .now) (a .t3)) (sym (c .before .if1 .taken)))
 
 element-copy-out-m : tie.Need-element-copy-out-m
-element-copy-out-m c = omega arith
+element-copy-out-m c = lit< tt
 
 read-number-requires : tie.Need-read-number-requires
 read-number-requires c κs = omega arith
@@ -71,7 +71,7 @@ enum-known-r : tie.Need-enum-known-r
 enum-known-r c = omega arith
 
 refused-at-requires : tie.Need-refused-at-requires
-refused-at-requires c κs = omega arith
+refused-at-requires c κs = tt
 
 returns-2 : tie.Need-returns-2
 returns-2 c =

@@ -19,6 +19,7 @@ use borrow.Author.Needs.{needs}
 use Rattle.card_read.proofs.FieldRead.{field-refused}
 use Rattle.card_read.proofs.read.read_table.Statement.{statement}
 use Rattle.card_read.proofs.read.read_table.Tie as tie
+use lib.Dec.{lit<}
 
 stored-as : (part : List ℕ) (v : Values) (size : ℕ) (t : List ℕ) → size ≡ 2 ^ getD (v .numbers) 0 0 → t ≡ padded (take size part)
     → 2 ^ getD (v .numbers) 0 0 ≤ length part → firstOf (partChecks (field (getD (v .numbers) 0 0) tableBit) part) ≡ 0
@@ -55,13 +56,13 @@ by-absent c = by-table (c .before .before) ∙ simp (sym (c .before .entries-all
 -- ---- the needs
 
 element-copy-out-m : tie.Need-element-copy-out-m
-element-copy-out-m c = omega arith
+element-copy-out-m c = lit< tt
 
 entries-requires : tie.Need-entries-requires
 entries-requires c κs = omega arith
 
 refused-at-requires : tie.Need-refused-at-requires
-refused-at-requires c κs = omega arith
+refused-at-requires c κs = tt
 
 returns : tie.Need-returns
 returns c =
@@ -78,7 +79,7 @@ entries-allowed-requires : tie.Need-entries-allowed-requires
 entries-allowed-requires c κs = omega arith
 
 refused-at-requires-2 : tie.Need-refused-at-requires-2
-refused-at-requires-2 c κs = omega arith
+refused-at-requires-2 c κs = tt
 
 returns-2 : tie.Need-returns-2
 returns-2 c =
@@ -90,7 +91,7 @@ is-tsc1-requires : tie.Need-is-tsc1-requires
 is-tsc1-requires c κs = omega arith
 
 refused-at-requires-3 : tie.Need-refused-at-requires-3
-refused-at-requires-3 c κs = omega arith
+refused-at-requires-3 c κs = tt
 
 returns-3 : tie.Need-returns-3
 returns-3 c =
