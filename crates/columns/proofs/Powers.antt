@@ -54,9 +54,9 @@ filled-none card k =
     }
 
 -- the entry number j of the cycle gets its image
-filled-next : (card : Card) → WellFormed card → card .words ≤ mostWords → (k j : ℕ) (t : List ℕ) → Filled card k j t
+filled-at : (card : Card) → WellFormed card → card .words ≤ mostWords → (k j : ℕ) (t : List ℕ) → Filled card k j t
     → Filled card k (j + 1) (set t (stands card j) (iterate (entry card) k (stands card j)))
-filled-next card wf few k j t f =
+filled-at card wf few k j t f =
     record {
       size = length-set t (stands card j) _ ∙ f .size;
       done = extend (λ i. getD (set t (stands card j) v) (stands card i) 0 ≡ iterate (entry card) k (stands card i)) j
@@ -75,10 +75,10 @@ filled-next card wf few k j t f =
     go i l (no ne) = getD-set-other t (stands card j) (stands card i) v 0 ne ∙ f .done i l
 
 -- as the loop writes it: x stands at number j of the cycle, and y is k entries ahead
-pub filled-along : (card : Card) → WellFormed card → card .words ≤ mostWords → (k j : ℕ) {x y : ℕ} (t : List ℕ) → x ≡ stands card j → y ≡ stands card (k + j)
+pub filled-next : (card : Card) → WellFormed card → card .words ≤ mostWords → (k j : ℕ) {x y : ℕ} (t : List ℕ) → x ≡ stands card j → y ≡ stands card (k + j)
     → Filled card k j t → Filled card k (j + 1) (set t x y)
-filled-along card wf few k j t ex ey f =
-    subst (Filled card k (j + 1)) (sym (ap₂ (set t) ex (ey ∙ iterate-add (entry card) k j 0))) (filled-next card wf few k j t f)
+filled-next card wf few k j t ex ey f =
+    subst (Filled card k (j + 1)) (sym (ap₂ (set t) ex (ey ∙ iterate-add (entry card) k j 0))) (filled-at card wf few k j t f)
 
 -- one round fills in every entry
 pub filled-power : (card : Card) (k : ℕ) (t : List ℕ) → SingleCycle (2 ^ card .words) (entry card) 0 → Filled card k (2 ^ card .words) t → IsPower card k t

@@ -6,7 +6,6 @@ use Prim.Native.Nat.{ℕ, zero, _^_, _≤_, _<_}
 use native.Mathlib.Omega.{arith}
 use borrow.Author.Tests.{eq-eqb, ne-eqb}
 use lib.ListN.{length, take}
-use lib.Pow.{pow-pos}
 use Rattle.tsc.specs.declared.Card.{Card}
 use Rattle.tsc.specs.declared.State.{State}
 use Rattle.tsc.specs.Constants.{mostWords}
@@ -21,7 +20,6 @@ use Rattle.card_format.specs.Verdict.{Accepted}
 use Rattle.card_format.proofs.Lists.{take-filled}
 use Rattle.card_format.proofs.Verdict.{accepted-card}
 use Rattle.generator.specs.declared.call.Opened.{Opened}
-use Rattle.generator.specs.declared.Draw.{Draw}
 use Rattle.generator.specs.declared.Draw.the-variants.{Word, Refused}
 use Rattle.stepping.specs.State.{used, Holds, holding}
 use Rattle.generator.specs.Calls.{refusalFor, unlessRefused, opening, stepped, steppedBack, OnlyBefore, drawing}
@@ -94,17 +92,13 @@ module _ {bytes xs : List ℕ} {o : Opened} (k : Clear bytes xs o) where
 
 -- ---- the word of a draw's answer
 
-wordIn : Draw → ℕ
-wordIn (Word w) = w
-wordIn (Refused r) = 0
-
 narrow-word : (card : Card) (xs : List ℕ) (v w : ℕ) → v ≡ word card xs → Word v ≡ Word w → w < 2 ^ card .width
-unfolding wordIn
-narrow-word card xs v w e h = subst (λ (a : ℕ). a < 2 ^ card .width) (sym e ∙ ap wordIn h) (word-lt card xs)
+narrow-word card xs v w e h =
+    let same : word card xs ≡ w = cc in
+    rw same at (word-lt card xs)
 
 narrow-refused : (n r w : ℕ) → Refused r ≡ Word w → w < 2 ^ n
-unfolding wordIn
-narrow-refused n r w h = subst (λ (a : ℕ). a < 2 ^ n) (ap wordIn h) (pow-pos n)
+narrow-refused n r w h = let never : _≡_ {A = ℕ} 0 1 = cc in absurd (omega arith)
 
 pub drawing-refused : (bytes xs : List ℕ) (r : ℕ) → r ≡ refusalFor bytes xs → refusalFor bytes xs ≢ 0 → Refused r ≡ drawing bytes xs
 unfolding drawing

@@ -14,14 +14,14 @@ wordsFrom k m xs = drop k (take m xs)
 pub words-none : (m : ℕ) (xs : List ℕ) → m ≤ length xs → wordsFrom m m xs ≡ []
 words-none m xs h = drop-of-length-le (take m xs) (le-of-eq (length-take-le m xs h))
 
-pub words-next : (k m : ℕ) (xs : List ℕ) → k < m → m ≤ length xs → wordsFrom k m xs ≡ getD xs k 0 ∷ wordsFrom (suc k) m xs
-words-next k zero xs l h = absurd (omega arith)
-words-next k (suc m) [] l h = absurd (omega arith)
-words-next zero (suc m) (x ∷ xs) l h = refl
-words-next (suc k) (suc m) (x ∷ xs) l h = words-next k m xs (omega arith) (omega arith)
+words-cons : (k m : ℕ) (xs : List ℕ) → k < m → m ≤ length xs → wordsFrom k m xs ≡ getD xs k 0 ∷ wordsFrom (suc k) m xs
+words-cons k zero xs l h = absurd (omega arith)
+words-cons k (suc m) [] l h = absurd (omega arith)
+words-cons zero (suc m) (x ∷ xs) l h = refl
+words-cons (suc k) (suc m) (x ∷ xs) l h = words-cons k m xs (omega arith) (omega arith)
 
 -- one word more, for a loop that has come down to k
-pub words-down : (k m : ℕ) (xs : List ℕ) → 0 < k → k ≤ m → m ≤ length xs → wordsFrom (k - 1) m xs ≡ getD xs (k - 1) 0 ∷ wordsFrom k m xs
-words-down k m xs p l h =
+pub words-next : (k m : ℕ) (xs : List ℕ) → 0 < k → k ≤ m → m ≤ length xs → wordsFrom (k - 1) m xs ≡ getD xs (k - 1) 0 ∷ wordsFrom k m xs
+words-next k m xs p l h =
     let e : suc (k - 1) ≡ k = omega arith in
-    words-next (k - 1) m xs (omega arith) h ∙ ap (λ (j : ℕ). getD xs (k - 1) 0 ∷ wordsFrom j m xs) e
+    words-cons (k - 1) m xs (omega arith) h ∙ ap (λ (j : ℕ). getD xs (k - 1) 0 ∷ wordsFrom j m xs) e

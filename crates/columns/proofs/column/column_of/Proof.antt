@@ -7,7 +7,7 @@ use lib.Seq.{take-all}
 use Rattle.cycle.proofs.Bits.{bit-lt}
 use Rattle.tsc.specs.Constants.{mostWords, widestWidth}
 use Rattle.tsc.specs.Columns.{column}
-use Rattle.words.proofs.Words.{wordsFrom, words-none, words-down}
+use Rattle.words.proofs.Words.{wordsFrom, words-none, words-next}
 use Rattle.columns.proofs.Placed.{column-few}
 use Rattle.columns.proofs.column.column_of.Statement.{statement}
 use Rattle.columns.proofs.column.column_of.Tie as tie
@@ -61,7 +61,7 @@ unfolding column
 loop-again c =
     let a = c .before .before .before .before .args in
     let l = c .before .before .before .loop in
-    let more = words-down (l .k) mostWords (a .t1 .words) (omega arith) (omega arith) (omega arith) in
+    let more = words-next (l .k) mostWords (a .t1 .words) (omega arith) (omega arith) (omega arith) in
     (omega arith, omega arith, l .inv .2, ap₂ (λ (b d : ℕ). b + 2 * d) (c .bit-of .ensures) (l .inv .3) ∙ ap (column (a .i)) (sym more))
 
 returns : tie.Need-returns Inv-loop μ-loop

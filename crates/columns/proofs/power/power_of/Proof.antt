@@ -6,7 +6,7 @@ use Rattle.cycle.specs.Notation.{iterate}
 use Rattle.cycle.proofs.Iterate.{iterate-mod}
 use Rattle.tsc.specs.Step.{entry}
 use Rattle.tsc.specs.Constants.{mostWords}
-use Rattle.columns.proofs.Powers.{stands, stands-few, stands-next, Filled, filled-none, filled-along, filled-power}
+use Rattle.columns.proofs.Powers.{stands, stands-few, stands-next, Filled, filled-none, filled-next, filled-power}
 use Rattle.columns.proofs.power.power_of.Statement.{statement}
 use Rattle.columns.proofs.power.power_of.Tie as tie
 
@@ -90,7 +90,7 @@ loop-again c =
       omega arith,
       stands-next card (l .counter) (l .inv .2),
       stands-next card (k + l .counter) (l .inv .3) ∙ ap (stands card) e,
-      filled-along card (s .pre .0) (s .pre .1) k (l .counter) (l .power) (l .inv .2) (l .inv .3) (l .inv .4),
+      filled-next card (s .pre .0) (s .pre .1) k (l .counter) (l .power) (l .inv .2) (l .inv .3) (l .inv .4),
     )
 
 returns : tie.Need-returns Inv-loop μ-loop

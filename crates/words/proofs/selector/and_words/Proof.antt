@@ -7,7 +7,7 @@ use lib.ListN.{length, getD}
 use Rattle.tsc.specs.Constants.{mostWords}
 use Rattle.tsc.specs.Selector.{andWords}
 use Rattle.words.proofs.Reduced.{ones-reduced}
-use Rattle.words.proofs.Words.{wordsFrom, words-none, words-down}
+use Rattle.words.proofs.Words.{wordsFrom, words-none, words-next}
 use Rattle.words.proofs.selector.and_words.Statement.{statement}
 use Rattle.words.proofs.selector.and_words.Tie as tie
 
@@ -48,7 +48,7 @@ unfolding andWords
 loop-again c =
     let a = c .before .before .before .before .args in
     let l = c .before .before .loop in
-    let more = words-down (l .k) (a .m) (a .t3 .words) (omega arith) (omega arith) (omega arith) in
+    let more = words-next (l .k) (a .m) (a .t3 .words) (omega arith) (omega arith) (omega arith) in
     (omega arith, omega arith, l .inv .2, ap (bitAnd (getD (a .t3 .words) (l .k - 1) 0)) (l .inv .3) ∙ ap (andWords (a .n)) (sym more))
 
 returns : tie.Need-returns Inv-loop μ-loop

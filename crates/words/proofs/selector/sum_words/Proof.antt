@@ -8,7 +8,7 @@ use lib.ListN.{length, getD}
 use Rattle.tsc.specs.Constants.{mostWords}
 use Rattle.tsc.specs.Selector.{sumWords}
 use Rattle.cycle.proofs.Bits.{mod-pow-mod}
-use Rattle.words.proofs.Words.{wordsFrom, words-none, words-down}
+use Rattle.words.proofs.Words.{wordsFrom, words-none, words-next}
 use Rattle.words.proofs.selector.sum_words.Statement.{statement}
 use Rattle.words.proofs.selector.sum_words.Tie as tie
 
@@ -49,7 +49,7 @@ unfolding sumWords
 loop-again c =
     let a = c .before .before .before .before .args in
     let l = c .before .before .before .loop in
-    let more = words-down (l .k) (a .m) (a .t3 .words) (omega arith) (omega arith) (omega arith) in (
+    let more = words-next (l .k) (a .m) (a .t3 .words) (omega arith) (omega arith) (omega arith) in (
       omega arith,
       omega arith,
       l .inv .2,
