@@ -4,8 +4,8 @@ use Prim.Native.Nat.{ℕ}
 use Rattle.tsc.specs.declared.Card.{Card}
 use lib.ListN.{getD}
 use Rattle.card_format.proofs.Writing.{numbersOf-single}
-use Rattle.card_write.proofs.write.number_of.Statement.{statement}
-use Rattle.card_write.proofs.write.number_of.Tie as tie
+use Rattle.card_encode.proofs.values.number_of.Statement.{statement}
+use Rattle.card_encode.proofs.values.number_of.Tie as tie
 
 -- the array of a card's numbers
 abbrev numbersArray : Card → List ℕ

@@ -9,8 +9,8 @@ use Rattle.cycle.proofs.Every.{every-at, every-not}
 use Rattle.card_format.specs.Fields.{field, fieldCount, allowed}
 use Rattle.card_format.specs.Writing.{numbersOf, inRange}
 use Rattle.card_format.proofs.Writing.{words-allowed}
-use Rattle.card_write.proofs.write.in_range.Statement.{statement}
-use Rattle.card_write.proofs.write.in_range.Tie as tie
+use Rattle.card_encode.proofs.values.in_range.Statement.{statement}
+use Rattle.card_encode.proofs.values.in_range.Tie as tie
 
 abbrev Inv-loop : tie.InvT-loop
 Inv-loop card k₀ k = (k ≤ fieldCount) × (every k (λ j. allowed (field (card .words) j) (numbersOf card j)) ≡ true)

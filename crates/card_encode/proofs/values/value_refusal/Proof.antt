@@ -8,8 +8,8 @@ use Rattle.refusals.specs.Refusals.{firstOf}
 use Rattle.card_format.specs.Writing.{valueChecks}
 use Rattle.card_format.proofs.Writing.{range-formed}
 use borrow.Author.Needs.{needs}
-use Rattle.card_write.proofs.write.value_refusal.Statement.{statement}
-use Rattle.card_write.proofs.write.value_refusal.Tie as tie
+use Rattle.card_encode.proofs.values.value_refusal.Statement.{statement}
+use Rattle.card_encode.proofs.values.value_refusal.Tie as tie
 
 in-range-requires : tie.Need-in-range-requires
 in-range-requires c κs = omega arith

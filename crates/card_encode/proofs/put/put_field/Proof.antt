@@ -10,12 +10,12 @@ use Rattle.tsc.specs.Constants.{mostWords}
 use Rattle.tsc.specs.declared.Card.{Card}
 use Rattle.card_format.specs.Fields.{field, fields, tableBit, extent}
 use Rattle.card_format.specs.Writing.{isWritten, fieldBytes, inRange}
-use Rattle.card_write.specs.LowBytes.{lowBytes}
+use Rattle.card_encode.specs.LowBytes.{lowBytes}
 use Rattle.card_format.proofs.Writing.{range-words, length-fieldBytes, extent-few, fieldBytes-none, fieldBytes-table}
-use Rattle.card_write.proofs.Writer.{fieldBytes-one}
+use Rattle.card_encode.proofs.FieldBytes.{fieldBytes-one}
 use borrow.Author.Needs.{needs}
-use Rattle.card_write.proofs.write.put_field.Statement.{statement}
-use Rattle.card_write.proofs.write.put_field.Tie as tie
+use Rattle.card_encode.proofs.put.put_field.Statement.{statement}
+use Rattle.card_encode.proofs.put.put_field.Tie as tie
 
 -- the table's bytes are its entries
 table-bytes : (card : Card) (k size : ℕ) → k ≡ tableBit → length (card .table) ≡ 2 ^ mostWords → inRange card ≡ true → isWritten card k ≡ true

@@ -5,8 +5,8 @@ use native.Mathlib.Omega.{arith}
 use lib.ListN.{length, getD, set}
 use Rattle.tsc.specs.Constants.{mostWords}
 use Rattle.card_format.proofs.Lists.{over, over-suc, length-over}
-use Rattle.card_write.proofs.write.put_table.Statement.{statement}
-use Rattle.card_write.proofs.write.put_table.Tie as tie
+use Rattle.card_encode.proofs.put.put_table.Statement.{statement}
+use Rattle.card_encode.proofs.put.put_table.Tie as tie
 
 abbrev Inv-loop : tie.InvT-loop
 Inv-loop size part₀ table i₀ part i = (i ≤ size) × (size ≤ 2 ^ mostWords) × (size ≤ length part₀) × (length table ≡ 2 ^ mostWords) × (part ≡ over table part₀ i)

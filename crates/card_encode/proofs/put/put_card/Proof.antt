@@ -8,8 +8,8 @@ use Rattle.tsc.specs.declared.Card.{Card}
 use Rattle.card_format.specs.Fields.{fieldCount}
 use Rattle.card_format.specs.Writing.{fieldBytes, writtenTo, written}
 use Rattle.card_format.proofs.Writing.{lengthTo, length-suc, writtenTo-suc, length-before, length-some}
-use Rattle.card_write.proofs.write.put_card.Statement.{statement}
-use Rattle.card_write.proofs.write.put_card.Tie as tie
+use Rattle.card_encode.proofs.put.put_card.Statement.{statement}
+use Rattle.card_encode.proofs.put.put_card.Tie as tie
 
 -- the fields before field k are written to the front of d
 abbrev Front : Card → List ℕ → List ℕ → ℕ → ℕ → Type 0

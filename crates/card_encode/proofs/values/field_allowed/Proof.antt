@@ -3,8 +3,8 @@ use Prim.Native.Nat.{ℕ}
 use native.Mathlib.Omega.{arith}
 use Rattle.card_format.specs.Fields.{field, allowed}
 use Rattle.card_format.specs.Writing.{numbersOf}
-use Rattle.card_write.proofs.write.field_allowed.Statement.{statement}
-use Rattle.card_write.proofs.write.field_allowed.Tie as tie
+use Rattle.card_encode.proofs.values.field_allowed.Statement.{statement}
+use Rattle.card_encode.proofs.values.field_allowed.Tie as tie
 
 cast-entries-allowed : tie.Need-cast-entries-allowed
 cast-entries-allowed c = omega arith

@@ -3,8 +3,8 @@ use mathlib.Core.Path.{sym, ap, _∙_}
 use mathlib.Core.Bool.{not}
 use Rattle.card_format.specs.Fields.{fields, field}
 use Rattle.card_format.specs.Writing.{numbersOf, isWritten}
-use Rattle.card_write.proofs.write.is_written.Statement.{statement}
-use Rattle.card_write.proofs.write.is_written.Tie as tie
+use Rattle.card_encode.proofs.put.is_written.Statement.{statement}
+use Rattle.card_encode.proofs.put.is_written.Tie as tie
 
 cast-is-tsc1 : tie.Need-cast-is-tsc1
 cast-is-tsc1 c = omega arith

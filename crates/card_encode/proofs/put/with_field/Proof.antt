@@ -6,8 +6,8 @@ use borrow.Author.Tests.{not-true, not-false}
 use lib.Pow.{pow-mono}
 use Rattle.card_format.proofs.Fields.{one-shifted}
 use Rattle.card_format.proofs.Writing.{length-fieldBytes, extent-few}
-use Rattle.card_write.proofs.write.with_field.Statement.{statement}
-use Rattle.card_write.proofs.write.with_field.Tie as tie
+use Rattle.card_encode.proofs.put.with_field.Statement.{statement}
+use Rattle.card_encode.proofs.put.with_field.Tie as tie
 
 is-written-requires : tie.Need-is-written-requires
 is-written-requires c κs = omega arith

@@ -10,8 +10,8 @@ use Rattle.card_format.specs.Fields.{fieldCount}
 use Rattle.card_format.specs.Writing.{isWritten, fieldBytes, mapTo, writtenTo}
 use Rattle.card_format.proofs.Bytes.{map-lt}
 use Rattle.card_format.proofs.Writing.{lengthTo, length-suc, length-before, written-short}
-use Rattle.card_write.proofs.write.outline_of.Statement.{statement}
-use Rattle.card_write.proofs.write.outline_of.Tie as tie
+use Rattle.card_encode.proofs.put.outline_of.Statement.{statement}
+use Rattle.card_encode.proofs.put.outline_of.Tie as tie
 
 map-suc : (card : Card) (k : ℕ) → mapTo card (k + 1) ≡ mapTo card k + cond (isWritten card k) (2 ^ k) 0
 unfolding sum

@@ -1,0 +1,2 @@
+-- Laws for the fields' bytes.
+pub mod FieldBytes

@@ -1,2 +1,0 @@
--- Laws for the writer.
-pub mod Writer
