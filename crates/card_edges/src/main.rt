@@ -3,6 +3,7 @@ ghost use mathlib.Core.Path.{_≡_};
 ghost use Rattle.card_format.specs.Writing.{pageAfter, pageRewritten};
 use card_format::Written;
 use tsc::Card;
+use tsc::TABLE_SIZE;
 
 // Bytes in hex, a space before each.
 fn print_bytes(bytes: &[u8]) {
@@ -25,8 +26,8 @@ fn verdict(name: &[u8], card: &[u8]) {
     print_verdict(card);
 }
 
-// The rows P1 to P12.
-fn rows() {
+// The rows P1 to P6.
+fn first_rows() {
     verdict(b"P1", b"\x00");
     verdict(
         b"P2",
@@ -36,6 +37,10 @@ fn rows() {
     verdict(b"P4", b"\x01\x03");
     verdict(b"P5", b"\x02\x1c");
     verdict(b"P6", b"\x02\x1d");
+}
+
+// The rows P7 to P12.
+fn last_rows() {
     verdict(b"P7", b"\x05\x02\x00\x01\x02\x03");
     verdict(b"P8", b"\x05\x02\x00\x01\x02\x03\x00");
     verdict(b"P9", b"\x08\x01");
@@ -44,13 +49,17 @@ fn rows() {
     verdict(b"P12", b"\x10\x00");
 }
 
-// The other cards of document 01, At the edges.
-fn others() {
+// The other cards of document 01, At the edges: sizes.
+fn other_sizes() {
     verdict(b"words 1", b"\x01\x01");
     verdict(b"words 5", b"\x01\x05");
     verdict(b"words 4", b"\x01\x04");
     verdict(b"width 33", b"\x02\x21");
     verdict(b"width 32", b"\x02\x20");
+}
+
+// And the program's card, with other constants and another table.
+fn other_constants() {
     verdict(
         b"program's card",
         b"\x27\x02\x02\x01\x02\x03\x00\x01\x00\x00\x00",
@@ -66,12 +75,16 @@ fn others() {
     verdict(b"no cycle", b"\x05\x02\x01\x02\x03\x03");
 }
 
-// In which order the checks run.
+// In which order the checks run: the table's place.
 fn order() {
     verdict(b"filter before sum term", b"\xc0\x03");
     verdict(b"short before range", b"\x05\x03\x09");
     verdict(b"no table, byte left", b"\x01\x03\xff");
     verdict(b"no table before power", b"\x09\x03");
+}
+
+// And the width before it, and idle before wide.
+fn order_of_width() {
     verdict(b"width before table, short", b"\x03\x03");
     verdict(b"width before table, idle", b"\x03\x03\x20");
     verdict(b"width before table, range", b"\x03\x03\x21");
@@ -79,8 +92,8 @@ fn order() {
     verdict(b"wide by absence", b"\x02\x08");
 }
 
-// Values at their bounds.
-fn values() {
+// Values at their bounds: table, constant and powers.
+fn powers() {
     verdict(
         b"TSC-1 table",
         b"\x04\x03\x05\x09\x0d\x01\x06\x0b\x0f\x04\x00\x08\x0e\x0a\x07\x02\x0c",
@@ -91,6 +104,10 @@ fn values() {
     verdict(b"a = 255", b"\x08\xff");
     verdict(b"b = 1", b"\x10\x01");
     verdict(b"b = 254", b"\x10\xfe");
+}
+
+// Filter and sum term.
+fn filters() {
     verdict(b"filter 1", b"\x40\x01");
     verdict(b"filter 2", b"\x40\x02");
     verdict(b"filter 3", b"\x40\x03");
@@ -149,7 +166,7 @@ fn refused(name: &[u8], values: Card) {
     written(name, values, &mut page);
 }
 
-// Accepted cards written again, and pages that are just long enough or not.
+// Accepted cards written again.
 fn pages() {
     let mut page = [0xee; 28];
     again(b"P1 again", b"\x00", &mut page);
@@ -165,6 +182,10 @@ fn pages() {
         b"\x27\x02\x02\x01\x02\x03\x00\x01\x00\x00\x00",
         &mut page,
     );
+}
+
+// Pages that are just long enough, or not.
+fn short_pages() {
     let mut exact = [0xee; 11];
     again(
         b"program's card, page of 11",
@@ -181,8 +202,8 @@ fn pages() {
     again(b"P1, no page", b"\x00", &mut none[..0]);
 }
 
-// The program's card with other words and other widths.
-fn sizes(values: Card) {
+// The program's card with other words.
+fn words_refused(values: Card) {
     let mut c = values;
     c.words = 0;
     refused(b"words 0", c);
@@ -192,7 +213,11 @@ fn sizes(values: Card) {
     refused(b"words 5", c);
     c.words = 255;
     refused(b"words 255", c);
-    c = values;
+}
+
+// With other widths.
+fn widths_refused(values: Card) {
+    let mut c = values;
     c.width = 1;
     refused(b"width 1", c);
     c.width = 33;
@@ -201,8 +226,8 @@ fn sizes(values: Card) {
     refused(b"width 255", c);
 }
 
-// And with one other value each.
-fn others_written(values: Card) {
+// And with one other value each, out of range.
+fn values_refused(values: Card) {
     let mut c = values;
     c.table[4] = 1;
     refused(b"unused entry 1", c);
@@ -215,11 +240,15 @@ fn others_written(values: Card) {
     c = values;
     c.sum_term = 2;
     refused(b"sum term 2", c);
-    c = values;
+}
+
+// Or in range, and refused by 6 to 9.
+fn periods_refused(values: Card) {
+    let mut c = values;
     c.constant = 4;
     refused(b"constant 4", c);
     c = values;
-    c.table = [0; 16];
+    c.table = [0; TABLE_SIZE];
     refused(b"table of zeros", c);
     c = values;
     c.constant = 2;
@@ -232,19 +261,31 @@ fn others_written(values: Card) {
     refused(b"b = 1", c);
 }
 
-fn main() {
-    rows();
-    others();
-    order();
-    values();
-    long_cards();
-    pages();
+// Values that the writer refuses.
+fn written_values() {
     let found = card_read::read::read(b"\x27\x02\x02\x01\x02\x03\x00\x01\x00\x00\x00");
     let values = found.card;
-    sizes(values);
-    others_written(values);
+    words_refused(values);
+    widths_refused(values);
+    values_refused(values);
+    periods_refused(values);
     let four = card_read::read::read(b"\x00");
     let mut zeros = four.card;
-    zeros.table = [0; 16];
+    zeros.table = [0; TABLE_SIZE];
     refused(b"words 4, table of zeros", zeros);
+}
+
+fn main() {
+    first_rows();
+    last_rows();
+    other_sizes();
+    other_constants();
+    order();
+    order_of_width();
+    powers();
+    filters();
+    long_cards();
+    pages();
+    short_pages();
+    written_values();
 }
