@@ -1,27 +1,21 @@
 -- What the calls answer and what the lent state words are after them (document 01, Refusal table, and Step, word and pick), for any bytes and any words.
 use mathlib.Core.Path.{_≡_}
-use mathlib.Core.Bool.{cond, not}
-use mathlib.Core.List.{List, [], _∷_, _++_}
-use Prim.Native.Nat.{ℕ, _^_}
-use lib.Dec.{eqb, ltb}
-use lib.ListN.{length, getD}
-use Rattle.cycle.specs.Notation.{every}
+use mathlib.Core.Bool.{cond}
+use mathlib.Core.List.{List, [], _++_}
+use Prim.Native.Nat.{ℕ}
+use lib.Dec.{eqb}
 use Rattle.tsc.specs.declared.Card.{Card}
 use Rattle.tsc.specs.Coverage.{IsState, stepBack}
 use Rattle.tsc.specs.Step.{step}
 use Rattle.tsc.specs.Word.{word}
-use Rattle.refusals.specs.Refusals.{Check, check, firstOf, wordCount, wordTooWide}
+use Rattle.refusals.specs.Refusals.{Check, firstOf}
 use Rattle.card_format.specs.Reading.{cardOf, noCard}
 use Rattle.card_format.specs.Verdict.{cardChecks}
 use Rattle.generator.specs.declared.call.Opened.{Opened}
 use Rattle.generator.specs.declared.Draw.{Draw}
 use Rattle.generator.specs.declared.Draw.the-variants.{Word, Refused}
 use Rattle.stepping.specs.State.{holding}
-
--- conditions 10 and 11: the state has not m words; a word is 2^n or more
-unfoldable pub stateChecks : Card → List ℕ → List Check
-stateChecks card xs =
-    check wordCount (not (eqb (length xs) (card .words))) ∷ check wordTooWide (not (every (length xs) (λ k. ltb (getD xs k 0) (2 ^ card .width)))) ∷ []
+use Rattle.state_words.specs.Checks.{stateChecks}
 
 -- what each call looks at: 1 to 9, then 10 and 11
 abbrev pub callChecks : List ℕ → List ℕ → List Check

@@ -5,7 +5,7 @@ ghost use lib.ListN.{length, take};
 ghost use Rattle.tsc.specs.Constants.{mostWords};
 ghost use Rattle.refusals.specs.Refusals.{firstOf};
 ghost use Rattle.stepping.specs.State.{holding};
-ghost use Rattle.generator.specs.Calls.{stateChecks};
+ghost use Rattle.state_words.specs.Checks.{stateChecks};
 use card_fields::field;
 use tsc::Card;
 use tsc::MOST_WORDS;

@@ -9,9 +9,9 @@ use lib.ListN.{length, getD}
 use Rattle.cycle.specs.Notation.{every}
 use Rattle.cycle.proofs.Every.{every-not, every-of, extend}
 use Rattle.refusals.specs.Refusals.{firstOf, wordTooWide}
-use Rattle.generator.specs.Calls.{stateChecks}
-use Rattle.generator.proofs.lent.state_refusal.Statement.{statement}
-use Rattle.generator.proofs.lent.state_refusal.Tie as tie
+use Rattle.state_words.specs.Checks.{stateChecks}
+use Rattle.state_words.proofs.lent.state_refusal.Statement.{statement}
+use Rattle.state_words.proofs.lent.state_refusal.Tie as tie
 
 abbrev Inv-loop : tie.InvT-loop
 Inv-loop state n k₀ k = (k ≤ length state) × ((j : ℕ) → j < k → ltb (getD state j 0) (2 ^ n) ≡ true)

@@ -7,8 +7,8 @@ use Rattle.tsc.specs.declared.State.{State}
 use Rattle.tsc.specs.Constants.{mostWords}
 use Rattle.card_format.proofs.Lists.{over, over-suc}
 use Rattle.stepping.proofs.Holding.{over-holding}
-use Rattle.generator.proofs.lent.load.Statement.{statement}
-use Rattle.generator.proofs.lent.load.Tie as tie
+use Rattle.state_words.proofs.lent.load.Statement.{statement}
+use Rattle.state_words.proofs.lent.load.Tie as tie
 
 abbrev Inv-loop : tie.InvT-loop
 Inv-loop state s₀ k₀ s k = (k ≤ length state) × (length state ≤ mostWords) × (s .words ≡ over state (replicate mostWords 0) k)

@@ -7,8 +7,8 @@ use lib.ListN.{length, getD, set, take, length-set}
 use lib.Seq.{drop-length}
 use Rattle.tsc.specs.Constants.{mostWords}
 use Rattle.card_format.proofs.Lists.{over, over-suc}
-use Rattle.generator.proofs.lent.store.Statement.{statement}
-use Rattle.generator.proofs.lent.store.Tie as tie
+use Rattle.state_words.proofs.lent.store.Statement.{statement}
+use Rattle.state_words.proofs.lent.store.Tie as tie
 
 abbrev Inv-loop : tie.InvT-loop
 Inv-loop state₀ s k₀ state k =

@@ -1,0 +1,2 @@
+-- Refusals 10 and 11.
+pub mod Checks
