@@ -13,6 +13,11 @@ from tiedraw import Refusal, Refused, Values
 PROGRAM = bytes.fromhex("27 02 02 01 02 03 00 01 00 00 00")
 
 
+def shout(name):
+    """camelCase as SHOUTED_CASE."""
+    return re.sub(r"(?<=[a-z])(?=[A-Z])", "_", name).upper()
+
+
 class Document(unittest.TestCase):
     def refused(self, refusal, call, *arguments):
         with self.assertRaises(Refused) as caught:
@@ -86,17 +91,20 @@ class Document(unittest.TestCase):
         root = pathlib.Path(__file__).resolve().parents[2]
         header = re.findall(r"TIEDRAW_(\w+) = (\d+),? +/\* ([a-z ]+):", (root / "include/tiedraw.h").read_text())
         self.assertEqual([(name, int(number), word) for name, number, word in header], here)
-        rattle = (root / "crates/card_format/src/refusal.rt").read_text()
+        rattle = (root / "crates/refusals/src/lib.rt").read_text()
         constants = re.findall(r"// ([a-z ]+)\npub const (\w+): u8 = (\d+);", rattle)
         self.assertEqual([(name, int(number), word) for word, name, number in constants], here)
+        specified = (root / "crates/refusals/specs/Refusals.antt").read_text()
+        defined = re.findall(r"\n(\w+) = numbered (\d+) tt +-- ([a-z ]+)\n", specified)
+        self.assertEqual([(shout(name), int(number), word) for name, number, word in defined], here)
         rust = re.findall(r'    \((\w+), "([a-z ]+)", "(.*)"\),', (root / "bindings/rust/src/refusal.rs").read_text())
-        shouted = [(re.sub(r"(?<=[a-z])(?=[A-Z])", "_", name).upper(), word, when) for name, word, when in rust]
+        shouted = [(shout(name), word, when) for name, word, when in rust]
         self.assertEqual(shouted, [(refusal.name, refusal.trade_word, refusal.when) for refusal in Refusal])
 
     def test_the_longest_card_is_the_same_in_every_language(self):
         root = pathlib.Path(__file__).resolve().parents[2]
-        for file in ["include/tiedraw.h", "bindings/rust/src/lib.rs"]:
-            numbers = re.findall(r"MOST_CARD_BYTES[^\d\n]* (\d+)", (root / file).read_text())
+        for file in ["include/tiedraw.h", "bindings/rust/src/lib.rs", "crates/card_format/specs/Fields.antt"]:
+            numbers = re.findall(r"(?:MOST_CARD_BYTES|mostCardBytes)[^\d\n]* (\d+)", (root / file).read_text())
             self.assertEqual(numbers, [str(tiedraw.MOST_CARD_BYTES)])
 
 
