@@ -1,7 +1,7 @@
 -- Laws of the fields: those of one number, the table, and tests of whole lists by their entries.
 use mathlib.Core.Path.{_≡_, refl, sym, ap, ap₂, _∙_}
 use mathlib.Core.Logic.{_≢_}
-use mathlib.Core.Bool.{Bool, true, false, cond, not, _&&_, and-eq-true-iff, true≢false, and-true}
+use mathlib.Core.Bool.{Bool, true, false, cond, not, _&&_, and-eq-true-iff, true≢false}
 use mathlib.Core.List.{List, [], _∷_}
 use Prim.Native.Nat.{ℕ, zero, suc, _+_, _-_, _*_, _%_, _^_, _≤_, _<_}
 use native.Mathlib.Nat.{one-mul, mul-one, zero-mul, zero-add, add-zero, mod-eq-of-lt, suc-inj}
@@ -11,7 +11,7 @@ use borrow.Author.Tests.{leb-true, le-leb, lt-ltb, le-ltb, eq-eqb, eqb-true}
 use lib.Dec.{eqb, leb, ltb}
 use lib.ListN.{length, getD, take, drop, replicate, length-drop, length-replicate, getD-replicate}
 use lib.Pow.{pow-pos, pow-lt, pow-mono}
-use lib.Seq.{length-take-le, getD-take, getD-drop, getD-set-other}
+use lib.Seq.{length-take-le, getD-take, getD-drop}
 use Rattle.cycle.specs.Notation.{sum, tabulate}
 use Rattle.cycle.proofs.Digits.{tabulate-ext, tabulate-getD}
 use Rattle.cycle.proofs.Sum.{sum-ext}

@@ -6,9 +6,9 @@ use mathlib.Core.List.{List, [], _∷_, _++_, append-assoc, append-nil}
 use Prim.Native.Nat.{ℕ, zero, suc, _+_, _-_, _^_, _≤_, _<_}
 use native.Mathlib.Nat.{le-of-eq}
 use native.Mathlib.Omega.{arith}
-use borrow.Author.Tests.{ltb-true, ltb-false, lt-ltb, le-ltb, leb-true, eqb-false, eq-eqb, ne-eqb, not-true, not-false}
-use lib.Dec.{eqb, leb, ltb, lit<}
-use lib.ListN.{length, getD, take, drop, length-append, length-drop, length-replicate, take-append-drop}
+use borrow.Author.Tests.{ltb-true, ltb-false, lt-ltb, le-ltb, eqb-false, eq-eqb, ne-eqb, not-true, not-false}
+use lib.Dec.{eqb, ltb, lit<}
+use lib.ListN.{length, getD, take, drop, length-drop, length-replicate, take-append-drop}
 use lib.Pow.{pow-mono}
 use lib.Seq.{length-take-le, getD-drop, take-at, take-all, take-suc, take-add, drop-at}
 use Rattle.cycle.specs.Notation.{sum, every, tabulate}
@@ -19,7 +19,7 @@ use Rattle.tsc.specs.declared.Card.{Card}
 use Rattle.tsc.specs.Constants.{mostWords, defaultWords}
 use Rattle.card_format.specs.declared.Written.the-variants.{Length, Refused}
 use Rattle.refusals.specs.Refusals.{check, firstOf, NoneApplies, tableMissing}
-use Rattle.card_format.specs.Fields.{Field, Bytes, fields, field, fieldCount, mostCardBytes, tableBit, extent, allowed, same}
+use Rattle.card_format.specs.Fields.{Bytes, fields, field, fieldCount, mostCardBytes, tableBit, extent, allowed, same}
 use Rattle.card_format.specs.Reading.{present, offset, valuesAt, wordsOf, values, value, padded, cardFrom, cardOf, partChecks, fieldChecks, checksTo, constantCheck, formChecks, SoundForm}
 use Rattle.card_format.specs.Verdict.{periodChecks, cardChecks, verdict}
 use Rattle.card_format.specs.Writing.{numbersOf, isWritten, fieldBytes, writtenTo, written, unusedClear, inRange, valueChecks, writeChecks, writing, pageAfter, rewriteChecks, rewriting, pageRewritten}
@@ -28,7 +28,7 @@ use Rattle.card_format.proofs.Sound.{Fitting, offset-suc, sound-fitting
 use Rattle.card_format.proofs.Fields.{by-table, count-one, same-refl, same-true}
 use Rattle.card_format.proofs.Verdict.{words-sound}
 use Rattle.card_format.proofs.Writing.{numbersOf-single, range-words, present-short, length-writtenTo}
-use Rattle.card_format.proofs.Bytes.{length-one, byte-lt, length-bytesOf, read-differs, read-bytes, written-read, bit-map, map-bit}
+use Rattle.card_format.proofs.Bytes.{length-one, byte-lt, read-differs, read-bytes, written-read, bit-map, map-bit}
 
 -- ---- the numbers of a card: one in each field but the table
 

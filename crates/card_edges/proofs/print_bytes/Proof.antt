@@ -3,10 +3,6 @@ use native.Mathlib.Omega.{arith}
 use borrow.Author.Needs.{needs}
 use Rattle.card_edges.proofs.print_bytes.Statement.{statement}
 use Rattle.card_edges.proofs.print_bytes.Tie as tie
-use Rattle.card_edges.proofs.print_bytes.Reads as reads
-use Rattle.card_edges.proofs.print_bytes.Lts as lts
-use Rattle.io.proofs.print_hex.Reads as print-hex-reads
-use Rattle.io.proofs.write_all.Reads as write-all-reads
 
 abbrev Inv-loop : tie.InvT-loop
 Inv-loop bytes i₀ t3 i-end i = i ≤ i-end

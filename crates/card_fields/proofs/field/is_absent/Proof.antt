@@ -1,4 +1,4 @@
-use mathlib.Core.Path.{_≡_, sym, ap, _∙_}
+use mathlib.Core.Path.{sym, ap, _∙_}
 use mathlib.Core.Bool.{and-true}
 use mathlib.Core.List.{[], _∷_}
 use native.Mathlib.Omega.{arith}

@@ -4,7 +4,7 @@ use Prim.Native.Nat.{ℕ, _+_, _*_, _≤_}
 use native.Mathlib.Omega.{arith}
 use lib.ListN.{length, getD}
 use Rattle.cycle.specs.Notation.{sum}
-use Rattle.card_format.specs.Fields.{field, fields, fieldCount, tableBit, constantBit, extent, numbers}
+use Rattle.card_format.specs.Fields.{field, fields, constantBit, numbers}
 use Rattle.card_format.proofs.Fields.{lowFirst, numbers-one, count-one, size-one}
 use Rattle.card_fields.proofs.number.number_at.Statement.{statement}
 use Rattle.card_fields.proofs.number.number_at.Tie as tie

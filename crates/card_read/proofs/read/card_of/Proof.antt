@@ -1,5 +1,4 @@
 use native.Mathlib.Omega.{arith}
-use borrow.Author.Needs.{needs}
 use Rattle.card_read.proofs.read.card_of.Statement.{statement}
 use Rattle.card_read.proofs.read.card_of.Tie as tie
 use lib.Dec.{lit<}

@@ -1,12 +1,10 @@
 use mathlib.Core.Path.{_≡_, refl, sym, ap, _∙_, subst}
 use mathlib.Core.Bool.{false}
-use mathlib.Core.Logic.{_≢_}
 use mathlib.Core.List.{List}
 use Prim.Native.Nat.{ℕ, _+_, _-_, _<_, _≤_}
 use native.Mathlib.Omega.{arith}
-use lib.Bits.{bitAnd}
 use lib.Count.{ones, ones-le, trailingZeros, trailing-le}
-use lib.ListN.{length, getD, take, drop}
+use lib.ListN.{getD, drop}
 use Rattle.cycle.specs.Notation.{tabulate}
 use Rattle.tsc.specs.declared.Card.{Card}
 use Rattle.refusals.specs.Refusals.{firstOf}
@@ -16,7 +14,6 @@ use Rattle.card_format.specs.Fields.{field, fields, fieldCount}
 use Rattle.card_format.specs.Reading.{formChecks}
 use Rattle.card_format.proofs.Lists.{part-rest}
 use Rattle.card_fields.proofs.Arrays.{arrayOf}
-use Rattle.card_read.specs.declared.read.Values.{Values}
 use Rattle.card_read.specs.FieldRead.{fieldRead, missing}
 use Rattle.card_read.proofs.Map.{lowest-one, left-all, ones-none, ones-some}
 use Rattle.card_read.proofs.Reader.{Reached, Rest, reached-map, rest-gap, rest-here, rest-next, rest-refused, words-few, told-end, end-reached, told-empty, card-read, reading-refused, reading-accepted, byte-values}
