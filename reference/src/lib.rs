@@ -4,12 +4,16 @@
 //! Cycle T-functions") defines TSC-1 and TSC-2; document 01, the scope, widens the sizes and has
 //! the card and the refusal numbers. Kept plain: column by column, as document 002 (12) says.
 
+pub mod cases;
 pub mod pick;
+pub mod replay;
 
 /// The table of TSC-1, document 002 (14).
 pub const TSC1_TABLE: [u8; 16] = [3, 5, 9, 13, 1, 6, 11, 15, 4, 0, 8, 14, 10, 7, 2, 12];
 /// The table of TSC-2, document 002 (19).
 pub const TSC2_TABLE: [u8; 16] = [5, 2, 11, 12, 13, 4, 3, 14, 15, 8, 1, 6, 7, 10, 9, 0];
+/// The entries of the array in which the writer takes a table, 2^m for the largest m.
+pub const TABLE_ENTRIES: usize = 16;
 /// The constant C of TSC-1, document 002 (13).
 pub const TSC1_CONSTANT: u32 = 0x1248_8421;
 
@@ -297,6 +301,24 @@ fn accept_call(card: &[u8], state: &[u32]) -> Result<Card, u8> {
     Ok(card)
 }
 
+/// Writes a card to the front of the page and answers its length, or a refusal number with the
+/// page unchanged: 2, 6, 7, 8, 9, then 16. The table is the array of 16 entries, those from 2^m on
+/// 0; a table of any other length is 2.
+pub fn call_write(values: &Card, page: &mut [u8]) -> Result<usize, u8> {
+    if !(2..=4).contains(&values.words) || values.table.len() != TABLE_ENTRIES {
+        return Err(2);
+    }
+    let mut card = values.clone();
+    let unused = card.table.split_off(1 << card.words);
+    if unused.iter().any(|&entry| entry != 0) {
+        return Err(2);
+    }
+    let bytes = write(&card)?;
+    let place = page.get_mut(..bytes.len()).ok_or(16)?;
+    place.copy_from_slice(&bytes);
+    Ok(bytes.len())
+}
+
 /// Steps the state and answers its word, or a refusal number with the state unchanged.
 pub fn call_draw(card: &[u8], state: &mut [u32]) -> Result<u32, u8> {
     let card = accept_call(card, state)?;
@@ -320,7 +342,7 @@ pub fn call_step_back(card: &[u8], state: &mut [u32]) -> u8 {
     0
 }
 
-/// Input numbers for the tests and the vectors: xorshift32, the new x is the answer.
+/// Input numbers for the tests and the cases: xorshift32, the new x is the answer.
 pub fn next(x: &mut u32) -> u32 {
     *x ^= *x << 13;
     *x ^= *x >> 17;
@@ -331,6 +353,7 @@ pub fn next(x: &mut u32) -> u32 {
 #[cfg(test)]
 mod tests {
     use super::*;
+    use crate::cases::random_card;
 
     const PROGRAM: &str = "27 02 02 01 02 03 00 01 00 00 00"; // document 01, The program
     const TSC2: &str = "74 05 02 0b 0c 0d 04 03 0e 0f 08 01 06 07 0a 09 00 00 01 00 00 00 02";
@@ -338,24 +361,6 @@ mod tests {
     fn hex(text: &str) -> Vec<u8> {
         let byte = |two| u8::from_str_radix(two, 16).unwrap();
         text.split_whitespace().map(byte).collect()
-    }
-
-    /// A card that the check accepts; the swaps (Sattolo) make a random ring of the table.
-    fn random_card(words: u8, width: u8, x: &mut u32) -> Card {
-        let mut table: Vec<u8> = (0..1 << words).collect();
-        for place in (1..table.len()).rev() {
-            table.swap(place, next(x) as usize % place);
-        }
-        Card {
-            words,
-            width,
-            table,
-            odd_power: next(x) as u8 | 1,
-            even_power: next(x) as u8 & 254,
-            constant: next(x) & mask(width) | 1,
-            filter: 1 + (next(x) % 2) as u8,
-            sum_term: (next(x) % 2) as u8,
-        }
     }
 
     /// True when the N states from zero are all different and state N is zero again.

@@ -1,0 +1,3 @@
+pub mod Text
+pub mod Numbers
+pub mod Lists

@@ -1,0 +1,4 @@
+// Cases as text: a line's fields, one blank apart, and the numbers in a field. What they are read as is in specs/.
+pub mod line;
+pub mod list;
+pub mod number;

@@ -1,0 +1,7 @@
+//! Prints the seeded cases for `replay`; see the module `cases`.
+
+use std::io::{stdout, Write};
+
+fn main() -> std::io::Result<()> {
+    stdout().write_all(&reference::cases::cases())
+}

@@ -1,0 +1,255 @@
+//! Seeded cases for `replay`, always the same ones, in sections that each open with a comment.
+//!
+//! A module each has the walks (`step`, `back`, `draw`, `words`), the picks, the cards (`check`,
+//! `read`), the writer (`write`) and the form of a line. States that go on from case to case come
+//! from this crate's own calls.
+
+mod cards;
+mod picks;
+mod syntax;
+mod walks;
+mod writes;
+
+use crate::{mask, next, Card};
+
+/// Document 01's cards P1 and P2 and the program's, in hex.
+const TSC1: &str = "00";
+const TSC2: &str = "7405020b0c0d04030e0f080106070a0900000100000002";
+const PROGRAM: &str = "2702020102030001000000";
+/// A card with every field: 3 words of 17 bits.
+const FULL: &str = "ff031105030006010702040506452301000200";
+
+/// A card for each refusal from 1 to 9, and some more of 1, 8 and 9.
+const REFUSED: [&str; 12] = [
+    "-",
+    "0101",
+    "0801",
+    "0103",
+    "05020001020300",
+    "021c",
+    "050200010203",
+    "2702020102030002000000",
+    "0802",
+    "20218448",
+    "2022844812",
+    "1003",
+];
+
+/// Document 01, At the edges (P1 to P12, then Others) and The program.
+const EXAMPLE_CARDS: &str = "00 7405020b0c0d04030e0f080106070a0900000100000002 - 0103 021c 021d \
+    050200010203 05020001020300 0801 0802 0803 1000 0101 0105 0104 0221 0220 \
+    2702020102030002000000 2702020102030004000000 050201020303 2702020102030001000000";
+const EXAMPLE_CALLS: &str = "\
+draw 00 0,0,0,0
+draw 7405020b0c0d04030e0f080106070a0900000100000002 0,0,0,0
+words 2702020102030001000000 0,0 4
+pick 2702020102030001000000 0,0 7,4 300,300
+pick 2702020102030001000000 0,0 4,7 300,300
+pick 2702020102030001000000 2,3 7,4 300,300
+pick 2702020102030001000000 2,3 4,7 300,300
+pick 2702020102030001000000 0,0 4,7 300,299
+pick 2702020102030001000000 0,0 7,4 299,300
+pick 2702020102030001000000 2,3 4,7 300,299
+pick 2702020102030001000000 2,3 7,4 299,300";
+
+/// Gathers the lines; `next` gives the random numbers.
+struct Maker {
+    x: u32,
+    lines: Vec<u8>,
+}
+
+impl Maker {
+    fn new() -> Maker {
+        Maker {
+            x: 2463534242,
+            lines: Vec::new(),
+        }
+    }
+
+    fn line(&mut self, line: impl AsRef<[u8]>) {
+        self.lines.extend(line.as_ref());
+        self.lines.push(b'\n');
+    }
+
+    fn section(&mut self, content: &str) {
+        self.line(format!("# {content}"));
+    }
+
+    /// A random number below `end`.
+    fn below(&mut self, end: usize) -> usize {
+        next(&mut self.x) as usize % end
+    }
+
+    /// A random number of 32 bits.
+    fn word(&mut self) -> u32 {
+        next(&mut self.x)
+    }
+
+    /// A random number of 8 bits.
+    fn byte(&mut self) -> u8 {
+        next(&mut self.x) as u8
+    }
+
+    /// A random state of this size.
+    fn state(&mut self, words: u8, width: u8) -> Vec<u32> {
+        (0..words).map(|_| self.word() & mask(width)).collect()
+    }
+
+    /// A random card of this size that the check accepts.
+    fn card(&mut self, words: u8, width: u8) -> Card {
+        random_card(words, width, &mut self.x)
+    }
+
+    /// A random card of random size that the check accepts.
+    fn any_card(&mut self) -> Card {
+        let words = 2 + self.below(3) as u8;
+        let width = 2 + self.below(31) as u8;
+        self.card(words, width)
+    }
+}
+
+/// A card that the check accepts; the swaps (Sattolo) make a random ring of the table.
+pub fn random_card(words: u8, width: u8, x: &mut u32) -> Card {
+    let mut table: Vec<u8> = (0..1 << words).collect();
+    for place in (1..table.len()).rev() {
+        table.swap(place, next(x) as usize % place);
+    }
+    Card {
+        words,
+        width,
+        table,
+        odd_power: next(x) as u8 | 1,
+        even_power: next(x) as u8 & 254,
+        constant: next(x) & mask(width) | 1,
+        filter: 1 + (next(x) % 2) as u8,
+        sum_term: (next(x) % 2) as u8,
+    }
+}
+
+/// The bytes of a card given in hex.
+fn bytes(hex: &str) -> Vec<u8> {
+    crate::replay::card(hex.as_bytes()).expect("pairs of hex digits")
+}
+
+fn examples(maker: &mut Maker) {
+    maker.section("document 01's examples");
+    for card in EXAMPLE_CARDS.split(' ') {
+        maker.line(format!("check {card}"));
+        maker.line(format!("read {card}"));
+    }
+    maker.line(EXAMPLE_CALLS);
+}
+
+/// All cases, a line each.
+pub fn cases() -> Vec<u8> {
+    let mut maker = Maker::new();
+    examples(&mut maker);
+    walks::make(&mut maker);
+    picks::make(&mut maker);
+    cards::make(&mut maker);
+    writes::make(&mut maker);
+    syntax::make(&mut maker);
+    maker.lines
+}
+
+#[cfg(test)]
+mod tests {
+    use super::*;
+    use crate::replay::{answer, words};
+
+    /// The cases with their answers, without the comments.
+    fn answered() -> Vec<(String, String)> {
+        let mut rows = Vec::new();
+        for line in cases().split(|&byte| byte == b'\n') {
+            if let Some(answer) = answer(line) {
+                rows.push((String::from_utf8_lossy(line).into_owned(), answer));
+            }
+        }
+        rows
+    }
+
+    /// The rows of one call, without those of the wrong form.
+    fn of_call<'a>(rows: &'a [(String, String)], call: &str) -> Vec<&'a (String, String)> {
+        let legal =
+            |row: &&(String, String)| row.0.split(' ').next() == Some(call) && row.1 != "syntax";
+        rows.iter().filter(legal).collect()
+    }
+
+    #[test]
+    fn every_refusal_of_every_call() {
+        let rows = answered();
+        let card: Vec<u8> = (1..=9).collect();
+        let state: Vec<u8> = (1..=11).collect();
+        for (call, refusals) in [
+            ("check", card),
+            ("read", (1..=6).collect()),
+            ("step", state.clone()),
+            ("back", state.clone()),
+            ("draw", state.clone()),
+            ("words", state),
+            ("pick", (1..=15).collect()),
+            ("write", vec![2, 6, 7, 8, 9, 16]),
+        ] {
+            let word = if call == "check" {
+                "verdict"
+            } else {
+                "refused"
+            };
+            let mut found: Vec<u8> = of_call(&rows, call)
+                .iter()
+                .filter_map(|(_, answer)| answer.strip_prefix(word)?.trim().parse().ok())
+                .filter(|&refusal| refusal != 0)
+                .collect();
+            found.sort();
+            found.dedup();
+            assert_eq!(found, refusals, "{call}");
+        }
+        assert!(rows.iter().all(|(_, answer)| !answer.contains("CHANGED")));
+    }
+
+    /// As many as the programs had that these cases replace.
+    #[test]
+    fn enough_of_each() {
+        let rows = answered();
+        let count = |call: &str, answer: &str| {
+            let rows = of_call(&rows, call).into_iter();
+            rows.filter(|row| row.1.starts_with(answer)).count()
+        };
+        let mut words = 0;
+        for (line, answer) in of_call(&rows, "words") {
+            let wanted: usize = line.split(' ').next_back().unwrap().parse().unwrap();
+            let list = answer
+                .strip_prefix("words ")
+                .map(|rest| rest.split(' ').next().unwrap());
+            if let Some(list) = list {
+                let found = if list == "-" {
+                    0
+                } else {
+                    list.split(',').count()
+                };
+                assert_eq!(found, wanted, "{line}");
+                words += found;
+            }
+        }
+        assert!(words >= 22_880);
+        assert!(count("back", "state") >= 1_912);
+        assert!(count("step", "state") >= 300 && count("draw", "word") >= 300);
+        assert!(of_call(&rows, "pick").len() >= 4_496);
+        assert!(rows.iter().filter(|row| row.1 == "syntax").count() >= 1_000);
+        assert!(cases().len() < 2_200_000);
+    }
+
+    /// The step of each state that a step back answers is the state that was given.
+    #[test]
+    fn steps_back_are_undone() {
+        for (line, back) in of_call(&answered(), "back") {
+            if let Some(before) = back.strip_prefix("state ") {
+                let fields: Vec<&str> = line.split(' ').collect();
+                let word = |digits| u32::from_str_radix(digits, 16).unwrap();
+                let given: Vec<u32> = fields[2].split(',').map(word).collect();
+                let step = answer(format!("step {} {before}", fields[1]).as_bytes());
+                assert_eq!(step, Some(format!("state {}", words(&given))), "{line}");
+            }
+        }
+    }
+}

@@ -1,0 +1,543 @@
+//! Replays cases: a case a line, one answer line for each.
+//!
+//! Lines end with a line feed, which the last may lack. A line that begins with `#` is a comment
+//! and gets no answer. A line is a word and its fields with exactly one blank between them; a
+//! line of any other form is answered by `syntax`. Words are eight hex digits in an answer.
+//!
+//! | case | answer |
+//! |---|---|
+//! | `check CARD` | `verdict V`, 0 or the refusal |
+//! | `read CARD` | `fields m n t0,t1,.. a b 0xC filter sum` |
+//! | `step CARD STATE`, `back CARD STATE` | `state w,..` |
+//! | `draw CARD STATE` | `word W state w,..` |
+//! | `words CARD STATE COUNT` | `words w,.. state w,..` |
+//! | `pick CARD STATE SHOVELS TIMES` | `shovel S ties K state w,..` |
+//! | `write m n T a b C filter sum PAGELEN` | `length L page HEX` |
+//!
+//! All but `check` may answer `refused V` instead, with ` CHANGED` behind it if the lent state or
+//! page isn't as it was. CARD is pairs of hex digits. STATE, SHOVELS, TIMES and T are lists with
+//! commas, STATE in hex, the others in decimal; `-` is an empty string or list. Single numbers are
+//! decimal, C also hex after `0x`. T may have fewer than 16 entries: the rest are 0. A page is
+//! lent with every byte a5 and shown whole.
+
+use crate::pick::call_pick;
+use crate::{
+    accept_call, call_draw, call_step, call_step_back, call_write, check, read, Card, TABLE_ENTRIES,
+};
+use std::fmt::Display;
+
+/// The most bytes of an input.
+pub const MOST_INPUT: usize = 4 << 20;
+/// The most bytes of a card or a page, and the most numbers of a list.
+const MOST_LISTED: usize = 600;
+/// The most words of one case.
+const MOST_WORDS: usize = 1024;
+/// Every byte of a page as it is lent.
+const LENT: u8 = 0xa5;
+
+/// The answer lines for an input; `too long` alone for one of more than `MOST_INPUT` bytes.
+pub fn answers(input: &[u8]) -> String {
+    if input.len() > MOST_INPUT {
+        return "too long\n".to_string();
+    }
+    let mut text = String::new();
+    for line in input.split_inclusive(|&byte| byte == b'\n') {
+        if let Some(answer) = answer(line.strip_suffix(b"\n").unwrap_or(line)) {
+            text.push_str(&answer);
+            text.push('\n');
+        }
+    }
+    text
+}
+
+/// The answer to a line without its line feed; none to a comment.
+pub fn answer(line: &[u8]) -> Option<String> {
+    if line.starts_with(b"#") {
+        return None;
+    }
+    Some(replay(line).unwrap_or_else(|| "syntax".to_string()))
+}
+
+/// The answer to a case, or none if the line hasn't its form. The fields are read before the call.
+fn replay(line: &[u8]) -> Option<String> {
+    let fields: Vec<&[u8]> = line.split(|&byte| byte == b' ').collect();
+    Some(match fields[..] {
+        [b"check", c] => format!("verdict {}", check(&card(c)?)),
+        [b"read", c] => read_answer(&card(c)?),
+        [b"step", c, s] => step_answer(call_step, &card(c)?, &state(s)?),
+        [b"back", c, s] => step_answer(call_step_back, &card(c)?, &state(s)?),
+        [b"draw", c, s] => draw_answer(&card(c)?, &state(s)?),
+        [b"words", c, s, count] => words_answer(&card(c)?, &state(s)?, limited(count, MOST_WORDS)?),
+        [b"pick", c, s, shovels, times] => pick_answer(
+            &card(c)?,
+            &state(s)?,
+            &list(shovels, 10, MOST_LISTED)?,
+            &list(times, 10, MOST_LISTED)?,
+        ),
+        [b"write", m, n, t, a, b, c, filter, sum, page] => {
+            let values = Card {
+                words: number(m, 10)?,
+                width: number(n, 10)?,
+                table: table(t)?,
+                odd_power: number(a, 10)?,
+                even_power: number(b, 10)?,
+                constant: constant(c)?,
+                filter: number(filter, 10)?,
+                sum_term: number(sum, 10)?,
+            };
+            write_answer(&values, limited(page, MOST_LISTED)?)
+        }
+        _ => return None,
+    })
+}
+
+// ---- Fields of a line: none if malformed or too large ----
+
+/// One digit or more and nothing else; leading zeros are fine, the value must fit the type, of 32
+/// bits at most.
+fn number<T: TryFrom<u64>>(field: &[u8], base: u32) -> Option<T> {
+    if field.is_empty() {
+        return None;
+    }
+    let mut value: u64 = 0;
+    for &byte in field {
+        let digit = char::from(byte).to_digit(base)?;
+        value = value.saturating_mul(base.into());
+        value = value.saturating_add(digit.into());
+    }
+    T::try_from(value).ok()
+}
+
+/// A decimal number of at most `most`.
+fn limited(field: &[u8], most: usize) -> Option<usize> {
+    let value = usize::from(number::<u16>(field, 10)?);
+    (value <= most).then_some(value)
+}
+
+/// The constant C: decimal, or hex after `0x`.
+fn constant(field: &[u8]) -> Option<u32> {
+    match field.strip_prefix(b"0x") {
+        Some(digits) => number(digits, 16),
+        None => number(field, 10),
+    }
+}
+
+/// At most `most` numbers with commas between them, or `-`.
+fn list<T: TryFrom<u64>>(field: &[u8], base: u32, most: usize) -> Option<Vec<T>> {
+    if field == b"-" {
+        return Some(Vec::new());
+    }
+    let numbers = field.split(|&byte| byte == b',');
+    let list: Vec<T> = numbers
+        .map(|digits| number(digits, base))
+        .collect::<Option<_>>()?;
+    (list.len() <= most).then_some(list)
+}
+
+/// The words of a state, in hex.
+fn state(field: &[u8]) -> Option<Vec<u32>> {
+    list(field, 16, MOST_LISTED)
+}
+
+/// The array of table entries; those not given are 0.
+fn table(field: &[u8]) -> Option<Vec<u8>> {
+    let mut entries = list(field, 10, TABLE_ENTRIES)?;
+    entries.resize(TABLE_ENTRIES, 0);
+    Some(entries)
+}
+
+/// The bytes of a card: pairs of hex digits, or `-`.
+pub(crate) fn card(field: &[u8]) -> Option<Vec<u8>> {
+    if field == b"-" {
+        return Some(Vec::new());
+    }
+    if field.is_empty() || field.len() % 2 == 1 || field.len() > 2 * MOST_LISTED {
+        return None;
+    }
+    field.chunks(2).map(|pair| number(pair, 16)).collect()
+}
+
+// ---- Texts of bytes and lists, `-` for none; a case takes the same ----
+
+/// Two hex digits for each byte.
+pub fn hex(bytes: &[u8]) -> String {
+    match bytes {
+        [] => "-".to_string(),
+        _ => bytes.iter().map(|byte| format!("{byte:02x}")).collect(),
+    }
+}
+
+/// The numbers with commas between them.
+pub fn commas<T: Display>(numbers: impl IntoIterator<Item = T>) -> String {
+    let texts: Vec<String> = numbers
+        .into_iter()
+        .map(|number| number.to_string())
+        .collect();
+    match &texts[..] {
+        [] => "-".to_string(),
+        _ => texts.join(","),
+    }
+}
+
+/// Words as eight hex digits, with commas between them.
+pub fn words(words: &[u32]) -> String {
+    commas(words.iter().map(|word| format!("{word:08x}")))
+}
+
+// ---- The calls ----
+
+/// A refusal; `kept` says whether what was lent is as it was (document 01, Refusal table).
+fn refused(refusal: u8, kept: bool) -> String {
+    let changed = if kept { "" } else { " CHANGED" };
+    format!("refused {refusal}{changed}")
+}
+
+/// Makes a call on the lent state: its answer and the state after it, or its refusal.
+fn on_state(state: &[u32], call: impl FnOnce(&mut [u32]) -> Result<String, u8>) -> String {
+    let mut lent = state.to_vec();
+    match call(&mut lent) {
+        Ok(answer) => format!("{answer}state {}", words(&lent)),
+        Err(refusal) => refused(refusal, lent == state),
+    }
+}
+
+fn read_answer(card: &[u8]) -> String {
+    match read(card) {
+        Ok(values) => format!(
+            "fields {} {} {} {} {} 0x{:08x} {} {}",
+            values.words,
+            values.width,
+            commas(&values.table),
+            values.odd_power,
+            values.even_power,
+            values.constant,
+            values.filter,
+            values.sum_term
+        ),
+        Err(refusal) => refused(refusal, true),
+    }
+}
+
+/// A step or a step back.
+fn step_answer(call: fn(&[u8], &mut [u32]) -> u8, card: &[u8], state: &[u32]) -> String {
+    on_state(state, |lent| match call(card, lent) {
+        0 => Ok(String::new()),
+        refusal => Err(refusal),
+    })
+}
+
+fn draw_answer(card: &[u8], state: &[u32]) -> String {
+    on_state(state, |lent| {
+        let word = call_draw(card, lent)?;
+        Ok(format!("word {word:08x} "))
+    })
+}
+
+/// A row of draws. A bad card or state is refused also if none is wanted.
+fn words_answer(card: &[u8], state: &[u32], count: usize) -> String {
+    on_state(state, |lent| {
+        accept_call(card, lent)?;
+        let drawn: Result<Vec<u32>, u8> = (0..count).map(|_| call_draw(card, lent)).collect();
+        Ok(format!("words {} ", words(&drawn?)))
+    })
+}
+
+fn pick_answer(card: &[u8], state: &[u32], shovels: &[u16], times: &[u32]) -> String {
+    on_state(state, |lent| {
+        let (shovel, ties) = call_pick(card, lent, shovels, times)?;
+        Ok(format!("shovel {shovel} ties {ties} "))
+    })
+}
+
+fn write_answer(values: &Card, page_length: usize) -> String {
+    let mut page = vec![LENT; page_length];
+    match call_write(values, &mut page) {
+        Ok(length) => format!("length {length} page {}", hex(&page)),
+        Err(refusal) => refused(refusal, page.iter().all(|&byte| byte == LENT)),
+    }
+}
+
+#[cfg(test)]
+mod tests {
+    use super::*;
+
+    fn text(line: &str) -> String {
+        answer(line.as_bytes()).unwrap_or("no answer".to_string())
+    }
+
+    const TSC2: &str = "7405020b0c0d04030e0f080106070a0900000100000002";
+    const PROGRAM: &str = "2702020102030001000000";
+    const TSC1_ENTRIES: &str = "3,5,9,13,1,6,11,15,4,0,8,14,10,7,2,12";
+
+    /// Document 01, At the edges and The program.
+    #[test]
+    fn examples() {
+        let verdicts = "00 0 - 1 0103 4 021c 6 021d 0 050200010203 7 05020001020300 5 0801 3 \
+            0802 9 0803 0 1000 0 0101 2 0105 2 0104 3 0221 2 0220 3 050201020303 7 \
+            2702020102030002000000 8 2702020102030004000000 6 2702020102030001000000 0";
+        let verdicts: Vec<&str> = verdicts.split(' ').collect();
+        for row in verdicts.chunks(2) {
+            assert_eq!(
+                text(&format!("check {}", row[0])),
+                format!("verdict {}", row[1])
+            );
+        }
+        let state = "state ffffffff,12488421,edb77bde,edb77bde";
+        assert_eq!(text("draw 00 0,0,0,0"), format!("word 0b857478 {state}"));
+        assert_eq!(text("step 00 0,0,0,0"), state);
+        assert_eq!(
+            text("back 00 ffffffff,12488421,edb77bde,edb77bde"),
+            "state 00000000,00000000,00000000,00000000"
+        );
+        assert_eq!(
+            text(&format!("draw {TSC2} 0,0,0,0")),
+            "word 02401008 state 00000001,00000000,00000001,00000000"
+        );
+        assert_eq!(
+            text(&format!("words {PROGRAM} 0,0 4")),
+            "words 00000000,00000000,00000003,00000002 state 00000002,00000000"
+        );
+        for (start, list, answer) in [
+            (
+                "0,0",
+                "7,4 300,300",
+                "shovel 4 ties 2 state 00000001,00000002",
+            ),
+            (
+                "2,3",
+                "7,4 300,300",
+                "shovel 7 ties 2 state 00000001,00000001",
+            ),
+            (
+                "0,0",
+                "4,7 300,299",
+                "shovel 7 ties 1 state 00000000,00000000",
+            ),
+        ] {
+            assert_eq!(text(&format!("pick {PROGRAM} {start} {list}")), answer);
+        }
+    }
+
+    #[test]
+    fn fields_and_pages() {
+        let absent = format!("fields 4 32 {TSC1_ENTRIES} 1 2 0x12488421 1 1");
+        assert_eq!(text("read 00"), absent);
+        assert_eq!(
+            text("read 050200010203"),
+            "fields 2 32 0,1,2,3 1 2 0x12488421 1 1"
+        );
+        assert_eq!(
+            text("read 2702020102030001000000"),
+            "fields 2 2 1,2,3,0 1 2 0x00000001 1 1"
+        );
+        assert_eq!(text("read 021c"), "refused 6");
+
+        let write = |values: &str| text(&format!("write {values}"));
+        let absent = format!("4 32 {TSC1_ENTRIES} 1 2 0x12488421 1 1");
+        assert_eq!(write(&format!("{absent} 3")), "length 1 page 00a5a5");
+        assert_eq!(write(&format!("{absent} 1")), "length 1 page 00");
+        assert_eq!(write(&format!("{absent} 0")), "refused 16");
+        let program = "length 11 page 2702020102030001000000";
+        assert_eq!(write("2 2 1,2,3 1 2 1 1 1 11"), program); // the entries not given are 0
+        assert_eq!(
+            write("2 2 1,2,3,0,0,0,0,0,0,0,0,0,0,0,0,0 1 2 1 1 1 11"),
+            program
+        );
+        assert_eq!(write("2 2 1,2,3,0 1 2 1 1 1 12"), format!("{program}a5"));
+        for (values, refusal) in [
+            ("2 2 1,2,3,0 1 2 1 1 1 10", 16),
+            ("2 2 1,2,3,0,0,0,0,0,0,0,0,0,0,0,0,1 1 2 1 1 1 12", 2),
+            ("0 2 1,2,3,0 1 2 1 1 1 12", 2),
+            ("255 255 255 0 255 4294967295 255 255 0", 2),
+            ("2 33 1,2,3,0 1 2 0xffffffff 1 1 12", 2),
+            ("2 2 1,2,3,0 1 2 4 0 1 12", 2),
+            ("2 2 1,2,3,0 1 2 4 1 2 12", 2),
+            ("2 2 1,2,3,4 1 2 4 1 1 12", 2),
+            ("2 2 0,1,2,3 2 1 4 1 1 0", 6),
+            ("2 2 0,1,2,3 2 1 2 1 1 0", 7),
+            ("4 32 - 1 2 1 1 1 26", 7),
+            ("2 2 1,2,3,0 2 1 2 1 1 0", 8),
+            ("2 2 1,2,3,0 0 2 1 1 1 0", 9),
+            ("2 2 1,2,3,0 1 255 1 1 1 0", 9),
+        ] {
+            assert_eq!(write(values), format!("refused {refusal}"), "{values}");
+        }
+    }
+
+    #[test]
+    fn refusals() {
+        let zeros = "state 00000000,00000000,00000000,00000000";
+        assert_eq!(text("words 00 0,0,0,0 0"), format!("words - {zeros}"));
+        assert_eq!(text("words 0802 0,0,0,0 0"), "refused 9");
+        assert_eq!(text("words 00 - 0"), "refused 10");
+        assert_eq!(text("words 021d 0,0,0,20000000 0"), "refused 11");
+        assert_eq!(text("step - -"), "refused 1");
+        assert_eq!(text("back 00 0,0,0"), "refused 10");
+        assert_eq!(text("draw 021d 0,20000000,0,0"), "refused 11");
+        assert_eq!(text("pick 00 0,0,0,0 7 -"), "refused 12");
+        assert_eq!(text("pick 00 0,0,0,0 - -"), "refused 13");
+        assert_eq!(text("pick 00 0,0,0,0 7,7 1,2"), "refused 15");
+        assert_eq!(refused(11, true), "refused 11");
+        assert_eq!(refused(11, false), "refused 11 CHANGED");
+    }
+
+    #[test]
+    fn lines() {
+        let verdict = "verdict 0\n";
+        assert_eq!(answers(b""), "");
+        assert_eq!(answers(b"\n"), "syntax\n");
+        assert_eq!(answers(b"check 00"), verdict);
+        assert_eq!(answers(b"check 00\n"), verdict);
+        assert_eq!(answers(b"check 00\n\n"), "verdict 0\nsyntax\n");
+        assert_eq!(answers(b"#\n# check 00\ncheck 00\n#\xff"), verdict);
+        assert_eq!(
+            answers(b" #\ncheck 00\r\n\xff\ncheck 0802"),
+            "syntax\nsyntax\nsyntax\nverdict 9\n"
+        );
+    }
+
+    #[test]
+    fn input_is_limited() {
+        let mut input = vec![b'#'; MOST_INPUT];
+        input[MOST_INPUT - 9..].copy_from_slice(b"\ncheck 00");
+        assert_eq!(answers(&input), "verdict 0\n");
+        input.push(b'\n');
+        assert_eq!(answers(&input), "too long\n");
+    }
+
+    /// Too few and too many fields, blanks, words.
+    #[test]
+    fn syntax_of_lines() {
+        let lines = "|-| |check|check |check  00| check 00|check 00 |check 00 00|check 00\r|\
+            Check 00|checks 00|00|check\t00|read|step 00|step 00 0 0|words 00 0,0,0,0|\
+            pick 00 0,0,0,0 1|pick 00 0,0,0,0 1 1 1|write 2 2 1,2,3,0 1 2 1 1 1|\
+            write 2 2 1,2,3,0 1 2 1 1 1 12 0|chéck 00|check 00#";
+        for line in lines.split('|') {
+            assert_eq!(text(line), "syntax", "{line}");
+        }
+    }
+
+    /// Whether the line is malformed with each of the forms in place of `@`.
+    fn assert_syntax(line: &str, forms: &str, syntax: bool) {
+        for form in forms.split(' ') {
+            let line = line.replace('@', form);
+            assert_eq!(text(&line) == "syntax", syntax, "{line}");
+        }
+    }
+
+    /// Each decimal field, the largest number it takes, and whether it is a list.
+    const DECIMALS: [(&str, u64, bool); 12] = [
+        ("words 00 0,0,0,0 @", 1024, false),
+        ("pick 00 0,0,0,0 @ 1", 65535, true),
+        ("pick 00 0,0,0,0 1 @", 4294967295, true),
+        ("write @ 2 0 1 2 1 1 1 12", 255, false),
+        ("write 2 @ 0 1 2 1 1 1 12", 255, false),
+        ("write 2 2 @ 1 2 1 1 1 12", 255, true),
+        ("write 2 2 0 @ 2 1 1 1 12", 255, false),
+        ("write 2 2 0 1 @ 1 1 1 12", 255, false),
+        ("write 2 2 0 1 2 @ 1 1 12", 4294967295, false),
+        ("write 2 2 0 1 2 1 @ 1 12", 255, false),
+        ("write 2 2 0 1 2 1 1 @ 12", 255, false),
+        ("write 2 2 0 1 2 1 1 1 @", 600, false),
+    ];
+
+    #[test]
+    fn syntax_of_decimals() {
+        for (line, largest, is_list) in DECIMALS {
+            assert_syntax(
+                line,
+                &format!("0 {largest} 00000000000000000000{largest}"),
+                false,
+            );
+            assert_syntax(line, &format!("{} {largest}0", largest + 1), true);
+            assert_syntax(line, "18446744073709551616 18446744073709551617", true);
+            assert_syntax(
+                line,
+                "+1 -1 + 1, ,1 1,,1 1,- -- a 0x 0X1 1.0 1e1 1_0 1; é1 ١",
+                true,
+            );
+            assert_syntax(line, "- 1,1", !is_list);
+        }
+    }
+
+    #[test]
+    fn syntax_of_hex() {
+        assert_syntax("check @", "- 00 aB Ab 0123456789abcdefABCDEF", false);
+        assert_syntax("check @", "0 000 0x00 0g -- 00, 00,00 +0 00- é", true);
+        assert_syntax(
+            "draw 00 @",
+            "- 0 f,F,00 FFFFFFFF,ffffffff,0000000000000ffffffff",
+            false,
+        );
+        assert_syntax(
+            "draw 00 @",
+            "100000000 0,0,0,100000000 0,10000000000000000",
+            true,
+        );
+        assert_syntax("draw 00 @", "1, ,1 1,,1 1,- -- 0x1 +1 -1 g é", true);
+        let line = "write 2 2 0 1 2 @ 1 1 12";
+        assert_syntax(
+            line,
+            "0x0 0xA 0xa 0xFfffffff 0x0000000000000000000000000000001",
+            false,
+        );
+        assert_syntax(
+            line,
+            "0x100000000 0x10000000000000001 0x+1 0xg 0x- 00x1 x1 ff",
+            true,
+        );
+    }
+
+    #[test]
+    fn syntax_of_tables() {
+        for (count, syntax) in [
+            (0, false),
+            (15, false),
+            (16, false),
+            (17, true),
+            (600, true),
+        ] {
+            let table = commas(vec![0; count]);
+            assert_syntax("write 2 2 @ 1 2 1 1 1 12", &table, syntax);
+        }
+    }
+
+    #[test]
+    fn syntax_of_long_fields() {
+        for (count, syntax) in [(600, false), (601, true)] {
+            let card = "00".repeat(count);
+            let list = commas(vec![1; count]);
+            for line in [
+                format!("check {card}"),
+                format!("read {card}"),
+                format!("step {card} 0,0,0,0"),
+                format!("back 00 {list}"),
+                format!("pick 00 0,0,0,0 {list} -"),
+                format!("pick 00 0,0,0,0 - {list}"),
+            ] {
+                assert_eq!(text(&line) == "syntax", syntax, "{line}");
+            }
+        }
+        let zeros = "0".repeat(5000);
+        let line = format!("words 00 {zeros}1,2,3,4 {zeros}0");
+        assert_eq!(
+            text(&line),
+            "words - state 00000001,00000002,00000003,00000004"
+        );
+    }
+
+    /// Bytes that are no text are malformed in every field and as a line.
+    #[test]
+    fn any_byte_may_come() {
+        for byte in 0..=255u8 {
+            let line = [b"check 0", &[byte][..]].concat();
+            assert_eq!(replay(&line).is_some(), byte.is_ascii_hexdigit(), "{byte}");
+            let line = [b"words 00 0,0,0,0 ", &[byte][..]].concat();
+            assert_eq!(replay(&line).is_some(), byte.is_ascii_digit(), "{byte}");
+            let line = [b"draw 00 1", &[byte][..], b"1"].concat();
+            let legal = byte.is_ascii_hexdigit() || byte == b',';
+            assert_eq!(replay(&line).is_some(), legal, "{byte}");
+            assert_eq!(replay(&[byte]), None);
+        }
+    }
+}
