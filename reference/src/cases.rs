@@ -1,7 +1,7 @@
 //! Seeded cases for `replay`, always the same ones, in sections that each open with a comment.
 //!
-//! A module each has the walks (`step`, `back`, `draw`, `words`), the picks, the cards (`check`,
-//! `read`), the writer (`write`) and the form of a line. States that go on from case to case come
+//! The walks (`step`, `back`, `draw`, `words`), the picks, the cards (`check`, `read`), the writer
+//! (`write`) and the form of a line have a module each. States that go on from case to case come
 //! from this crate's own calls.
 
 mod cards;

@@ -15,10 +15,13 @@
 //! | `write m n T a b C filter sum PAGELEN` | `length L page HEX` |
 //!
 //! All but `check` may answer `refused V` instead, with ` CHANGED` behind it if the lent state or
-//! page isn't as it was. CARD is pairs of hex digits. STATE, SHOVELS, TIMES and T are lists with
-//! commas, STATE in hex, the others in decimal; `-` is an empty string or list. Single numbers are
-//! decimal, C also hex after `0x`. T may have fewer than 16 entries: the rest are 0. A page is
-//! lent with every byte a5 and shown whole.
+//! page isn't as it was. A page is lent with every byte a5 and shown whole.
+//!
+//! CARD is pairs of hex digits, at most 600 of them. STATE, SHOVELS, TIMES and T are lists with
+//! commas: words of 32 bits in hex; decimal numbers of 16, of 32 and of 8 bits. A list has at most
+//! 600 numbers, T at most 16, and its entries not given are 0. `-` is an empty string or list. C
+//! has 32 bits, in decimal or in hex after `0x`; COUNT is at most 1024, PAGELEN at most 600, all
+//! other single numbers have 8 bits. Hex digits may have either case, numbers leading zeros.
 
 use crate::pick::call_pick;
 use crate::{
@@ -265,120 +268,101 @@ mod tests {
         answer(line.as_bytes()).unwrap_or("no answer".to_string())
     }
 
-    const TSC2: &str = "7405020b0c0d04030e0f080106070a0900000100000002";
-    const PROGRAM: &str = "2702020102030001000000";
-    const TSC1_ENTRIES: &str = "3,5,9,13,1,6,11,15,4,0,8,14,10,7,2,12";
+    /// Rows of a line and its answer.
+    fn assert_answers(rows: &str) {
+        for row in rows.lines() {
+            let (line, answer) = row.split_once(" = ").unwrap();
+            assert_eq!(text(line), answer, "{line}");
+        }
+    }
 
-    /// Document 01, At the edges and The program.
+    /// Document 01, At the edges: P1 to P12, then Others; The program.
     #[test]
     fn examples() {
-        let verdicts = "00 0 - 1 0103 4 021c 6 021d 0 050200010203 7 05020001020300 5 0801 3 \
-            0802 9 0803 0 1000 0 0101 2 0105 2 0104 3 0221 2 0220 3 050201020303 7 \
-            2702020102030002000000 8 2702020102030004000000 6 2702020102030001000000 0";
-        let verdicts: Vec<&str> = verdicts.split(' ').collect();
-        for row in verdicts.chunks(2) {
-            assert_eq!(
-                text(&format!("check {}", row[0])),
-                format!("verdict {}", row[1])
-            );
-        }
-        let state = "state ffffffff,12488421,edb77bde,edb77bde";
-        assert_eq!(text("draw 00 0,0,0,0"), format!("word 0b857478 {state}"));
-        assert_eq!(text("step 00 0,0,0,0"), state);
-        assert_eq!(
-            text("back 00 ffffffff,12488421,edb77bde,edb77bde"),
-            "state 00000000,00000000,00000000,00000000"
+        assert_answers(
+            "\
+check 00 = verdict 0
+step 00 0,0,0,0 = state ffffffff,12488421,edb77bde,edb77bde
+draw 00 0,0,0,0 = word 0b857478 state ffffffff,12488421,edb77bde,edb77bde
+back 00 ffffffff,12488421,edb77bde,edb77bde = state 00000000,00000000,00000000,00000000
+check 7405020b0c0d04030e0f080106070a0900000100000002 = verdict 0
+draw 7405020b0c0d04030e0f080106070a0900000100000002 0,0,0,0 = word 02401008 state 00000001,00000000,00000001,00000000
+check - = verdict 1
+check 0103 = verdict 4
+check 021c = verdict 6
+check 021d = verdict 0
+check 050200010203 = verdict 7
+check 05020001020300 = verdict 5
+check 0801 = verdict 3
+check 0802 = verdict 9
+check 0803 = verdict 0
+check 1000 = verdict 0
+check 0101 = verdict 2
+check 0105 = verdict 2
+check 0104 = verdict 3
+check 0221 = verdict 2
+check 0220 = verdict 3
+check 2702020102030002000000 = verdict 8
+check 2702020102030004000000 = verdict 6
+check 050201020303 = verdict 7
+pick 2702020102030001000000 0,0 7,4 300,300 = shovel 4 ties 2 state 00000001,00000002
+pick 2702020102030001000000 2,3 7,4 300,300 = shovel 7 ties 2 state 00000001,00000001
+pick 2702020102030001000000 0,0 4,7 300,299 = shovel 7 ties 1 state 00000000,00000000
+check 2702020102030001000000 = verdict 0
+draw 2702020102030001000000 0,0 = word 00000000 state 00000001,00000002
+words 2702020102030001000000 0,0 4 = words 00000000,00000000,00000003,00000002 state 00000002,00000000",
         );
-        assert_eq!(
-            text(&format!("draw {TSC2} 0,0,0,0")),
-            "word 02401008 state 00000001,00000000,00000001,00000000"
-        );
-        assert_eq!(
-            text(&format!("words {PROGRAM} 0,0 4")),
-            "words 00000000,00000000,00000003,00000002 state 00000002,00000000"
-        );
-        for (start, list, answer) in [
-            (
-                "0,0",
-                "7,4 300,300",
-                "shovel 4 ties 2 state 00000001,00000002",
-            ),
-            (
-                "2,3",
-                "7,4 300,300",
-                "shovel 7 ties 2 state 00000001,00000001",
-            ),
-            (
-                "0,0",
-                "4,7 300,299",
-                "shovel 7 ties 1 state 00000000,00000000",
-            ),
-        ] {
-            assert_eq!(text(&format!("pick {PROGRAM} {start} {list}")), answer);
-        }
     }
 
     #[test]
-    fn fields_and_pages() {
-        let absent = format!("fields 4 32 {TSC1_ENTRIES} 1 2 0x12488421 1 1");
-        assert_eq!(text("read 00"), absent);
-        assert_eq!(
-            text("read 050200010203"),
-            "fields 2 32 0,1,2,3 1 2 0x12488421 1 1"
+    fn fields_and_refusals() {
+        assert_answers(
+            "\
+read 00 = fields 4 32 3,5,9,13,1,6,11,15,4,0,8,14,10,7,2,12 1 2 0x12488421 1 1
+read 050200010203 = fields 2 32 0,1,2,3 1 2 0x12488421 1 1
+read 2702020102030001000000 = fields 2 2 1,2,3,0 1 2 0x00000001 1 1
+read 021c = refused 6
+words 00 0,0,0,0 0 = words - state 00000000,00000000,00000000,00000000
+words 0802 0,0,0,0 0 = refused 9
+words 00 - 0 = refused 10
+words 021d 0,0,0,20000000 0 = refused 11
+step - - = refused 1
+back 00 0,0,0 = refused 10
+draw 021d 0,20000000,0,0 = refused 11
+pick 00 0,0,0,0 7 - = refused 12
+pick 00 0,0,0,0 - - = refused 13
+pick 00 0,0,0,0 7,7 1,2 = refused 15",
         );
-        assert_eq!(
-            text("read 2702020102030001000000"),
-            "fields 2 2 1,2,3,0 1 2 0x00000001 1 1"
-        );
-        assert_eq!(text("read 021c"), "refused 6");
-
-        let write = |values: &str| text(&format!("write {values}"));
-        let absent = format!("4 32 {TSC1_ENTRIES} 1 2 0x12488421 1 1");
-        assert_eq!(write(&format!("{absent} 3")), "length 1 page 00a5a5");
-        assert_eq!(write(&format!("{absent} 1")), "length 1 page 00");
-        assert_eq!(write(&format!("{absent} 0")), "refused 16");
-        let program = "length 11 page 2702020102030001000000";
-        assert_eq!(write("2 2 1,2,3 1 2 1 1 1 11"), program); // the entries not given are 0
-        assert_eq!(
-            write("2 2 1,2,3,0,0,0,0,0,0,0,0,0,0,0,0,0 1 2 1 1 1 11"),
-            program
-        );
-        assert_eq!(write("2 2 1,2,3,0 1 2 1 1 1 12"), format!("{program}a5"));
-        for (values, refusal) in [
-            ("2 2 1,2,3,0 1 2 1 1 1 10", 16),
-            ("2 2 1,2,3,0,0,0,0,0,0,0,0,0,0,0,0,1 1 2 1 1 1 12", 2),
-            ("0 2 1,2,3,0 1 2 1 1 1 12", 2),
-            ("255 255 255 0 255 4294967295 255 255 0", 2),
-            ("2 33 1,2,3,0 1 2 0xffffffff 1 1 12", 2),
-            ("2 2 1,2,3,0 1 2 4 0 1 12", 2),
-            ("2 2 1,2,3,0 1 2 4 1 2 12", 2),
-            ("2 2 1,2,3,4 1 2 4 1 1 12", 2),
-            ("2 2 0,1,2,3 2 1 4 1 1 0", 6),
-            ("2 2 0,1,2,3 2 1 2 1 1 0", 7),
-            ("4 32 - 1 2 1 1 1 26", 7),
-            ("2 2 1,2,3,0 2 1 2 1 1 0", 8),
-            ("2 2 1,2,3,0 0 2 1 1 1 0", 9),
-            ("2 2 1,2,3,0 1 255 1 1 1 0", 9),
-        ] {
-            assert_eq!(write(values), format!("refused {refusal}"), "{values}");
-        }
-    }
-
-    #[test]
-    fn refusals() {
-        let zeros = "state 00000000,00000000,00000000,00000000";
-        assert_eq!(text("words 00 0,0,0,0 0"), format!("words - {zeros}"));
-        assert_eq!(text("words 0802 0,0,0,0 0"), "refused 9");
-        assert_eq!(text("words 00 - 0"), "refused 10");
-        assert_eq!(text("words 021d 0,0,0,20000000 0"), "refused 11");
-        assert_eq!(text("step - -"), "refused 1");
-        assert_eq!(text("back 00 0,0,0"), "refused 10");
-        assert_eq!(text("draw 021d 0,20000000,0,0"), "refused 11");
-        assert_eq!(text("pick 00 0,0,0,0 7 -"), "refused 12");
-        assert_eq!(text("pick 00 0,0,0,0 - -"), "refused 13");
-        assert_eq!(text("pick 00 0,0,0,0 7,7 1,2"), "refused 15");
         assert_eq!(refused(11, true), "refused 11");
         assert_eq!(refused(11, false), "refused 11 CHANGED");
+    }
+
+    /// Pages, entries not given or not used, and the order of the writer's checks.
+    #[test]
+    fn writer() {
+        assert_answers(
+            "\
+write 4 32 3,5,9,13,1,6,11,15,4,0,8,14,10,7,2,12 1 2 0x12488421 1 1 3 = length 1 page 00a5a5
+write 4 32 3,5,9,13,1,6,11,15,4,0,8,14,10,7,2,12 1 2 306742305 1 1 1 = length 1 page 00
+write 4 32 3,5,9,13,1,6,11,15,4,0,8,14,10,7,2,12 1 2 306742305 1 1 0 = refused 16
+write 2 2 1,2,3,0 1 2 1 1 1 12 = length 11 page 2702020102030001000000a5
+write 2 2 1,2,3 1 2 1 1 1 11 = length 11 page 2702020102030001000000
+write 2 2 1,2,3,0,0,0,0,0,0,0,0,0,0,0,0,0 1 2 1 1 1 11 = length 11 page 2702020102030001000000
+write 2 2 1,2,3,0,0,0,0,0,0,0,0,0,0,0,0,1 1 2 1 1 1 12 = refused 2
+write 0 2 1,2,3,0 1 2 1 1 1 12 = refused 2
+write 255 255 255 0 255 4294967295 255 255 0 = refused 2
+write 2 33 1,2,3,0 1 2 4294967295 1 1 12 = refused 2
+write 2 2 1,2,3,0 1 2 4 0 1 12 = refused 2
+write 2 2 1,2,3,0 1 2 4 1 2 12 = refused 2
+write 2 2 1,2,3,4 1 2 4 1 1 12 = refused 2
+write 2 2 0,1,2,3 2 1 4 1 1 0 = refused 6
+write 2 2 0,1,2,3 2 1 2 1 1 0 = refused 7
+write 4 32 - 1 2 1 1 1 26 = refused 7
+write 2 2 1,2,3,0 2 1 2 1 1 0 = refused 8
+write 2 2 1,2,3,0 0 2 1 1 1 0 = refused 9
+write 2 2 1,2,3,0 1 255 1 1 1 0 = refused 9
+write 2 2 1,2,3,0 1 2 1 1 1 10 = refused 16",
+        );
     }
 
     #[test]

@@ -1,6 +1,6 @@
 //! Cards: the check and the reader, with the refusals 1 to 9 and 1 to 6.
 
-use super::{bytes, Maker, FULL, TSC1, TSC2};
+use super::{bytes, Maker, FULL, PROGRAM, TSC1, TSC2};
 use crate::encode;
 use crate::replay::hex;
 
@@ -53,14 +53,19 @@ pub fn make(maker: &mut Maker) {
     broken_rings(maker);
     powers(maker);
     cuts(maker);
-    maker.section("cards: idle fields; then the order of the checks");
-    for card in IDLE.split(' ').chain(ORDER.split(' ')) {
-        both(maker, &bytes(card));
-    }
+    listed(maker, "cards: idle fields", IDLE);
+    listed(maker, "cards: several refusals, for the order", ORDER);
     two_changes(maker);
     damaged(maker);
     random_bytes(maker);
     long(maker);
+}
+
+fn listed(maker: &mut Maker, content: &str, cards: &str) {
+    maker.section(content);
+    for card in cards.split(' ') {
+        both(maker, &bytes(card));
+    }
 }
 
 /// A check and a read of the same card.
@@ -192,8 +197,12 @@ fn powers(maker: &mut Maker) {
 
 fn cuts(maker: &mut Maker) {
     maker.section("cards: cut short at every length, and with bytes behind");
-    let longest = encode(&maker.card(4, 32));
-    for card in [bytes(TSC1), bytes(TSC2), bytes(FULL), longest] {
+    let longest = fields(maker, 0xfe);
+    for card in [TSC1, TSC2, PROGRAM, FULL]
+        .map(bytes)
+        .into_iter()
+        .chain([longest])
+    {
         for length in 0..=card.len() {
             both(maker, &card[..length]);
         }
@@ -236,15 +245,18 @@ fn damaged(maker: &mut Maker) {
     }
 }
 
-/// A byte changed, a bit flipped, a map bit flipped, a byte put in, left out or moved.
+/// A byte changed, a bit flipped, a map bit flipped, a byte put in or left out, two swapped.
 fn damage(maker: &mut Maker, card: &mut Vec<u8>) {
     let place = maker.below(card.len());
-    match maker.below(8) {
+    match maker.below(9) {
         0 => card[place] = maker.byte(),
         1 => card[place] = maker.byte() % 5,
         2 | 3 => card[place] ^= 1 << maker.below(8),
         4 | 5 => card[0] ^= 1 << maker.below(8),
         6 => card.insert(place, maker.byte() % 5),
+        7 if card.len() > 1 => {
+            card.remove(place);
+        }
         _ => {
             let other = maker.below(card.len());
             card.swap(place, other);
@@ -266,12 +278,10 @@ fn random_bytes(maker: &mut Maker) {
 /// Long cards: sound but for the bytes behind them, and others.
 fn long(maker: &mut Maker) {
     maker.section("cards: long ones, up to 600 bytes");
-    for (number, length) in [27, 63, 64, 65, 128, 255, 256, 257, 512, 600]
-        .into_iter()
-        .enumerate()
-    {
-        let sound = [TSC1, TSC2, FULL, "0101", "0301", "ff"][number % 6];
-        let mut card = bytes(sound);
+    let fronts = [TSC1, TSC2, FULL, "0101", "0301", "ff"];
+    let lengths = [27, 63, 64, 65, 128, 255, 256, 257, 512, 600];
+    for (front, length) in fronts.into_iter().cycle().zip(lengths) {
+        let mut card = bytes(front);
         card.resize(length, 2);
         both(maker, &card);
     }

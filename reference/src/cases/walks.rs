@@ -36,7 +36,9 @@ fn published(maker: &mut Maker) {
 
 /// Each m, n, filter and sum term.
 fn sizes(maker: &mut Maker) {
-    maker.section("every size, filter and sum term with a random ring and start, the same");
+    maker.section(
+        "every size, filter and sum term, random rings and starts: words, steps and steps back",
+    );
     let mut number = 0;
     for (words, width) in (2..=4).flat_map(|m| (2..=32).map(move |n| (m, n))) {
         for (filter, sum_term) in [(1, 0), (1, 1), (2, 0), (2, 1)] {
@@ -90,7 +92,7 @@ fn counts(maker: &mut Maker) {
     }
 }
 
-/// One of the calls; `words` with counts of 0, 1 and 1024 in turn.
+/// One of the calls; `words` with a count of 0, 1 or 1024.
 fn call(maker: &mut Maker, name: &str, card: &str, state: &str) {
     let count = match name {
         "words" => [" 0", " 1", " 1024"][maker.below(3)],

@@ -18,9 +18,11 @@ abbrev μ-loop : tie.MeasureT-loop
 μ-loop line k at₀ left₀ at left = left
 
 -- a later part is one of those behind the next separator
-later : (p : List ℕ) (ps : List (List ℕ)) (left : ℕ) → 0 < left → getD (p ∷ ps) left [] ≡ getD ps (left - 1) []
-later p ps zero h = absurd (omega arith)
-later p ps (suc left) h = let e : left ≡ suc left - 1 = omega arith in ap (λ (i : ℕ). getD ps i []) e
+later : (p : List ℕ) (ps qs : List (List ℕ)) (left : ℕ) → qs ≡ p ∷ ps → 0 < left → getD qs left [] ≡ getD ps (left - 1) []
+later p ps qs zero q h = absurd (omega arith)
+later p ps qs (suc left) q h =
+    let e : left ≡ suc left - 1 = omega arith in
+    ap (λ (rs : List (List ℕ)). getD rs (suc left) []) q ∙ ap (λ (i : ℕ). getD ps i []) e
 
 loop-holds : tie.Need-loop-holds Inv-loop μ-loop
 loop-holds c =
@@ -48,7 +50,7 @@ returns c =
     let none = parts-end blank line (f .result + 1) (omega (arith, c .before .if1 .taken)) in
     let gone : drop (f .result) line ≡ [] = drop-of-length-le line {i = f .result} (omega (arith, c .before .if1 .taken)) in
     ap (take (length line - f .result)) gone ∙ take-nil (length line - f .result)
-    ∙ sym (l .inv .1 ∙ ap (λ (ps : List (List ℕ)). getD ps (l .left) []) next ∙ later _ _ (l .left) (omega arith) ∙ ap (λ (ps : List (List ℕ)). getD ps (l .left - 1) []) none)
+    ∙ sym (l .inv .1 ∙ later _ _ _ (l .left) next (omega arith) ∙ ap (λ (ps : List (List ℕ)). getD ps (l .left - 1) []) none)
 
 add-at : tie.Need-add-at Inv-loop μ-loop
 add-at c = omega arith
@@ -65,7 +67,7 @@ loop-again c =
     let l = c .before .before .before .loop in
     let f = c .before .find in
     let next = parts-find blank line (l .at) (f .result) (omega arith) (f .ensures .0) (f .ensures .1) in
-    (omega (arith, c .if1 .left), l .inv .1 ∙ ap (λ (ps : List (List ℕ)). getD ps (l .left) []) next ∙ later _ _ (l .left) (omega arith))
+    (omega (arith, c .if1 .left), l .inv .1 ∙ later _ _ _ (l .left) next (omega arith))
 
 find-requires-2 : tie.Need-find-requires-2 Inv-loop μ-loop
 find-requires-2 c κs = (omega arith, omega arith)
