@@ -1,6 +1,15 @@
 // What answers are made of, on standard output.
 ghost use mathlib.Core.Path.{_≡_};
+ghost use Prim.Native.Nat.{_^_, _≤_};
+ghost use Rattle.tsc.specs.Constants.{mostWords};
 ghost use Rattle.card_format.specs.Fields.{same};
+ghost use Rattle.case_fields.specs.Lists.{room};
+use case_fields::list::Numbers;
+use case_fields::list::ROOM;
+use tsc::TABLE_SIZE;
+
+// The most bytes of a page.
+pub const PAGE: usize = 600;
 
 // Number k of a list, k counted from 0: a comma before all but the first.
 fn print_comma(k: usize) {
@@ -15,13 +24,12 @@ pub fn print_word(k: usize, word: u32) {
     io::print_hex(1, word as u64, 8);
 }
 
-// Words, commas between; - where there are none.
-pub fn print_words(words: &[u32]) {
-    if words.len() == 0 {
-        io::write_all(1, b"-");
-    }
+// The first m words, commas between.
+fn print_words(words: [u32; ROOM], m: usize)
+    requires { ⌜ m ≤ room ⌝ }
+{
     let mut k = 0;
-    while k < words.len() {
+    while k < m {
         print_word(k, words[k]);
         k += 1;
     }
@@ -33,11 +41,13 @@ fn print_entry(k: usize, entry: u8) {
     io::print_decimal(1, entry as u64);
 }
 
-// Entries of a table, commas between.
-pub fn print_entries(entries: &[u8]) {
+// The first entries of a table, commas between.
+pub fn print_entries(table: [u8; TABLE_SIZE], size: usize)
+    requires { ⌜ size ≤ 2 ^ mostWords ⌝ }
+{
     let mut k = 0;
-    while k < entries.len() {
-        print_entry(k, entries[k]);
+    while k < size {
+        print_entry(k, table[k]);
         k += 1;
     }
 }
@@ -47,11 +57,13 @@ fn print_byte(byte: u8) {
     io::print_hex(1, byte as u64, 2);
 }
 
-// Bytes so.
-pub fn print_bytes(bytes: &[u8]) {
+// The first bytes of a page.
+pub fn print_bytes(page: [u8; PAGE], size: usize)
+    requires { ⌜ size ≤ 600 ⌝ }
+{
     let mut k = 0;
-    while k < bytes.len() {
-        print_byte(bytes[k]);
+    while k < size {
+        print_byte(page[k]);
         k += 1;
     }
 }
@@ -72,15 +84,12 @@ pub fn print_refused(number: u8, kept: bool) {
     io::write_all(1, b"\n");
 }
 
-// Whether two lists of words are the same.
-fn same_words(a: &[u32], b: &[u32]) -> bool
-    ensures { λ r. ⌜ r ≡ same (now (a .entry)) (now (b .entry)) ⌝ }
+// Whether two arrays of words are the same.
+fn same_words(a: [u32; ROOM], b: [u32; ROOM]) -> bool
+    ensures { λ r. ⌜ r ≡ same a b ⌝ }
 {
-    if a.len() != b.len() {
-        return false;
-    }
     let mut i = 0;
-    while i < a.len() {
+    while i < ROOM {
         if a[i] != b[i] {
             return false;
         }
@@ -90,11 +99,14 @@ fn same_words(a: &[u32], b: &[u32]) -> bool
 }
 
 // The end of an answer: the state after the call or, for a refusal, its number and whether the state is as lent.
-pub fn print_state(refusal: u8, lent: &[u32], state: &[u32]) {
+pub fn print_state(refusal: u8, lent: Numbers, words: [u32; ROOM])
+    requires { ⌜ lent .count ≤ room ⌝ }
+{
     if refusal != 0 {
-        return print_refused(refusal, same_words(lent, state));
+        let before = lent.words;
+        return print_refused(refusal, same_words(before, words));
     }
     io::write_all(1, b"state ");
-    print_words(state);
+    print_words(words, lent.count);
     io::write_all(1, b"\n");
 }

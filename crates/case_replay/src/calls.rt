@@ -1,26 +1,24 @@
 // The calls, each with its answer printed. A state is handed over as a list of words, lent to the call as a copy, and compared with it after a refusal. Which
 // numbers are printed is in the contracts of the calls; no contract can speak of what is printed, so the stored output of the program holds that.
 ghost use mathlib.Core.Path.{_≡_};
-ghost use Prim.Native.Nat.{_<_, _≤_};
+ghost use Prim.Native.Nat.{_≤_};
 ghost use Rattle.cycle.specs.Notation.{iterate};
 ghost use Rattle.tsc.specs.Constants.{mostWords};
 ghost use Rattle.generator.specs.Calls.{stepped};
+ghost use lib.ListN.{replicate};
 ghost use Rattle.case_fields.specs.Lists.{room};
 use super::answer;
+use super::answer::PAGE;
 use card_fields::table;
 use card_format::Written;
 use card_read::read;
 use card_write::write;
 use case_fields::list::Numbers;
+use case_fields::list::ROOM;
 use generator::Draw;
 use generator::call;
 use pick::Pick;
 use tsc::Card;
-
-// The most bytes of a page, and what each holds when it is lent.
-pub const MOST_PAGE: usize = 600;
-
-const UNTOUCHED: u8 = 0xa5;
 
 // The verdict on a card.
 pub fn print_check(card: &[u8]) {
@@ -37,7 +35,7 @@ fn print_values(card: Card)
     answer::print_number(card.width);
     let table = card.table;
     let size = table::entries(card.words as u32);
-    answer::print_entries(&table[..size]);
+    answer::print_entries(table, size);
     io::write_all(1, b" ");
     answer::print_number(card.odd_power);
     answer::print_number(card.even_power);
@@ -64,34 +62,34 @@ pub fn print_read(card: &[u8]) {
 pub fn print_step(card: &[u8], state: Numbers)
     requires { ⌜ state .count ≤ room ⌝ }
 {
-    let lent = state.words;
+    let mut words = state.words;
     let m = state.count;
-    let mut words = lent;
     let refusal = call::step(card, &mut words[..m]);
-    answer::print_state(refusal, &lent[..m], &words[..m]);
+    answer::print_state(refusal, state, words);
 }
 
 // A step back.
 pub fn print_back(card: &[u8], state: Numbers)
     requires { ⌜ state .count ≤ room ⌝ }
 {
-    let lent = state.words;
+    let mut words = state.words;
     let m = state.count;
-    let mut words = lent;
     let refusal = call::step_back(card, &mut words[..m]);
-    answer::print_state(refusal, &lent[..m], &words[..m]);
+    answer::print_state(refusal, state, words);
 }
 
 // A draw's answer.
-fn print_drawn(drawn: Draw, lent: &[u32], state: &[u32]) {
+fn print_drawn(drawn: Draw, lent: Numbers, words: [u32; ROOM])
+    requires { ⌜ lent .count ≤ room ⌝ }
+{
     match drawn {
         Draw::Word(word) => {
             io::write_all(1, b"word ");
             answer::print_word(0, word);
             io::write_all(1, b" ");
-            answer::print_state(0, lent, state);
+            answer::print_state(0, lent, words);
         }
-        Draw::Refused(number) => answer::print_state(number, lent, state),
+        Draw::Refused(number) => answer::print_state(number, lent, words),
     }
 }
 
@@ -99,11 +97,10 @@ fn print_drawn(drawn: Draw, lent: &[u32], state: &[u32]) {
 pub fn print_draw(card: &[u8], state: Numbers)
     requires { ⌜ state .count ≤ room ⌝ }
 {
-    let lent = state.words;
+    let mut words = state.words;
     let m = state.count;
-    let mut words = lent;
     let drawn = call::draw(card, &mut words[..m]);
-    print_drawn(drawn, &lent[..m], &words[..m]);
+    print_drawn(drawn, state, words);
 }
 
 // Word number k of a row of draws.
@@ -116,10 +113,13 @@ fn print_next(k: usize, card: &[u8], state: &mut [u32])
     }
 }
 
-// So many draws: their words, commas between.
+// So many draws, their words with commas between; - where there are none.
 fn print_draws(card: &[u8], state: &mut [u32], count: usize)
     ensures { λ _. ⌜ now (state .exit) ≡ iterate (stepped (now (card .entry))) count (now (state .entry)) ⌝ }
 {
+    if count == 0 {
+        io::write_all(1, b"-");
+    }
     let mut k = 0;
     while k < count {
         print_next(k, card, state);
@@ -127,37 +127,35 @@ fn print_draws(card: &[u8], state: &mut [u32], count: usize)
     }
 }
 
-// So many words drawn.
+// So many words drawn. What a draw would be refused for, none is refused for too.
 pub fn print_run(card: &[u8], state: Numbers, count: usize)
     requires { ⌜ state .count ≤ room ⌝ }
 {
-    let lent = state.words;
+    let mut words = state.words;
     let m = state.count;
-    let mut words = lent;
-    let begun = call::open(card, &lent[..m]);
+    let begun = call::open(card, &words[..m]);
     if begun.refusal != 0 {
         return answer::print_refused(begun.refusal, true);
     }
     io::write_all(1, b"words ");
-    if count == 0 {
-        io::write_all(1, b"-");
-    }
     print_draws(card, &mut words[..m], count);
     io::write_all(1, b" ");
-    answer::print_state(0, &lent[..m], &words[..m]);
+    answer::print_state(0, state, words);
 }
 
 // A pick's answer.
-fn print_picked(picked: Pick, lent: &[u32], state: &[u32]) {
+fn print_picked(picked: Pick, lent: Numbers, words: [u32; ROOM])
+    requires { ⌜ lent .count ≤ room ⌝ }
+{
     match picked {
         Pick::Shovel(shovel, ties) => {
             io::write_all(1, b"shovel ");
             io::print_decimal(1, shovel as u64);
             io::write_all(1, b" ties ");
             answer::print_number(ties);
-            answer::print_state(0, lent, state);
+            answer::print_state(0, lent, words);
         }
-        Pick::Refused(number) => answer::print_state(number, lent, state),
+        Pick::Refused(number) => answer::print_state(number, lent, words),
     }
 }
 
@@ -165,24 +163,34 @@ fn print_picked(picked: Pick, lent: &[u32], state: &[u32]) {
 pub fn print_pick(card: &[u8], state: Numbers, shovels: &[u16], times: &[u32])
     requires { ⌜ state .count ≤ room ⌝ }
 {
-    let lent = state.words;
+    let mut words = state.words;
     let m = state.count;
-    let mut words = lent;
     let picked = pick::call::pick(card, &mut words[..m], shovels, times);
-    print_picked(picked, &lent[..m], &words[..m]);
+    print_picked(picked, state, words);
+}
+
+// A page as it is lent: every byte a5.
+fn untouched() -> [u8; PAGE]
+    ensures { λ r. ⌜ r ≡ replicate 600 165 ⌝ }
+{
+    [0xa5; PAGE]
 }
 
 // A writer's answer, and the whole page after it.
-fn print_page(written: Written, page: &[u8], kept: bool) {
+fn print_written(written: Written, page: [u8; PAGE], size: usize)
+    requires { ⌜ size ≤ 600 ⌝ }
+{
     match written {
         Written::Length(length) => {
             io::write_all(1, b"length ");
             io::print_decimal(1, length as u64);
             io::write_all(1, b" page ");
-            answer::print_bytes(page);
+            answer::print_bytes(page, size);
             io::write_all(1, b"\n");
         }
-        Written::Refused(number) => answer::print_refused(number, kept),
+        Written::Refused(number) => {
+            answer::print_refused(number, check::same(&page, &untouched()));
+        }
     }
 }
 
@@ -190,9 +198,7 @@ fn print_page(written: Written, page: &[u8], kept: bool) {
 pub fn print_write(card: Card, size: usize)
     requires { ⌜ size ≤ 600 ⌝ }
 {
-    let mut page = [UNTOUCHED; MOST_PAGE];
-    let lent = page;
+    let mut page = untouched();
     let written = write::write(card, &mut page[..size]);
-    let kept = check::same(&lent, &page);
-    print_page(written, &page[..size], kept);
+    print_written(written, page, size);
 }

@@ -1,6 +1,6 @@
 // Standard input, a case a line.
 ghost use mathlib.Core.Path.{_≡_};
-ghost use lib.ListN.{length};
+ghost use lib.ListN.{replicate};
 use super::line;
 use bytes::scan;
 
@@ -16,9 +16,9 @@ fn replay_all(input: &[u8]) {
     }
 }
 
-// In a function of its own, so that no proof sees the elements. All of it is on the stack, of which a program has 8 MiB.
+// Zeros, on the stack, of which a program has 8 MiB. In a function of its own, so that no other proof sees so many.
 fn buffer() -> [u8; SIZE]
-    ensures { λ r. ⌜ length r ≡ 4194305 ⌝ }
+    ensures { λ r. ⌜ r ≡ replicate 4194305 0 ⌝ }
 {
     [0; SIZE]
 }

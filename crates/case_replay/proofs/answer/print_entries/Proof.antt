@@ -1,42 +1,35 @@
+use Prim.Native.Nat.{_-_, _^_, _≤_}
+use Rattle.tsc.specs.Constants.{mostWords}
+use native.Mathlib.Omega.{arith}
 use Rattle.case_replay.proofs.answer.print_entries.Statement.{statement}
 use Rattle.case_replay.proofs.answer.print_entries.Tie as tie
-use Rattle.case_replay.proofs.answer.print_entries.Reads as reads
-use Rattle.case_replay.proofs.answer.print_entries.Lts as lts
-use Rattle.case_replay.proofs.answer.print_entry.Reads as print-entry-reads
 
 abbrev Inv-loop : tie.InvT-loop
-Inv-loop entries k₀ k = ?
+Inv-loop size table k₀ k = (size ≤ 2 ^ mostWords) × (k ≤ size)
 
 abbrev μ-loop : tie.MeasureT-loop
-μ-loop entries k₀ k = ?
+μ-loop size table k₀ k = size - k
 
--- src/answer.rt:39:5
 loop-holds : tie.Need-loop-holds Inv-loop μ-loop
-loop-holds c = ?
+loop-holds c = (omega arith, omega arith)
 
--- src/answer.rt:40:24
-shared-slice-read-print-entry : tie.Need-shared-slice-read-print-entry Inv-loop μ-loop
-shared-slice-read-print-entry c = ?
+array-read-print-entry : tie.Need-array-read-print-entry Inv-loop μ-loop
+array-read-print-entry c = omega arith
 
--- src/answer.rt:40:9
 print-entry-requires : tie.Need-print-entry-requires Inv-loop μ-loop
-print-entry-requires c κs = ?
+print-entry-requires c κs = tt
 
--- src/answer.rt:41:9
 add-k : tie.Need-add-k Inv-loop μ-loop
-add-k c = ?
+add-k c = omega arith
 
--- src/answer.rt:39:5
 loop-less : tie.Need-loop-less Inv-loop μ-loop
-loop-less c = ?
+loop-less c = omega arith
 
--- src/answer.rt:39:5
 loop-again : tie.Need-loop-again Inv-loop μ-loop
-loop-again c = ?
+loop-again c = (omega arith, omega arith)
 
--- src/answer.rt:37:1
 returns : tie.Need-returns Inv-loop μ-loop
-returns c = ?
+returns c = omega arith
 
 pub print-entries-spec : {M : Type 1} → statement M
 print-entries-spec =
@@ -45,7 +38,7 @@ print-entries-spec =
     Inv-loop
     μ-loop
     loop-holds
-    shared-slice-read-print-entry
+    array-read-print-entry
     print-entry-requires
     add-k
     loop-less

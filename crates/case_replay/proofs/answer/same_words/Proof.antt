@@ -1,57 +1,55 @@
+use mathlib.Core.List.{List}
+use mathlib.Core.Path.{_≡_, sym, ap, _∙_}
+use Prim.Native.Nat.{ℕ, _-_, _≤_, _<_}
+use borrow.Author.Needs.{needs}
+use lib.ListN.{length, getD}
+use Rattle.cycle.proofs.Every.{extend}
+use Rattle.card_format.proofs.Fields.{same-all, same-not}
+use Rattle.case_fields.specs.Lists.{room}
+use native.Mathlib.Omega.{arith}
 use Rattle.case_replay.proofs.answer.same_words.Statement.{statement}
 use Rattle.case_replay.proofs.answer.same_words.Tie as tie
-use Rattle.case_replay.proofs.answer.same_words.Reads as reads
-use Rattle.case_replay.proofs.answer.same_words.Lts as lts
 
 abbrev Inv-loop : tie.InvT-loop
-Inv-loop a b i₀ i = ?
+Inv-loop a b i₀ i = (i ≤ room) × ((j : ℕ) → j < i → getD a j 0 ≡ getD b j 0)
 
 abbrev μ-loop : tie.MeasureT-loop
-μ-loop a b i₀ i = ?
+μ-loop a b i₀ i = room - i
 
--- src/answer.rt:80:9
-returns : tie.Need-returns Inv-loop μ-loop
-returns c = ?
-
--- src/answer.rt:83:5
 loop-holds : tie.Need-loop-holds Inv-loop μ-loop
-loop-holds c = ?
+loop-holds c = (omega arith, λ j l. absurd (omega arith))
 
--- src/answer.rt:84:12
-mul-if2 : tie.Need-mul-if2 Inv-loop μ-loop
-mul-if2 c = ?
+mul-if1 : tie.Need-mul-if1 Inv-loop μ-loop
+mul-if1 c = omega arith
 
--- src/answer.rt:84:12
-shared-slice-read-if2 : tie.Need-shared-slice-read-if2 Inv-loop μ-loop
-shared-slice-read-if2 c = ?
+array-read-if1 : tie.Need-array-read-if1 Inv-loop μ-loop
+array-read-if1 c = omega arith
 
--- src/answer.rt:84:20
-mul-if2-2 : tie.Need-mul-if2-2 Inv-loop μ-loop
-mul-if2-2 c = ?
+mul-if1-2 : tie.Need-mul-if1-2 Inv-loop μ-loop
+mul-if1-2 c = omega arith
 
--- src/answer.rt:84:20
-shared-slice-read-if2-2 : tie.Need-shared-slice-read-if2-2 Inv-loop μ-loop
-shared-slice-read-if2-2 c = ?
+array-read-if1-2 : tie.Need-array-read-if1-2 Inv-loop μ-loop
+array-read-if1-2 c = omega arith
 
--- src/answer.rt:85:13
-returns-2 : tie.Need-returns-2 Inv-loop μ-loop
-returns-2 c = ?
+returns : tie.Need-returns Inv-loop μ-loop
+returns c = let i = c .before .before .loop .i in sym (same-not _ _ (λ e. c .if1 .taken (ap (λ (l : List ℕ). getD l i 0) e)))
 
--- src/answer.rt:87:9
 add-i : tie.Need-add-i Inv-loop μ-loop
-add-i c = ?
+add-i c = omega arith
 
--- src/answer.rt:83:5
 loop-less : tie.Need-loop-less Inv-loop μ-loop
-loop-less c = ?
+loop-less c = omega arith
 
--- src/answer.rt:83:5
 loop-again : tie.Need-loop-again Inv-loop μ-loop
-loop-again c = ?
+loop-again c = (omega arith, extend _ _ (c .before .before .loop .inv .1) (c .if1 .left))
 
--- src/answer.rt:76:1
-returns-3 : tie.Need-returns-3 Inv-loop μ-loop
-returns-3 c = ?
+returns-2 : tie.Need-returns-2 Inv-loop μ-loop
+returns-2 c =
+    let p = c .before .before .args in
+    let l = c .before .loop in
+    let za : length (p .t1) ≡ room = search needs in
+    let zb : length (p .t2) ≡ room = search needs in
+    sym (same-all (p .t1) (p .t2) (za ∙ sym zb) (λ j lj. l .inv .1 j (omega (arith, lj, za))))
 
 pub same-words-spec : {M : Type 1} → statement M
 same-words-spec =
@@ -59,14 +57,13 @@ same-words-spec =
     (tie.spec
     Inv-loop
     μ-loop
-    returns
     loop-holds
-    mul-if2
-    shared-slice-read-if2
-    mul-if2-2
-    shared-slice-read-if2-2
-    returns-2
+    mul-if1
+    array-read-if1
+    mul-if1-2
+    array-read-if1-2
+    returns
     add-i
     loop-less
     loop-again
-    returns-3)
+    returns-2)
