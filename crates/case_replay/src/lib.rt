@@ -1,5 +1,3 @@
-// Cases replayed: each line of the input is a call with what is handed over, and an answer is printed for it. README.md has the form of the cases.
-pub mod answer;
-pub mod calls;
+// Cases replayed: each line of the input is a call with what is handed over, and is answered by a line. README.md has the form of the cases.
 pub mod input;
 pub mod line;

@@ -1,8 +1,8 @@
 // A line of the input. All of it is read before the call is made, and a line that is no case is answered by syntax.
 ghost use Prim.Native.Nat.{_≤_};
 ghost use Rattle.case_fields.specs.Lists.{room};
-use super::answer::PAGE;
-use super::calls;
+use case_answers::answer::PAGE;
+use case_calls::calls;
 use card_fields::table;
 use case_fields::line;
 use case_fields::list;

@@ -1,0 +1,2 @@
+// What the answers to replayed cases are made of, printed on standard output.
+pub mod answer;

@@ -1,0 +1,204 @@
+// The calls, each with its answer printed. A state is handed over as a list of words, lent to the call as a copy, and compared with it after a refusal. Which
+// numbers are printed is in the contracts of the calls; no contract can speak of what is printed, so the stored output of the program holds that.
+ghost use mathlib.Core.Path.{_≡_};
+ghost use Prim.Native.Nat.{_≤_};
+ghost use Rattle.cycle.specs.Notation.{iterate};
+ghost use Rattle.tsc.specs.Constants.{mostWords};
+ghost use Rattle.generator.specs.Calls.{stepped};
+ghost use lib.ListN.{replicate};
+ghost use Rattle.case_fields.specs.Lists.{room};
+use case_answers::answer;
+use case_answers::answer::PAGE;
+use card_fields::table;
+use card_format::Written;
+use card_read::read;
+use card_write::write;
+use case_fields::list::Numbers;
+use case_fields::list::ROOM;
+use generator::Draw;
+use generator::call;
+use pick::Pick;
+use tsc::Card;
+
+// The verdict on a card.
+pub fn print_check(card: &[u8]) {
+    io::write_all(1, b"verdict ");
+    io::print_decimal(1, card::check::check(card) as u64);
+    io::write_all(1, b"\n");
+}
+
+// The eight values of a card.
+fn print_values(card: Card)
+    requires { ⌜ card .words ≤ mostWords ⌝ }
+{
+    answer::print_number(card.words);
+    answer::print_number(card.width);
+    let table = card.table;
+    let size = table::entries(card.words as u32);
+    answer::print_entries(table, size);
+    io::write_all(1, b" ");
+    answer::print_number(card.odd_power);
+    answer::print_number(card.even_power);
+    io::write_all(1, b"0x");
+    answer::print_word(0, card.constant);
+    io::write_all(1, b" ");
+    answer::print_number(card.filter);
+    io::print_decimal(1, card.sum_term as u64);
+}
+
+// A card read.
+pub fn print_read(card: &[u8]) {
+    let found = read::read(card);
+    if found.refusal != 0 {
+        return answer::print_refused(found.refusal, true);
+    }
+    let values = found.card;
+    io::write_all(1, b"fields ");
+    print_values(values);
+    io::write_all(1, b"\n");
+}
+
+// A step.
+pub fn print_step(card: &[u8], state: Numbers)
+    requires { ⌜ state .count ≤ room ⌝ }
+{
+    let mut words = state.words;
+    let m = state.count;
+    let refusal = call::step(card, &mut words[..m]);
+    answer::print_state(refusal, state, words);
+}
+
+// A step back.
+pub fn print_back(card: &[u8], state: Numbers)
+    requires { ⌜ state .count ≤ room ⌝ }
+{
+    let mut words = state.words;
+    let m = state.count;
+    let refusal = call::step_back(card, &mut words[..m]);
+    answer::print_state(refusal, state, words);
+}
+
+// A draw's answer.
+fn print_drawn(drawn: Draw, lent: Numbers, words: [u32; ROOM])
+    requires { ⌜ lent .count ≤ room ⌝ }
+{
+    match drawn {
+        Draw::Word(word) => {
+            io::write_all(1, b"word ");
+            answer::print_word(0, word);
+            io::write_all(1, b" ");
+            answer::print_state(0, lent, words);
+        }
+        Draw::Refused(number) => answer::print_state(number, lent, words),
+    }
+}
+
+// A draw.
+pub fn print_draw(card: &[u8], state: Numbers)
+    requires { ⌜ state .count ≤ room ⌝ }
+{
+    let mut words = state.words;
+    let m = state.count;
+    let drawn = call::draw(card, &mut words[..m]);
+    print_drawn(drawn, state, words);
+}
+
+// Word number k of a row of draws.
+fn print_next(k: usize, card: &[u8], state: &mut [u32])
+    ensures { λ _. ⌜ now (state .exit) ≡ stepped (now (card .entry)) (now (state .entry)) ⌝ }
+{
+    match call::draw(card, state) {
+        Draw::Word(word) => answer::print_word(k, word),
+        Draw::Refused(_) => {}
+    }
+}
+
+// So many draws, their words with commas between; - where there are none.
+fn print_draws(card: &[u8], state: &mut [u32], count: usize)
+    ensures { λ _. ⌜ now (state .exit) ≡ iterate (stepped (now (card .entry))) count (now (state .entry)) ⌝ }
+{
+    if count == 0 {
+        io::write_all(1, b"-");
+    }
+    let mut k = 0;
+    while k < count {
+        print_next(k, card, state);
+        k += 1;
+    }
+}
+
+// So many words drawn. What a draw would be refused for, none is refused for too.
+pub fn print_run(card: &[u8], state: Numbers, count: usize)
+    requires { ⌜ state .count ≤ room ⌝ }
+{
+    let mut words = state.words;
+    let m = state.count;
+    let begun = call::open(card, &words[..m]);
+    if begun.refusal != 0 {
+        return answer::print_refused(begun.refusal, true);
+    }
+    io::write_all(1, b"words ");
+    print_draws(card, &mut words[..m], count);
+    io::write_all(1, b" ");
+    answer::print_state(0, state, words);
+}
+
+// A pick's answer.
+fn print_picked(picked: Pick, lent: Numbers, words: [u32; ROOM])
+    requires { ⌜ lent .count ≤ room ⌝ }
+{
+    match picked {
+        Pick::Shovel(shovel, ties) => {
+            io::write_all(1, b"shovel ");
+            io::print_decimal(1, shovel as u64);
+            io::write_all(1, b" ties ");
+            answer::print_number(ties);
+            answer::print_state(0, lent, words);
+        }
+        Pick::Refused(number) => answer::print_state(number, lent, words),
+    }
+}
+
+// A pick.
+pub fn print_pick(card: &[u8], state: Numbers, shovels: &[u16], times: &[u32])
+    requires { ⌜ state .count ≤ room ⌝ }
+{
+    let mut words = state.words;
+    let m = state.count;
+    let picked = pick::call::pick(card, &mut words[..m], shovels, times);
+    print_picked(picked, state, words);
+}
+
+// A page as it is lent: every byte a5.
+fn untouched() -> [u8; PAGE]
+    ensures { λ r. ⌜ r ≡ replicate 600 165 ⌝ }
+{
+    [0xa5; PAGE]
+}
+
+// A writer's answer, and the whole page after it.
+fn print_written(written: Written, page: [u8; PAGE], size: usize)
+    requires { ⌜ size ≤ 600 ⌝ }
+{
+    match written {
+        Written::Length(length) => {
+            io::write_all(1, b"length ");
+            io::print_decimal(1, length as u64);
+            io::write_all(1, b" page ");
+            answer::print_bytes(page, size);
+            io::write_all(1, b"\n");
+        }
+        Written::Refused(number) => {
+            answer::print_refused(number, check::same(&page, &untouched()));
+        }
+    }
+}
+
+// Values written to a page of so many bytes.
+pub fn print_write(card: Card, size: usize)
+    requires { ⌜ size ≤ 600 ⌝ }
+{
+    let mut page = untouched();
+    let written = write::write(card, &mut page[..size]);
+    print_written(written, page, size);
+}

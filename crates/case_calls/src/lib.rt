@@ -1,0 +1,2 @@
+// The calls of replayed cases, each made and answered.
+pub mod calls;

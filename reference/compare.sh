@@ -1,0 +1,43 @@
+#!/usr/bin/env bash
+# The second program against what is stored, run at the top of the repository by `make vectors`. It must give the answers of cases/papers.txt; then it makes the
+# inputs and outputs that are stored beside the programs anew. Where a stored one differs this fails, or with STORE=yes puts the new one in its place.
+set -eu
+programs=reference/target/release
+fresh=target/vectors
+mkdir -p $fresh
+different=0
+
+# compares a fresh file with the stored one
+stored() { # FRESH STORED
+    if cmp -s "$1" "$2"; then
+        echo "$2: the same"
+    elif [ "${STORE:-}" = yes ]; then
+        cp "$1" "$2"
+        echo "$2: replaced"
+    else
+        echo "$2: DIFFERS from $1"
+        different=1
+    fi
+}
+
+# the papers' cases, and their answers as the papers have them
+sed 's/ => .*//' cases/papers.txt > $fresh/papers.cases
+sed -n '/^#/!s/.* => //p' cases/papers.txt > $fresh/papers.answers
+$programs/replay < $fresh/papers.cases > $fresh/papers.replayed
+diff $fresh/papers.answers $fresh/papers.replayed || { echo "cases/papers.txt: the second program answers differently"; exit 1; }
+echo "cases/papers.txt: answered as the papers do"
+
+# the papers' cases and the seeded ones, replayed
+{ cat $fresh/papers.cases; $programs/cases; } > $fresh/stdin
+$programs/replay < $fresh/stdin > $fresh/stdout
+stored $fresh/stdin crates/replay/stdin
+stored $fresh/stdout crates/replay/stdout
+
+# the program's outputs
+for crate in inspect_card inspect_p1 inspect_p2 inspect_refused inspect_nothing inspect_long; do
+    input=crates/$crate/stdin
+    [ -e $input ] || input=/dev/null
+    $programs/inspect < $input > $fresh/$crate
+    stored $fresh/$crate crates/$crate/stdout
+done
+exit $different
