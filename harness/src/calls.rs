@@ -2,7 +2,7 @@
 
 use crate::hex;
 use crate::inputs::Input;
-use reference::Card;
+use reference::{call_write, Card, TABLE_ENTRIES};
 use std::hint::black_box;
 use tiedraw::ffi;
 
@@ -127,37 +127,18 @@ fn second_program(call: usize, input: &Input) -> Observed {
     expected(answer, state)
 }
 
-/// The second program writes cards whose table has 2^m entries. This puts the rest of document 01's writer around it: unused entries
-/// must be 0, and a page too small is 16; and the library's rule for tables that are not 16 entries long.
+/// The second program's writer takes document 01's array of 16 entries; the library's rule for tables of another length is put around it.
 fn second_write(values: &Card, page: &[u8]) -> Observed {
-    let mut page: Vec<u32> = page.iter().map(|&byte| byte.into()).collect();
-    let answer = written(values, page.len()).map(|bytes| {
-        for (place, byte) in page.iter_mut().zip(&bytes) {
-            *place = u32::from(*byte);
+    let mut lent = page.to_vec();
+    let mut card = values.clone();
+    let answer = match card.table.len() > TABLE_ENTRIES {
+        true => Err(2),
+        false => {
+            card.table.resize(TABLE_ENTRIES, 0);
+            call_write(&card, &mut lent).map(|length| [length as u64, 0])
         }
-        [bytes.len() as u64, 0]
-    });
-    expected(answer, page)
-}
-
-fn written(values: &Card, room: usize) -> Result<Vec<u8>, u8> {
-    if values.table.len() > 16 || !(2..=4).contains(&values.words) {
-        return Err(2);
-    }
-    let mut table = values.table.clone();
-    table.resize(16, 0);
-    let unused = table.split_off(1 << values.words);
-    if unused.iter().any(|&entry| entry != 0) {
-        return Err(2);
-    }
-    let bytes = reference::write(&Card {
-        table,
-        ..values.clone()
-    })?;
-    match bytes.len() > room {
-        true => Err(16),
-        false => Ok(bytes),
-    }
+    };
+    expected(answer, lent.into_iter().map(u32::from).collect())
 }
 
 // ---- The comparison.

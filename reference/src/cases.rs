@@ -35,23 +35,6 @@ const REFUSED: [&str; 12] = [
     "1003",
 ];
 
-/// Document 01, At the edges (P1 to P12, then Others) and The program.
-const EXAMPLE_CARDS: &str = "00 7405020b0c0d04030e0f080106070a0900000100000002 - 0103 021c 021d \
-    050200010203 05020001020300 0801 0802 0803 1000 0101 0105 0104 0221 0220 \
-    2702020102030002000000 2702020102030004000000 050201020303 2702020102030001000000";
-const EXAMPLE_CALLS: &str = "\
-draw 00 0,0,0,0
-draw 7405020b0c0d04030e0f080106070a0900000100000002 0,0,0,0
-words 2702020102030001000000 0,0 4
-pick 2702020102030001000000 0,0 7,4 300,300
-pick 2702020102030001000000 0,0 4,7 300,300
-pick 2702020102030001000000 2,3 7,4 300,300
-pick 2702020102030001000000 2,3 4,7 300,300
-pick 2702020102030001000000 0,0 4,7 300,299
-pick 2702020102030001000000 0,0 7,4 299,300
-pick 2702020102030001000000 2,3 4,7 300,299
-pick 2702020102030001000000 2,3 7,4 299,300";
-
 /// Gathers the lines; `next` gives the random numbers.
 struct Maker {
     x: u32,
@@ -131,19 +114,9 @@ fn bytes(hex: &str) -> Vec<u8> {
     crate::replay::card(hex.as_bytes()).expect("pairs of hex digits")
 }
 
-fn examples(maker: &mut Maker) {
-    maker.section("document 01's examples");
-    for card in EXAMPLE_CARDS.split(' ') {
-        maker.line(format!("check {card}"));
-        maker.line(format!("read {card}"));
-    }
-    maker.line(EXAMPLE_CALLS);
-}
-
 /// All cases, a line each.
 pub fn cases() -> Vec<u8> {
     let mut maker = Maker::new();
-    examples(&mut maker);
     walks::make(&mut maker);
     picks::make(&mut maker);
     cards::make(&mut maker);
