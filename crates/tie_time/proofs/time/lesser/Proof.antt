@@ -1,6 +1,6 @@
 use borrow.Author.Tests.{lt-ltb, le-ltb}
-use Rattle.tie_list.proofs.time.lesser.Statement.{statement}
-use Rattle.tie_list.proofs.time.lesser.Tie as tie
+use Rattle.tie_time.proofs.time.lesser.Statement.{statement}
+use Rattle.tie_time.proofs.time.lesser.Tie as tie
 
 returns : tie.Need-returns
 returns c = simp (lt-ltb _ _ (c .if1 .taken))

@@ -1,6 +1,6 @@
 use borrow.Author.Tests.{eq-eqb, ne-eqb}
-use Rattle.tie_list.proofs.time.tied.Statement.{statement}
-use Rattle.tie_list.proofs.time.tied.Tie as tie
+use Rattle.tie_time.proofs.time.tied.Statement.{statement}
+use Rattle.tie_time.proofs.time.tied.Tie as tie
 
 returns : tie.Need-returns
 returns c = simp (eq-eqb _ _ (c .if1 .taken))

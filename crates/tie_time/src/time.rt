@@ -42,7 +42,7 @@ fn tied(t: u32, least: u32) -> usize
     0
 }
 
-// k, the number of ties, by the least time.
+// k, the number of ties, by the least time, which the pick has found.
 pub fn ties_of(times: &[u32], least: u32) -> usize
     requires { ⌜ LeastOf (now times) (length (now times)) least ⌝ }
     ensures { λ r. ⌜ r ≡ ties (now (times .entry)) ⌝ }

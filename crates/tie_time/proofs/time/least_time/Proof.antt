@@ -4,8 +4,8 @@ use native.Mathlib.Omega.{arith}
 use lib.ListN.{length}
 use Rattle.ties.specs.Least.{LeastOf}
 use Rattle.ties.proofs.Least.{least-first, least-next}
-use Rattle.tie_list.proofs.time.least_time.Statement.{statement}
-use Rattle.tie_list.proofs.time.least_time.Tie as tie
+use Rattle.tie_time.proofs.time.least_time.Statement.{statement}
+use Rattle.tie_time.proofs.time.least_time.Tie as tie
 
 abbrev Inv-loop : tie.InvT-loop
 Inv-loop times least₀ i₀ least i = (i ≤ length times) × LeastOf times i least

@@ -7,8 +7,8 @@ use lib.ListN.{length, getD}
 use Rattle.cycle.specs.Notation.{count}
 use Rattle.cycle.proofs.Count.{count-none, counted-fits, counted-next}
 use Rattle.ties.proofs.Least.{ties-counted}
-use Rattle.tie_list.proofs.time.ties_of.Statement.{statement}
-use Rattle.tie_list.proofs.time.ties_of.Tie as tie
+use Rattle.tie_time.proofs.time.ties_of.Statement.{statement}
+use Rattle.tie_time.proofs.time.ties_of.Tie as tie
 
 abbrev Inv-loop : tie.InvT-loop
 Inv-loop times least k₀ i₀ k i = (i ≤ length times) × (k ≡ count i (λ j. eqb (getD times j 0) least))
