@@ -4,9 +4,9 @@ use native.Mathlib.Omega.{arith}
 use lib.ListN.{getD}
 use Rattle.tsc.specs.Constants.{mostWords}
 use Rattle.tsc.specs.Word.{filter1}
-use Rattle.words.proofs.Reduced.{Turnable, sum-turnable, turnedSum}
-use Rattle.words.proofs.filter.filter_1.Statement.{statement}
-use Rattle.words.proofs.filter.filter_1.Tie as tie
+use Rattle.filters.proofs.Turned.{Turnable, sum-turnable, turnedSum}
+use Rattle.filters.proofs.filter.filter_1.Statement.{statement}
+use Rattle.filters.proofs.filter.filter_1.Tie as tie
 
 -- each word of the state may be turned
 turnable : (c : tie.Start) (k : ℕ) → k < mostWords → Turnable (c .args .n) (getD (c .args .t2 .words) k 0)

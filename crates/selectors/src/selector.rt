@@ -5,11 +5,11 @@ ghost use Prim.Native.Nat.{_%_, _^_, _<_, _≤_};
 ghost use lib.ListN.{take};
 ghost use Rattle.tsc.specs.Constants.{mostWords, widestWidth};
 ghost use Rattle.tsc.specs.Selector.{andWords, sumWords, selector};
-use super::arithmetic::add;
-use super::arithmetic::reduce;
 use std::num::wrapping_add_u32;
 use tsc::Card;
 use tsc::State;
+use words::arithmetic::add;
+use words::arithmetic::reduce;
 
 // p: the AND of the first m words, of n bits.
 fn and_words(n: u32, m: usize, s: State) -> u32

@@ -8,9 +8,9 @@ use lib.ListN.{length, getD}
 use Rattle.tsc.specs.Constants.{mostWords}
 use Rattle.tsc.specs.Selector.{sumWords}
 use Rattle.cycle.proofs.Bits.{mod-pow-mod}
 use Rattle.words.proofs.Words.{wordsFrom, words-none, words-next}
-use Rattle.words.proofs.selector.sum_words.Statement.{statement}
-use Rattle.words.proofs.selector.sum_words.Tie as tie
+use Rattle.selectors.proofs.selector.sum_words.Statement.{statement}
+use Rattle.selectors.proofs.selector.sum_words.Tie as tie
 
 abbrev Inv-loop : tie.InvT-loop
 Inv-loop n m s sum₀ k₀ sum k = (k ≤ m) × (m ≤ mostWords) × (length (s .words) ≡ mostWords) × (sum ≡ sumWords (wordsFrom k m (s .words)) % 2 ^ 32)

@@ -7,8 +7,8 @@ use lib.Bits.{bitXor, xor-zero-r}
 use lib.ListN.{take}
 use Rattle.tsc.specs.Selector.{andWords, selector}
 use Rattle.tsc.specs.Word.{_⊞_}
-use Rattle.words.proofs.selector.selector_of.Statement.{statement}
-use Rattle.words.proofs.selector.selector_of.Tie as tie
+use Rattle.selectors.proofs.selector.selector_of.Statement.{statement}
+use Rattle.selectors.proofs.selector.selector_of.Tie as tie
 
 cast-n : tie.Need-cast-n
 cast-n c = omega arith

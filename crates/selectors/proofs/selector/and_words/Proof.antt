@@ -6,10 +6,10 @@ use borrow.Author.Needs.{needs}
 use lib.ListN.{length, getD}
 use Rattle.tsc.specs.Constants.{mostWords}
 use Rattle.tsc.specs.Selector.{andWords}
 use Rattle.words.proofs.Reduced.{ones-reduced}
 use Rattle.words.proofs.Words.{wordsFrom, words-none, words-next}
-use Rattle.words.proofs.selector.and_words.Statement.{statement}
-use Rattle.words.proofs.selector.and_words.Tie as tie
+use Rattle.selectors.proofs.selector.and_words.Statement.{statement}
+use Rattle.selectors.proofs.selector.and_words.Tie as tie
 
 abbrev Inv-loop : tie.InvT-loop
 Inv-loop n m s p₀ k₀ p k = (k ≤ m) × (m ≤ mostWords) × (length (s .words) ≡ mostWords) × (p ≡ andWords n (wordsFrom k m (s .words)))

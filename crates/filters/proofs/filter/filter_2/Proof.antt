@@ -2,9 +2,9 @@ use mathlib.Core.Path.{_≡_, refl}
 use native.Mathlib.Omega.{arith}
 use lib.ListN.{getD}
 use Rattle.tsc.specs.Word.{filter2}
-use Rattle.words.proofs.Reduced.{Turnable, sum-turnable, turnedSum}
-use Rattle.words.proofs.filter.filter_2.Statement.{statement}
-use Rattle.words.proofs.filter.filter_2.Tie as tie
+use Rattle.filters.proofs.Turned.{Turnable, sum-turnable, turnedSum}
+use Rattle.filters.proofs.filter.filter_2.Statement.{statement}
+use Rattle.filters.proofs.filter.filter_2.Tie as tie
 
 -- word 0, which is turned three times, may be turned
 x : (c : tie.After-x) → let a = c .before .args in Turnable (a .n) (getD (a .t2 .words) 0 0)

@@ -2,8 +2,8 @@ use borrow.Author.Tests.{eq-eqb, ne-eqb}
 use native.Mathlib.Omega.{arith}
 use Rattle.tsc.specs.Word.{word}
 use borrow.Author.Needs.{needs}
-use Rattle.words.proofs.filter.word_of.Statement.{statement}
-use Rattle.words.proofs.filter.word_of.Tie as tie
+use Rattle.filters.proofs.filter.word_of.Statement.{statement}
+use Rattle.filters.proofs.filter.word_of.Tie as tie
 
 cast-n : tie.Need-cast-n
 cast-n c = omega arith

@@ -4,10 +4,10 @@ ghost use Prim.Native.Nat.{ℕ, _^_, _<_, _≤_};
 ghost use lib.ListN.{getD};
 ghost use Rattle.tsc.specs.Constants.{mostWords, widestWidth};
 ghost use Rattle.tsc.specs.Word.{filter1, filter2, word};
-use super::arithmetic::add;
-use super::arithmetic::rotate_left;
 use tsc::Card;
 use tsc::State;
+use words::arithmetic::add;
+use words::arithmetic::rotate_left;
 
 // Filter 1, document 002 (15).
 fn filter_1(n: u32, s: State) -> u32
