@@ -13,13 +13,13 @@ ghost use Rattle.generator.specs.Calls.{refusalFor, refusedOpening, open
 use super::Draw;
 use card::check;
 use card_read::read;
+use filters::filter;
 use state_words::lent;
 use stepping::back;
 use stepping::step;
 use tsc::Card;
 use tsc::MOST_WORDS;
 use tsc::State;
-use words::filter;
 
 // What each call begins with: the refusal, or 0 and the card and the state by value.
 pub struct Opened {

@@ -7,8 +7,8 @@ ghost use Rattle.pick.specs.Picks.{drawnRank, drawnState, picking, picke
 use super::Pick;
 use generator::call;
 use tie_list::check;
-use tie_list::rank;
-use tie_list::time;
+use tie_rank::rank;
+use tie_time::time;
 use tsc::Card;
 use tsc::State;
 

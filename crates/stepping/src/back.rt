@@ -8,11 +8,11 @@ use card_fields::table;
 use columns::power;
 use columns::power::Powers;
 use columns::replace;
+use selectors::selector;
 use tsc::Card;
 use tsc::MOST_WORDS;
 use tsc::State;
 use words::arithmetic;
-use words::selector;
 
 // How often the table is applied to undo so many applications.
 fn undoing(card: Card, times: u32) -> u32

@@ -7,10 +7,10 @@ ghost use Rattle.stepping.specs.State.{used, Holds, holding};
 use columns::power;
 use columns::power::Powers;
 use columns::replace;
+use selectors::selector;
 use tsc::Card;
 use tsc::MOST_WORDS;
 use tsc::State;
-use words::selector;
 
 // The table's powers for a step, worked out once for all columns and all the steps of a call.
 pub fn forward(card: Card) -> Powers

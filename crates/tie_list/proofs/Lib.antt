@@ -1,4 +1,3 @@
--- Laws for the functions on lists.
+-- Laws for the functions on lists, and what callers know of a list that is not refused.
 pub mod Twice
-pub mod Counted
 pub mod Allowed

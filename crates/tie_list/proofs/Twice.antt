@@ -13,7 +13,7 @@ use Rattle.cycle.proofs.Every.{every-of, every-not}
 use Rattle.cycle.specs.Notation.{count}
 use Rattle.ties.specs.Ties.{occurs, twice}
 use Rattle.cycle.proofs.Count.{count-never, count-pos, count-two, two-counted}
-use Rattle.tie_list.specs.Listed.{repeatsAt}
+use Rattle.tie_list.specs.Repeats.{repeatsAt}
 
 module _ (xs : List ℕ) where
   alike : ℕ → ℕ → Bool

@@ -1,3 +1,3 @@
--- Refusals 12 to 15, and what inner functions answer and ask.
+-- Refusals 12 to 15, and what an inner function answers.
 pub mod Checks
-pub mod Listed
+pub mod Repeats

@@ -5,8 +5,10 @@ ghost use lib.ListN.{length};
 ghost use Rattle.refusals.specs.Refusals.{firstOf};
 ghost use Rattle.ties.specs.Ties.{twice};
 ghost use Rattle.tie_list.specs.Checks.{listChecks};
-ghost use Rattle.tie_list.specs.Listed.{repeatsAt};
-use super::MOST_SHOVELS;
+ghost use Rattle.tie_list.specs.Repeats.{repeatsAt};
+
+// The most shovels of a pick.
+pub const MOST_SHOVELS: usize = 64;
 
 // Whether number i stands before i as well; looked for at every distance d back from i.
 fn repeats_at(shovels: &[u16], i: usize) -> bool

@@ -1,3 +1,3 @@
--- Laws that the functions' proofs cite.
+-- Laws that the functions' proofs and the callers cite.
 pub mod Reduced
 pub mod Words

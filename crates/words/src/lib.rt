@@ -1,4 +1,2 @@
-// Words of n bits in a u32, and what a step and a draw work out of a state's words: the selector and the output word.
+// Words of n bits in a u32: sums and rotations.
 pub mod arithmetic;
-pub mod filter;
-pub mod selector;

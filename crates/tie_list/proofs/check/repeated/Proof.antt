@@ -4,7 +4,7 @@ use Prim.Native.Nat.{ℕ, _-_, _<_, _≤_}
 use native.Mathlib.Omega.{arith}
 use lib.ListN.{length}
 use Rattle.cycle.proofs.Every.{extend}
-use Rattle.tie_list.specs.Listed.{repeatsAt}
+use Rattle.tie_list.specs.Repeats.{repeatsAt}
 use Rattle.tie_list.proofs.Twice.{twice-none, twice-found}
 use Rattle.tie_list.proofs.check.repeated.Statement.{statement}
 use Rattle.tie_list.proofs.check.repeated.Tie as tie

@@ -1,0 +1,2 @@
+-- Laws for the filters.
+pub mod Turned

@@ -1,0 +1,2 @@
+-- A law for the functions on ranks.
+pub mod Counted

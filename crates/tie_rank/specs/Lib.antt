@@ -1,0 +1,2 @@
+-- What inner functions answer and ask.
+pub mod Listed
