@@ -5,19 +5,9 @@ use Prim.Native.Nat.{ℕ, suc, _+_, _<_, _≤_}
 use native.Mathlib.Omega.{arith}
 use lib.ListN.{length, getD, take, drop, length-drop, drop-of-length-le}
 use lib.Seq.{drop-cons, drop-drop}
-use Rattle.case_fields.specs.Text.{fold}
+use Rattle.case_numbers.specs.Numbers.{fold}
 use Rattle.case_fields.specs.declared.list.Numbers.{Numbers}
 use Rattle.case_fields.specs.Lists.{withNumber, pairs}
-
-pub fold-next : (f : ℕ → ℕ → ℕ) (a : ℕ) (xs : List ℕ) (i : ℕ) → i < length xs → fold f (f a (getD xs i 0)) (drop (i + 1) xs) ≡ fold f a (drop i xs)
-unfolding fold
-fold-next f a xs i h =
-    let e : i + 1 ≡ suc i = omega arith in
-    ap (λ (k : ℕ). fold f (f a (getD xs i 0)) (drop k xs)) e ∙ sym (ap (fold f a) (drop-cons xs i 0 h))
-
-pub fold-end : (f : ℕ → ℕ → ℕ) (a : ℕ) (xs : List ℕ) (i : ℕ) → length xs ≤ i → fold f a (drop i xs) ≡ a
-unfolding fold
-fold-end f a xs i h = ap (fold f a) (drop-of-length-le xs {i = i} h)
 
 pairs-first : (xs : List ℕ) → 0 < length xs → pairs xs ≡ take 2 xs ∷ pairs (drop 2 xs)
 unfolding pairs

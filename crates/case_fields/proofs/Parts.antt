@@ -67,7 +67,7 @@ parts-find separator xs at end h q l =
     ⊎-elim
     (λ (m : end ≡ length xs). simp (le-leb _ _ h, lt-leb (end + 1) (length xs) (omega arith)) (find-last separator xs at (end - at) e (omega (arith, q, m))))
     (λ (m : end < length xs). simp (le-leb _ _ h, le-leb (end + 1) (length xs) (omega arith))
-      (find-more separator xs at (end - at) e (omega (arith, q, m)) ∙ ap (λ (k : ℕ). take (end - at) rest ∷ parts separator (drop k xs)) next))
+    (find-more separator xs at (end - at) e (omega (arith, q, m)) ∙ ap (λ (k : ℕ). take (end - at) rest ∷ parts separator (drop k xs)) next))
     (eq-or-lt-of-le l)
 
 -- past the end there are none

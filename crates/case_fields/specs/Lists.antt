@@ -5,8 +5,8 @@ use Prim.Native.Nat.{ℕ, _+_, _%_}
 use lib.Dec.{eqb, leb, ltb}
 use lib.ListN.{length, getD, set, replicate}
 use Rattle.case_fields.specs.declared.list.Numbers.{Numbers}
-use Rattle.case_fields.specs.Text.{fold, parts, comma}
-use Rattle.case_fields.specs.Numbers.{malformed, baseOf, numeral}
+use Rattle.case_numbers.specs.Numbers.{fold, malformed, baseOf, numeral}
+use Rattle.case_fields.specs.Text.{parts, comma}
 
 -- one more than a list may have
 abbrev pub room : ℕ

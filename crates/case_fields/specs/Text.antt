@@ -1,13 +1,8 @@
--- Text as bytes: a fold from the left, and the parts between separators.
+-- Text as bytes: the parts between separators.
 use mathlib.Core.Bool.{cond}
 use mathlib.Core.List.{List, [], _∷_}
 use Prim.Native.Nat.{ℕ}
 use lib.Dec.{eqb}
-
--- f of the start and the first, then of that and the second, and so on
-unfoldable pub fold : {A B : Type 0} → (A → B → A) → A → List B → A
-fold f a [] = a
-fold f a (x ∷ xs) = fold f (f a x) xs
 
 -- x put before the first part
 unfoldable pub before : ℕ → List (List ℕ) → List (List ℕ)

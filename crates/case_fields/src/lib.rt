@@ -1,4 +1,3 @@
-// Cases as text: a line's fields, one blank apart, and the numbers in a field. What they are read as is in specs/.
+// A case as text: a line's fields, one blank apart, and the lists of numbers in a field. What they are read as is in specs/.
 pub mod line;
 pub mod list;
-pub mod number;

@@ -3,8 +3,8 @@ ghost use mathlib.Core.Path.{_≡_};
 ghost use Prim.Native.Nat.{_<_};
 ghost use lib.ListN.{length, take, drop};
 ghost use Rattle.case_fields.specs.Lists.{zeros, withNumber, isNothing, numbersIn, pairValue, bytesIn};
-use super::number;
 use bytes::scan;
+use case_numbers::number;
 
 // One more than a list may have. 600 bytes have room for the longest card of document 02, and for cards that are too long.
 pub const ROOM: usize = 601;

@@ -1,14 +1,14 @@
 // A line of the input. All of it is read before the call is made, and a line that is no case is answered by syntax.
 ghost use Prim.Native.Nat.{_≤_};
 ghost use Rattle.case_fields.specs.Lists.{room};
+use card_fields::table;
 use case_answers::answer::PAGE;
 use case_calls::calls;
-use card_fields::table;
 use case_fields::line;
 use case_fields::list;
 use case_fields::list::Numbers;
 use case_fields::list::ROOM;
-use case_fields::number;
+use case_numbers::number;
 use tsc::Card;
 use tsc::TABLE_SIZE;
 

@@ -4,7 +4,7 @@ use native.Mathlib.Omega.{arith}
 use borrow.Author.Needs.{needs}
 use lib.ListN.{length}
 use Rattle.case_fields.specs.Text.{parts, comma}
-use Rattle.case_fields.specs.Numbers.{baseOf, numeral}
+use Rattle.case_numbers.specs.Numbers.{baseOf, numeral}
 use Rattle.case_fields.specs.Lists.{zeros, numbersIn}
 use Rattle.case_fields.proofs.Folds.{gathered, gather-next, gather-end}
 use Rattle.case_fields.proofs.Parts.{partsFrom, parts-find, parts-end, parts-start}

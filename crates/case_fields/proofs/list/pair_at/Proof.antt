@@ -4,7 +4,7 @@ use native.Mathlib.Omega.{arith}
 use borrow.Author.Tests.{eq-eqb, ne-eqb}
 use lib.ListN.{length, take, drop, length-take, length-drop}
 use lib.Seq.{length-take-le}
-use Rattle.case_fields.specs.Numbers.{numeral}
+use Rattle.case_numbers.specs.Numbers.{numeral}
 use Rattle.case_fields.specs.Lists.{pairValue}
 use borrow.Author.Needs.{needs}
 use Rattle.case_fields.proofs.list.pair_at.Statement.{statement}

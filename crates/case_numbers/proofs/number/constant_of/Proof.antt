@@ -3,10 +3,10 @@ use Prim.Native.Nat.{_-_}
 use lib.ListN.{length, drop, length-drop}
 use lib.Seq.{take-all}
 use native.Mathlib.Omega.{arith}
-use Rattle.case_fields.specs.Numbers.{numeral, constantIn}
+use Rattle.case_numbers.specs.Numbers.{numeral, constantIn}
 use borrow.Author.Needs.{needs}
-use Rattle.case_fields.proofs.number.constant_of.Statement.{statement}
-use Rattle.case_fields.proofs.number.constant_of.Tie as tie
+use Rattle.case_numbers.proofs.number.constant_of.Statement.{statement}
+use Rattle.case_numbers.proofs.number.constant_of.Tie as tie
 
 is-hex-requires : tie.Need-is-hex-requires
 is-hex-requires c κs = search needs

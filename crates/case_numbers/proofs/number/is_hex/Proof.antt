@@ -3,9 +3,9 @@ use mathlib.Core.Path.{_≡_}
 use lib.ListN.{length, getD}
 use native.Mathlib.Omega.{arith}
 use borrow.Author.Tests.{le-leb, lt-leb, ne-eqb, eq-eqb}
-use Rattle.case_fields.specs.Numbers.{isHex}
-use Rattle.case_fields.proofs.number.is_hex.Statement.{statement}
-use Rattle.case_fields.proofs.number.is_hex.Tie as tie
+use Rattle.case_numbers.specs.Numbers.{isHex}
+use Rattle.case_numbers.proofs.number.is_hex.Statement.{statement}
+use Rattle.case_numbers.proofs.number.is_hex.Tie as tie
 
 returns : tie.Need-returns
 unfolding isHex

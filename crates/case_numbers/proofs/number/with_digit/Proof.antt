@@ -1,9 +1,9 @@
 use native.Mathlib.Nat.{mul-le-mul}
 use native.Mathlib.Omega.{arith}
 use borrow.Author.Tests.{le-leb, lt-leb, lt-ltb, le-ltb}
-use Rattle.case_fields.specs.Numbers.{withDigit, malformed}
-use Rattle.case_fields.proofs.number.with_digit.Statement.{statement}
-use Rattle.case_fields.proofs.number.with_digit.Tie as tie
+use Rattle.case_numbers.specs.Numbers.{withDigit, malformed}
+use Rattle.case_numbers.proofs.number.with_digit.Statement.{statement}
+use Rattle.case_numbers.proofs.number.with_digit.Tie as tie
 
 mul-longer : tie.Need-mul-longer
 mul-longer c = omega (arith, mul-le-mul (c .pre .0) (c .pre .1))

@@ -3,11 +3,10 @@ use Prim.Native.Nat.{ℕ, _+_, _-_, _≤_}
 use native.Mathlib.Omega.{arith}
 use borrow.Author.Tests.{eq-eqb, ne-eqb}
 use lib.ListN.{length, drop}
-use Rattle.case_fields.specs.Text.{fold}
-use Rattle.case_fields.specs.Numbers.{digitOf, withDigit, numeral, malformed}
-use Rattle.case_fields.proofs.Folds.{fold-next, fold-end}
-use Rattle.case_fields.proofs.number.number_of.Statement.{statement}
-use Rattle.case_fields.proofs.number.number_of.Tie as tie
+use Rattle.case_numbers.specs.Numbers.{fold, digitOf, withDigit, numeral, malformed}
+use Rattle.case_numbers.proofs.Fold.{fold-next, fold-end}
+use Rattle.case_numbers.proofs.number.number_of.Statement.{statement}
+use Rattle.case_numbers.proofs.number.number_of.Tie as tie
 
 abbrev put : ℕ → ℕ → ℕ → ℕ
 put base x c = withDigit base x (digitOf c)
@@ -52,9 +51,11 @@ loop-again c =
     let field = turn .before .before .before .before .args .field .now in
     let base = turn .before .base .result in
     let l = turn .loop in
-    let made = c .with-digit .ensures .0 ∙ ap (withDigit base (l .value)) (c .before .digit .ensures .0) in
-    (omega arith, c .with-digit .ensures .1,
-      ap (λ (x : ℕ). fold (put base) x (drop (l .i + 1) field)) made ∙ fold-next (put base) (l .value) field (l .i) (omega arith) ∙ l .inv .2)
+    let made = c .with-digit .ensures .0 ∙ ap (withDigit base (l .value)) (c .before .digit .ensures .0) in (
+      omega arith,
+      c .with-digit .ensures .1,
+      ap (λ (x : ℕ). fold (put base) x (drop (l .i + 1) field)) made ∙ fold-next (put base) (l .value) field (l .i) (omega arith) ∙ l .inv .2,
+    )
 
 returns-2 : tie.Need-returns-2 Inv-loop μ-loop
 unfolding numeral

@@ -1,10 +1,14 @@
 -- Numbers by their digits, up to 32 bits.
 use mathlib.Core.Bool.{Bool, cond, _&&_}
-use mathlib.Core.List.{List}
+use mathlib.Core.List.{List, [], _∷_}
 use Prim.Native.Nat.{ℕ, _+_, _-_, _*_}
 use lib.Dec.{eqb, leb, ltb}
 use lib.ListN.{length, getD, drop}
-use Rattle.case_fields.specs.Text.{fold}
+
+-- from the left: f of the start and the first, then of that and the second, and so on
+unfoldable pub fold : {A B : Type 0} → (A → B → A) → A → List B → A
+fold f a [] = a
+fold f a (x ∷ xs) = fold f (f a x) xs
 
 -- a hex digit's value, of either case; 16 for any other byte
 unfoldable pub digitOf : ℕ → ℕ

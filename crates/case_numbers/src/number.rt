@@ -3,7 +3,7 @@ ghost use mathlib.Core.Path.{_≡_};
 ghost use mathlib.Core.Bool.{true};
 ghost use Prim.Native.Nat.{_≤_};
 ghost use lib.ListN.{length};
-ghost use Rattle.case_fields.specs.Numbers.{malformed, digitOf, baseOf, withDigit, numeral, isHex, constantIn};
+ghost use Rattle.case_numbers.specs.Numbers.{malformed, digitOf, baseOf, withDigit, numeral, isHex, constantIn};
 
 // The largest number that is read. What is larger, or no number, is read as one more.
 const MOST: u64 = 0xffff_ffff;

@@ -1,8 +1,8 @@
 use native.Mathlib.Omega.{arith}
 use borrow.Author.Tests.{le-leb, lt-leb}
-use Rattle.case_fields.specs.Numbers.{digitOf}
-use Rattle.case_fields.proofs.number.digit.Statement.{statement}
-use Rattle.case_fields.proofs.number.digit.Tie as tie
+use Rattle.case_numbers.specs.Numbers.{digitOf}
+use Rattle.case_numbers.proofs.number.digit.Statement.{statement}
+use Rattle.case_numbers.proofs.number.digit.Tie as tie
 
 wide-requires : tie.Need-wide-requires
 wide-requires c κs = omega arith
