@@ -8,7 +8,10 @@ ghost use Rattle.card_format.specs.Verdict.{verdict, ZeroIffCovers};
 ghost use Rattle.card_format.specs.Writing.{writing, pageAfter};
 ghost use Rattle.generator.specs.Calls.{refusalFor, stepped, steppedBack, drawing, OnlyBefore};
 ghost use Rattle.pick.specs.Picks.{picking, picked};
-ghost use Rattle.tiedraw.specs.Answers.{drawn, choice, writtenLength, given, writtenFrom, pageFrom};
+ghost use Rattle.c_answers.specs.Answers.{drawn, choice, writtenLength, given, writtenFrom, pageFrom};
+use c_answers::Choice;
+use c_answers::DrawnWord;
+use c_answers::WrittenLength;
 use card::check;
 use card_fields::table;
 use card_format::Written;
@@ -18,28 +21,6 @@ use generator::call;
 use pick::Pick;
 use tsc::Card;
 use tsc::TABLE_SIZE;
-
-// What a draw answers, tiedraw_word: 0 and the word, or the refusal and 0.
-#[repr(C)]
-pub struct DrawnWord {
-    pub word: u32,
-    pub refusal: u8,
-}
-
-// What a pick answers, tiedraw_choice: 0, the shovel and how many ties there were; or the refusal and zeros.
-#[repr(C)]
-pub struct Choice {
-    pub shovel: u16,
-    pub ties: u8,
-    pub refusal: u8,
-}
-
-// What the writer answers, tiedraw_written: 0 and the length, or the refusal and 0.
-#[repr(C)]
-pub struct WrittenLength {
-    pub length: usize,
-    pub refusal: u8,
-}
 
 // 0 for an accepted card, or refusal 1 to 9. DEMAND 3, as of card::check.
 #[no_mangle]

@@ -1,7 +1,7 @@
 use mathlib.Core.Path.{sym, ap, _∙_}
 use lib.Pow.{pow-pos}
 use native.Mathlib.Omega.{arith}
-use Rattle.tiedraw.specs.Answers.{drawn}
+use Rattle.c_answers.specs.Answers.{drawn}
 use borrow.Author.Needs.{needs}
 use Rattle.tiedraw.proofs.tiedraw_draw.Statement.{statement}
 use Rattle.tiedraw.proofs.tiedraw_draw.Tie as tie

@@ -1,6 +1,6 @@
 use mathlib.Core.Path.{sym, ap, _∙_}
 use native.Mathlib.Omega.{arith}
-use Rattle.tiedraw.specs.Answers.{choice}
+use Rattle.c_answers.specs.Answers.{choice}
 use borrow.Author.Needs.{needs}
 use Rattle.tiedraw.proofs.tiedraw_pick.Statement.{statement}
 use Rattle.tiedraw.proofs.tiedraw_pick.Tie as tie

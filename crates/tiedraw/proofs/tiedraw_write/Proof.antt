@@ -3,7 +3,7 @@ use mathlib.Core.List.{List}
 use Prim.Native.Nat.{ℕ}
 use native.Mathlib.Omega.{arith}
 use Rattle.tsc.specs.declared.Card.{Card}
-use Rattle.tiedraw.proofs.Given.{overlong-refused, fitting-written, padded-long, padded-fits, filled-all}
+use Rattle.c_answers.proofs.Given.{overlong-refused, fitting-written, padded-long, padded-fits, filled-all}
 use borrow.Author.Needs.{needs}
 use Rattle.tiedraw.proofs.tiedraw_write.Statement.{statement}
 use Rattle.tiedraw.proofs.tiedraw_write.Tie as tie

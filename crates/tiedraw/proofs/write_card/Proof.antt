@@ -1,6 +1,6 @@
 use mathlib.Core.Path.{sym, ap, _∙_}
 use native.Mathlib.Omega.{arith}
-use Rattle.tiedraw.specs.Answers.{writtenLength}
+use Rattle.c_answers.specs.Answers.{writtenLength}
 use borrow.Author.Needs.{needs}
 use Rattle.tiedraw.proofs.write_card.Statement.{statement}
 use Rattle.tiedraw.proofs.write_card.Tie as tie

@@ -22,7 +22,7 @@ use Rattle.generator.proofs.Called.{drawing-refused}
 use Rattle.pick.specs.declared.Pick.{Pick}
 use Rattle.pick.specs.Picks.{pickRefusal, picking, picked}
 use Rattle.pick.proofs.Picking.{picking-refused}
-use Rattle.tiedraw.specs.Answers.{drawn, choice, writtenLength, overlong, writtenFrom, pageFrom}
+use Rattle.c_answers.specs.Answers.{drawn, choice, writtenLength, overlong, writtenFrom, pageFrom}
 
 -- what every answer is made by: a value with refusal 0 where none applies, else the refusal
 told : {A : Type 0} (refusal : A → ℕ) (r : ℕ) (value refused : A) → refusal value ≡ 0 → refusal refused ≡ r → refusal (cond (eqb r 0) value refused) ≡ r

@@ -15,9 +15,9 @@ use Rattle.generator.specs.declared.Draw.{Draw}
 use Rattle.generator.specs.declared.Draw.the-variants as draw
 use Rattle.pick.specs.declared.Pick.{Pick}
 use Rattle.pick.specs.declared.Pick.the-variants as pick
-use Rattle.tiedraw.specs.declared.DrawnWord.{DrawnWord}
-use Rattle.tiedraw.specs.declared.Choice.{Choice}
-use Rattle.tiedraw.specs.declared.WrittenLength.{WrittenLength}
+use Rattle.c_answers.specs.declared.DrawnWord.{DrawnWord}
+use Rattle.c_answers.specs.declared.Choice.{Choice}
+use Rattle.c_answers.specs.declared.WrittenLength.{WrittenLength}
 
 -- a draw's answer
 abbrev pub drawn : Draw → DrawnWord

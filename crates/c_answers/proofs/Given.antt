@@ -12,7 +12,7 @@ use Rattle.card_format.specs.declared.Written.the-variants.{Refused}
 use Rattle.refusals.specs.Refusals.{outOfRange}
 use Rattle.card_format.specs.Reading.{padded}
 use Rattle.card_format.specs.Writing.{writing, pageAfter}
-use Rattle.tiedraw.specs.Answers.{writtenLength, writtenFrom, pageFrom}
+use Rattle.c_answers.specs.Answers.{writtenLength, writtenFrom, pageFrom}
 
 module _ (card : Card) (page : List ℕ) where
   -- an overlong table: refusal 2, and the page as it was
