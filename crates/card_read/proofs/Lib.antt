@@ -1,4 +1,3 @@
 -- Laws for the reader.
 pub mod Map
-pub mod FieldRead
 pub mod Reader

@@ -8,12 +8,12 @@ use native.Mathlib.Omega.{arith}
 use borrow.Author.Tests.{eq-eqb, ne-eqb, ltb-false}
 use lib.Dec.{eqb}
 use lib.ListN.{length, getD}
-use Rattle.card_read.specs.declared.read.Values.{Values}
+use Rattle.card_values.specs.declared.values.Values.{Values}
 use Rattle.refusals.specs.Refusals.{firstOf, NoneApplies}
 use Rattle.card_format.specs.Fields.{Field, field, extent, numbers}
 use Rattle.card_format.specs.Reading.{partChecks}
 use Rattle.refusals.proofs.Refusals.{none-first}
-use Rattle.card_read.specs.FieldRead.{refusedAt, fieldRead}
+use Rattle.card_values.specs.FieldRead.{refusedAt, fieldRead}
 
 -- a field that nothing refuses has its bytes
 pub part-long : (f : Field) (part : List ℕ) → firstOf (partChecks f part) ≡ 0 → extent f ≤ length part
