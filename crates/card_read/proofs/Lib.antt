@@ -1,3 +1,4 @@
 -- Laws for the reader.
 pub mod Map
+pub mod FieldRead
 pub mod Reader

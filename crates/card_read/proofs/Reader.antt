@@ -28,7 +28,7 @@ use Rattle.card_format.proofs.Verdict.{answering-refused, words-sound}
 use Rattle.card_format.proofs.RoundTrip.{row-facts}
 use Rattle.card_read.proofs.Map.{Left, lowest-one, left-below, next-field}
 use Rattle.card_format.proofs.Sound.{offset-suc, fields-none, none-fitting, value-words, sound-value}
-use Rattle.card_values.proofs.FieldRead.{used-fits}
+use Rattle.card_read.proofs.FieldRead.{used-fits}
 
 -- the numbers of absent fields
 abbrev pub absents : List ℕ

@@ -1,13 +1,42 @@
 // Reading a card: refusals 1 to 6, and the eight values.
 ghost use mathlib.Core.Path.{_≡_};
+ghost use Prim.Native.Nat.{_<_, _≤_};
+ghost use lib.ListN.{length, getD};
+ghost use Rattle.tsc.specs.Constants.{mostWords};
+ghost use Rattle.card_format.specs.Fields.{fieldCount};
 ghost use Rattle.card_format.specs.Reading.{reading};
+ghost use Rattle.card_values.specs.FieldRead.{fieldRead};
 use card_fields::field;
+use card_fields::number;
+use card_fields::number::Number;
 use card_fields::table;
 use card_format::Reading;
 use card_values::answer;
 use card_values::end;
 use card_values::values;
 use card_values::values::Values;
+
+// Field k at the start of the part.
+fn read_field(k: usize, part: &[u8], v: Values) -> Values
+    requires { ⌜ (k < fieldCount) × (getD (v .numbers) 0 0 ≤ mostWords) ⌝ }
+    ensures { λ r. ⌜ r ≡ fieldRead k (now (part .entry)) v ⌝ }
+    ensures { λ r. ⌜ r .used ≤ length (now (part .entry)) ⌝ }
+{
+    if k == field::TABLE {
+        return values::read_table(part, v);
+    }
+    let m = v.numbers[field::WORDS];
+    match number::read_number(k, m, part) {
+        Number::Value(x) => {
+            let mut out = v;
+            out.refusal = 0;
+            out.used = field::extent_of(k, m);
+            out.numbers[k] = x;
+            out
+        }
+        Number::Refused(r) => values::refused_at(v, r),
+    }
+}
 
 // Any bytes as a card: 0 and the eight values, or the first of refusals 1 to 6 that applies.
 pub fn read(card: &[u8]) -> Reading
@@ -30,7 +59,7 @@ pub fn read(card: &[u8]) -> Reading
         if end::table_missing(next, k, v.numbers[field::WORDS]) {
             return answer::refused(refusals::TABLE_MISSING);
         }
-        v = values::read_field(k, &card[at..], v);
+        v = read_field(k, &card[at..], v);
         if v.refusal != 0 {
             return answer::refused(v.refusal);
         }

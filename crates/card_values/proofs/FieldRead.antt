@@ -1,36 +1,15 @@
--- What the field readers' answers say.
+-- What a field's reader answers for a refusal.
 use mathlib.Core.Path.{_≡_, refl}
-use mathlib.Core.Bool.{false, cond}
+use mathlib.Core.Bool.{false}
 use mathlib.Core.List.{List}
-use Prim.Native.Nat.{ℕ, _≤_}
-use native.Mathlib.Decide.{ℕ-discrete}
-use native.Mathlib.Omega.{arith}
-use borrow.Author.Tests.{eq-eqb, ne-eqb, ltb-false}
+use Prim.Native.Nat.{ℕ}
 use lib.Dec.{eqb}
-use lib.ListN.{length, getD}
+use lib.ListN.{getD}
 use Rattle.card_values.specs.declared.values.Values.{Values}
-use Rattle.refusals.specs.Refusals.{firstOf, NoneApplies}
-use Rattle.card_format.specs.Fields.{Field, field, extent, numbers}
+use Rattle.refusals.specs.Refusals.{firstOf}
+use Rattle.card_format.specs.Fields.{field}
 use Rattle.card_format.specs.Reading.{partChecks}
-use Rattle.refusals.proofs.Refusals.{none-first}
 use Rattle.card_values.specs.FieldRead.{refusedAt, fieldRead}
-
--- a field that nothing refuses has its bytes
-pub part-long : (f : Field) (part : List ℕ) → firstOf (partChecks f part) ≡ 0 → extent f ≤ length part
-unfolding partChecks NoneApplies
-part-long f part e = ltb-false (length part) (extent f) (none-first (partChecks f part) e .0)
-
--- a field's reader uses bytes of the part alone
-pub used-fits : (k : ℕ) (part : List ℕ) (v : Values) → fieldRead k part v .used ≤ length part
-unfolding fieldRead
-used-fits k part v = go (ℕ-discrete (firstOf (partChecks f part)) 0)
-  where
-    f : Field
-    f = field (getD (v .numbers) 0 0) k
-
-    go : Dec (firstOf (partChecks f part) ≡ 0) → cond (eqb (firstOf (partChecks f part)) 0) (extent f) 0 ≤ length part
-    go (yes e) = rw (eq-eqb _ 0 e) (part-long f part e)
-    go (no ne) = rw (ne-eqb _ 0 ne) (omega arith)
 
 -- a refusal, with the values as they were, is what a field's reader answers where the field's checks tell it
 pub field-refused : (k : ℕ) (part : List ℕ) (v : Values) (r : ℕ) → eqb r 0 ≡ false → firstOf (partChecks (field (getD (v .numbers) 0 0) k) part) ≡ r

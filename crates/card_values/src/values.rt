@@ -1,13 +1,11 @@
-// The values of a card, read field by field.
+// The values of a card on the way from field to field, and the table's reader.
 ghost use mathlib.Core.Path.{_≡_};
-ghost use Prim.Native.Nat.{_<_, _≤_};
-ghost use lib.ListN.{length, getD};
+ghost use Prim.Native.Nat.{_≤_};
+ghost use lib.ListN.{getD};
 ghost use Rattle.tsc.specs.Constants.{mostWords};
-ghost use Rattle.card_format.specs.Fields.{fieldCount, tableBit};
+ghost use Rattle.card_format.specs.Fields.{tableBit};
 ghost use Rattle.card_values.specs.FieldRead.{refusedAt, fieldRead};
 use card_fields::field;
-use card_fields::number;
-use card_fields::number::Number;
 use card_fields::table;
 use tsc::TABLE_SIZE;
 
@@ -20,7 +18,7 @@ pub struct Values {
 }
 
 // A field's refusal, with the values as they were.
-fn refused_at(v: Values, number: u8) -> Values
+pub fn refused_at(v: Values, number: u8) -> Values
     ensures { λ r. ⌜ r ≡ refusedAt v number ⌝ }
 {
     let mut out = v;
@@ -29,8 +27,8 @@ fn refused_at(v: Values, number: u8) -> Values
     out
 }
 
-// The table at the start of the part.
-fn read_table(part: &[u8], v: Values) -> Values
+// The table at the start of the part. The reader has m from a words field that passed its checks, or from its absent value.
+pub fn read_table(part: &[u8], v: Values) -> Values
     requires { ⌜ getD (v .numbers) 0 0 ≤ mostWords ⌝ }
     ensures { λ r. ⌜ r ≡ fieldRead tableBit (now (part .entry)) v ⌝ }
 {
@@ -52,27 +50,5 @@ fn read_table(part: &[u8], v: Values) -> Values
         used: size,
         numbers: numbers,
         table: table,
-    }
-}
-
-// Field k at the start of the part. The reader has k from the map byte, and m from a words field that passed its checks, or from its absent value.
-pub fn read_field(k: usize, part: &[u8], v: Values) -> Values
-    requires { ⌜ (k < fieldCount) × (getD (v .numbers) 0 0 ≤ mostWords) ⌝ }
-    ensures { λ r. ⌜ r ≡ fieldRead k (now (part .entry)) v ⌝ }
-    ensures { λ r. ⌜ r .used ≤ length (now (part .entry)) ⌝ }
-{
-    if k == field::TABLE {
-        return read_table(part, v);
-    }
-    let m = v.numbers[field::WORDS];
-    match number::read_number(k, m, part) {
-        Number::Value(x) => {
-            let mut out = v;
-            out.refusal = 0;
-            out.used = field::extent_of(k, m);
-            out.numbers[k] = x;
-            out
-        }
-        Number::Refused(r) => refused_at(v, r),
     }
 }
