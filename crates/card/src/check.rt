@@ -8,6 +8,7 @@ ghost use Rattle.card_format.specs.Verdict.{periodChecks, verdict, ZeroIffCover
 use card_fields::table;
 use card_format::Reading;
 use card_read::read;
+use card_values::answer;
 use tsc::Card;
 
 // The first of refusals 7 to 9 that applies to a card's values, or 0. The check and the writer call it once refusals 1 to 6 are ruled out.
@@ -43,7 +44,7 @@ pub fn accept(card: &[u8]) -> Reading
     let values = found.card;
     let number = period_refusal(values);
     if number != 0 {
-        return read::refused(number);
+        return answer::refused(number);
     }
     found
 }

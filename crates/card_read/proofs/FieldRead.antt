@@ -1,6 +1,6 @@
--- What the field readers' answers say.
-use mathlib.Core.Path.{_≡_, refl}
-use mathlib.Core.Bool.{false, cond}
+-- A field's reader uses bytes of its part alone.
+use mathlib.Core.Path.{_≡_}
+use mathlib.Core.Bool.{cond}
 use mathlib.Core.List.{List}
 use Prim.Native.Nat.{ℕ, _≤_}
 use native.Mathlib.Decide.{ℕ-discrete}
@@ -8,12 +8,12 @@ use native.Mathlib.Omega.{arith}
 use borrow.Author.Tests.{eq-eqb, ne-eqb, ltb-false}
 use lib.Dec.{eqb}
 use lib.ListN.{length, getD}
-use Rattle.card_read.specs.declared.read.Values.{Values}
+use Rattle.card_values.specs.declared.values.Values.{Values}
 use Rattle.refusals.specs.Refusals.{firstOf, NoneApplies}
-use Rattle.card_format.specs.Fields.{Field, field, extent, numbers}
+use Rattle.card_format.specs.Fields.{Field, field, extent}
 use Rattle.card_format.specs.Reading.{partChecks}
 use Rattle.refusals.proofs.Refusals.{none-first}
-use Rattle.card_read.specs.FieldRead.{refusedAt, fieldRead}
+use Rattle.card_values.specs.FieldRead.{fieldRead}
 
 -- a field that nothing refuses has its bytes
 pub part-long : (f : Field) (part : List ℕ) → firstOf (partChecks f part) ≡ 0 → extent f ≤ length part
@@ -31,9 +31,3 @@ used-fits k part v = go (ℕ-discrete (firstOf (partChecks f part)) 0)
     go : Dec (firstOf (partChecks f part) ≡ 0) → cond (eqb (firstOf (partChecks f part)) 0) (extent f) 0 ≤ length part
     go (yes e) = rw (eq-eqb _ 0 e) (part-long f part e)
     go (no ne) = rw (ne-eqb _ 0 ne) (omega arith)
-
--- a refusal, with the values as they were, is what a field's reader answers where the field's checks tell it
-pub field-refused : (k : ℕ) (part : List ℕ) (v : Values) (r : ℕ) → eqb r 0 ≡ false → firstOf (partChecks (field (getD (v .numbers) 0 0) k) part) ≡ r
-    → refusedAt v r ≡ fieldRead k part v
-unfolding fieldRead
-field-refused k part v r ne e = rw (e, ne) refl

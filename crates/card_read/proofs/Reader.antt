@@ -16,11 +16,11 @@ use lib.ListN.{length, getD, set, drop, length-drop}
 use lib.Seq.{getD-set-other, set-getD}
 use Rattle.tsc.specs.Constants.{mostWords, defaultWords, tsc1Table}
 use Rattle.cycle.specs.Notation.{sum, tabulate}
-use Rattle.card_read.specs.declared.read.Values.{Values}
+use Rattle.card_values.specs.declared.values.Values.{Values}
 use Rattle.refusals.specs.Refusals.{Check, firstOf, NoneApplies}
 use Rattle.card_format.specs.Fields.{field, fields, fieldCount, tableBit, constantBit, numbers}
 use Rattle.card_format.specs.Reading.{reading, refusedReading, answering, present, offset, valuesAt, wordsOf, values, value, padded, cardFrom, cardOf, partChecks, fieldChecks, checksTo, formChecks, SoundForm}
-use Rattle.card_read.specs.FieldRead.{fieldRead, missing, endChecks}
+use Rattle.card_values.specs.FieldRead.{fieldRead, missing, endChecks}
 use Rattle.refusals.proofs.Refusals.{none-first, first-append, first-left, none-append}
 use Rattle.card_format.proofs.Fields.{each-number, count-one, size-one, allowed-at}
 use Rattle.card_fields.proofs.Arrays.{arrayOf, array-of}

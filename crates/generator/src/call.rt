@@ -12,7 +12,7 @@ ghost use Rattle.generator.specs.declared.Draw.the-variants.{Word};
 ghost use Rattle.generator.specs.Calls.{refusalFor, refusedOpening, opening, stepped, steppedBack, drawing, OnlyBefore};
 use super::Draw;
 use card::check;
-use card_read::read;
+use card_values::answer;
 use filters::filter;
 use state_words::lent;
 use stepping::back;
@@ -32,7 +32,7 @@ pub struct Opened {
 fn refused(number: u8) -> Opened
     ensures { λ r. ⌜ r ≡ refusedOpening number ⌝ }
 {
-    let none = read::refused(number);
+    let none = answer::refused(number);
     let card = none.card;
     Opened {
         refusal: number,

@@ -14,7 +14,7 @@ use Rattle.card_format.specs.Fields.{field, fields, fieldCount}
 use Rattle.card_format.specs.Reading.{formChecks}
 use Rattle.card_format.proofs.Lists.{part-rest}
 use Rattle.card_fields.proofs.Arrays.{arrayOf}
-use Rattle.card_read.specs.FieldRead.{fieldRead, missing}
+use Rattle.card_values.specs.FieldRead.{fieldRead, missing}
 use Rattle.card_read.proofs.Map.{lowest-one, left-all, ones-none, ones-some}
 use Rattle.card_read.proofs.Reader.{Reached, Rest, reached-map, rest-gap, rest-here, rest-next, rest-refused, words-few, told-end, end-reached, told-empty, card-read, reading-refused, reading-accepted, byte-values}
 use Rattle.card_read.proofs.read.read.Statement.{statement}

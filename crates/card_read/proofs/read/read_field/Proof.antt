@@ -8,13 +8,14 @@ use borrow.Author.Tests.{ne-eqb, eqb-true}
 use lib.Dec.{eqb, lit<}
 use lib.ListN.{length, getD, set}
 use Rattle.card_fields.specs.declared.number.Number.the-variants.{Value, Refused}
-use Rattle.card_read.specs.declared.read.Values.{Values}
+use Rattle.card_values.specs.declared.values.Values.{Values}
 use Rattle.refusals.specs.Refusals.{firstOf}
 use Rattle.card_format.specs.Fields.{Field, field, tableBit, extent}
 use Rattle.card_format.specs.Reading.{partChecks}
-use Rattle.card_read.specs.FieldRead.{refusedAt, fieldRead}
+use Rattle.card_values.specs.FieldRead.{refusedAt, fieldRead}
 use Rattle.card_fields.proofs.Answer.{answered}
-use Rattle.card_read.proofs.FieldRead.{used-fits, field-refused}
+use Rattle.card_values.proofs.FieldRead.{field-refused}
+use Rattle.card_read.proofs.FieldRead.{used-fits}
 use Rattle.card_read.proofs.read.read_field.Statement.{statement}
 use Rattle.card_read.proofs.read.read_field.Tie as tie
 

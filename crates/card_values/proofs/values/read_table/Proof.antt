@@ -9,16 +9,16 @@ use native.Mathlib.Nat.{mul-one}
 use native.Mathlib.Omega.{arith}
 use borrow.Author.Tests.{not-true, not-false}
 use lib.ListN.{length, getD, take}
-use Rattle.card_read.specs.declared.read.Values.{Values}
+use Rattle.card_values.specs.declared.values.Values.{Values}
 use Rattle.refusals.specs.Refusals.{firstOf}
 use Rattle.card_format.specs.Fields.{field, fields, tableBit, numbers, allowed, same}
 use Rattle.card_format.specs.Reading.{partChecks, padded}
-use Rattle.card_read.specs.FieldRead.{fieldRead}
+use Rattle.card_values.specs.FieldRead.{fieldRead}
 use Rattle.card_format.proofs.Fields.{few-entries, numbers-table, table-short, table-refusal}
 use borrow.Author.Needs.{needs}
-use Rattle.card_read.proofs.FieldRead.{field-refused}
-use Rattle.card_read.proofs.read.read_table.Statement.{statement}
-use Rattle.card_read.proofs.read.read_table.Tie as tie
+use Rattle.card_values.proofs.FieldRead.{field-refused}
+use Rattle.card_values.proofs.values.read_table.Statement.{statement}
+use Rattle.card_values.proofs.values.read_table.Tie as tie
 use lib.Dec.{lit<}
 
 stored-as : (part : List ℕ) (v : Values) (size : ℕ) (t : List ℕ) → size ≡ 2 ^ getD (v .numbers) 0 0 → t ≡ padded (take size part)

@@ -1,6 +1,6 @@
 use borrow.Author.Tests.{le-leb, lt-leb, lt-ltb, le-ltb}
-use Rattle.card_read.proofs.read.table_missing.Statement.{statement}
-use Rattle.card_read.proofs.read.table_missing.Tie as tie
+use Rattle.card_values.proofs.end.table_missing.Statement.{statement}
+use Rattle.card_values.proofs.end.table_missing.Tie as tie
 
 returns : tie.Need-returns
 returns c = simp (le-leb _ _ (c .before .if1 .taken), lt-ltb _ _ (c .if2 .taken))

@@ -1,6 +1,6 @@
 use native.Mathlib.Omega.{arith}
-use Rattle.card_read.proofs.read.card_of.Statement.{statement}
-use Rattle.card_read.proofs.read.card_of.Tie as tie
+use Rattle.card_values.proofs.answer.card_of.Statement.{statement}
+use Rattle.card_values.proofs.answer.card_of.Tie as tie
 use lib.Dec.{lit<}
 use mathlib.Core.Path.{refl}
 

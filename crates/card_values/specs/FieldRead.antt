@@ -1,10 +1,10 @@
--- What inner functions of the reader answer. Only their contracts cite these; the public contracts do without.
+-- What the functions that the reader calls answer. Only their contracts cite these; the reader's own does without.
 use mathlib.Core.Bool.{Bool, cond, not, _&&_}
 use mathlib.Core.List.{List, [], _∷_}
 use Prim.Native.Nat.{ℕ}
 use lib.Dec.{eqb, leb, ltb}
 use lib.ListN.{getD, set}
-use Rattle.card_read.specs.declared.read.Values.{Values}
+use Rattle.card_values.specs.declared.values.Values.{Values}
 use Rattle.tsc.specs.Constants.{defaultWords}
 use Rattle.refusals.specs.Refusals.{Check, check, firstOf, tableMissing, trailingBytes}
 use Rattle.card_format.specs.Fields.{field, fieldCount, tableBit, extent, numbers}

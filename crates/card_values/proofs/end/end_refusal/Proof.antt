@@ -4,9 +4,9 @@ use borrow.Author.Tests.{lt-ltb, le-ltb}
 use Rattle.card_format.specs.Fields.{fieldCount}
 use lib.ListN.{getD}
 use Rattle.refusals.specs.Refusals.{firstOf}
-use Rattle.card_read.specs.FieldRead.{missing, endChecks}
-use Rattle.card_read.proofs.read.end_refusal.Statement.{statement}
-use Rattle.card_read.proofs.read.end_refusal.Tie as tie
+use Rattle.card_values.specs.FieldRead.{missing, endChecks}
+use Rattle.card_values.proofs.end.end_refusal.Statement.{statement}
+use Rattle.card_values.proofs.end.end_refusal.Tie as tie
 use lib.Dec.{lit<}
 
 -- past the first test the table is not missing

@@ -1,0 +1,2 @@
+-- Laws for a field's reader.
+pub mod FieldRead
