@@ -1,9 +1,10 @@
-// What answers are made of, on standard output.
+// What answers are made of, on standard output. Lists are arrays by value and a count; that the count is not more than the array has, the callers have seen.
 ghost use mathlib.Core.Path.{_≡_};
 ghost use Prim.Native.Nat.{_^_, _≤_};
 ghost use Rattle.tsc.specs.Constants.{mostWords};
 ghost use Rattle.card_format.specs.Fields.{same};
 ghost use Rattle.case_fields.specs.Lists.{room};
+ghost use Rattle.case_answers.specs.Page.{mostPage};
 use case_fields::list::Numbers;
 use case_fields::list::ROOM;
 use tsc::TABLE_SIZE;
@@ -11,7 +12,7 @@ use tsc::TABLE_SIZE;
 // The most bytes of a page.
 pub const PAGE: usize = 600;
 
-// Number k of a list, k counted from 0: a comma before all but the first.
+// A comma before number k of a list, counted from 0, but for the first.
 fn print_comma(k: usize) {
     if 0 < k {
         io::write_all(1, b",");
@@ -59,7 +60,7 @@ fn print_byte(byte: u8) {
 
 // The first bytes of a page.
 pub fn print_bytes(page: [u8; PAGE], size: usize)
-    requires { ⌜ size ≤ 600 ⌝ }
+    requires { ⌜ size ≤ mostPage ⌝ }
 {
     let mut k = 0;
     while k < size {
@@ -74,7 +75,7 @@ pub fn print_number(number: u8) {
     io::write_all(1, b" ");
 }
 
-// The answer to a refused call: the number, and a cry where state or page were not left as lent.
+// The answer to a refused call: the number, and CHANGED where state or page were not left as lent, which the contracts of the calls rule out.
 pub fn print_refused(number: u8, kept: bool) {
     io::write_all(1, b"refused ");
     io::print_decimal(1, number as u64);

@@ -1,12 +1,13 @@
-// The calls, each with its answer printed. A state is handed over as a list of words, lent to the call as a copy, and compared with it after a refusal. Which
-// numbers are printed is in the contracts of the calls; no contract can speak of what is printed, so the stored output of the program holds that.
+// The calls, each with its answer printed. A state is handed over as a list of words, lent to the call as a copy, and compared with it after a refusal; that the
+// list is not more than its array, and a page not more than the most, case_replay has seen. Which numbers are printed is in the contracts of the calls; no
+// contract can speak of what is printed, so the stored output of the program holds that.
 ghost use mathlib.Core.Path.{_≡_};
 ghost use Prim.Native.Nat.{_≤_};
 ghost use Rattle.cycle.specs.Notation.{iterate};
 ghost use Rattle.tsc.specs.Constants.{mostWords};
 ghost use Rattle.generator.specs.Calls.{stepped};
-ghost use lib.ListN.{replicate};
 ghost use Rattle.case_fields.specs.Lists.{room};
+ghost use Rattle.case_answers.specs.Page.{mostPage, untouchedPage};
 use card_fields::table;
 use card_format::Written;
 use card_read::read;
@@ -127,7 +128,7 @@ fn print_draws(card: &[u8], state: &mut [u32], count: usize)
     }
 }
 
-// So many words drawn. What a draw would be refused for, none is refused for too.
+// So many words drawn. No draw at all is refused as a draw is.
 pub fn print_run(card: &[u8], state: Numbers, count: usize)
     requires { ⌜ state .count ≤ room ⌝ }
 {
@@ -169,16 +170,16 @@ pub fn print_pick(card: &[u8], state: Numbers, shovels: &[u16], times: &[u32])
     print_picked(picked, state, words);
 }
 
-// A page as it is lent: every byte a5.
+// A page as it is lent.
 fn untouched() -> [u8; PAGE]
-    ensures { λ r. ⌜ r ≡ replicate 600 165 ⌝ }
+    ensures { λ r. ⌜ r ≡ untouchedPage ⌝ }
 {
     [0xa5; PAGE]
 }
 
 // A writer's answer, and the whole page after it.
 fn print_written(written: Written, page: [u8; PAGE], size: usize)
-    requires { ⌜ size ≤ 600 ⌝ }
+    requires { ⌜ size ≤ mostPage ⌝ }
 {
     match written {
         Written::Length(length) => {
@@ -196,7 +197,7 @@ fn print_written(written: Written, page: [u8; PAGE], size: usize)
 
 // Values written to a page of so many bytes.
 pub fn print_write(card: Card, size: usize)
-    requires { ⌜ size ≤ 600 ⌝ }
+    requires { ⌜ size ≤ mostPage ⌝ }
 {
     let mut page = untouched();
     let written = write::write(card, &mut page[..size]);

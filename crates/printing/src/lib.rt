@@ -1,4 +1,4 @@
-// Words printed on standard output, for the program and the test programs.
+// Words printed on standard output, for the program.
 ghost use mathlib.Core.Path.{_≡_};
 
 // A word as print_hex takes it.

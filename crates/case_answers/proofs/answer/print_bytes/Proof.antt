@@ -1,10 +1,11 @@
 use Prim.Native.Nat.{_-_, _≤_}
 use native.Mathlib.Omega.{arith}
+use Rattle.case_answers.specs.Page.{mostPage}
 use Rattle.case_answers.proofs.answer.print_bytes.Statement.{statement}
 use Rattle.case_answers.proofs.answer.print_bytes.Tie as tie
 
 abbrev Inv-loop : tie.InvT-loop
-Inv-loop size page k₀ k = (size ≤ 600) × (k ≤ size)
+Inv-loop size page k₀ k = (size ≤ mostPage) × (k ≤ size)
 
 abbrev μ-loop : tie.MeasureT-loop
 μ-loop size page k₀ k = size - k

@@ -3,6 +3,7 @@ use borrow.Author.Needs.{needs}
 use lib.ListN.{length}
 use lib.Seq.{length-take-le}
 use native.Mathlib.Omega.{arith}
+use Rattle.case_answers.specs.Page.{mostPage}
 use Rattle.case_calls.proofs.calls.print_write.Statement.{statement}
 use Rattle.case_calls.proofs.calls.print_write.Tie as tie
 
@@ -11,12 +12,12 @@ untouched-requires c κs = tt
 
 array-borrow-prefix-page : tie.Need-array-borrow-prefix-page
 array-borrow-prefix-page c =
-    let z : length (c .untouched .result) ≡ 600 = search needs in
+    let z : length (c .untouched .result) ≡ mostPage = search needs in
     omega (arith, z, c .before .pre)
 
 slice-aggregate-write : tie.Need-slice-aggregate-write
 slice-aggregate-write c =
-    let z : length (c .before .untouched .result) ≡ 600 = search needs in
+    let z : length (c .before .untouched .result) ≡ mostPage = search needs in
     sym (length-take-le _ _ (omega (arith, z, c .before .before .pre)))
 
 write-requires : tie.Need-write-requires
