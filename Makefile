@@ -15,7 +15,7 @@ run:
 replay:
 	@echo "Proving and building the program; a few minutes the first time." >&2
 	@mkdir -p target && rt check replay > target/replay.log || { cat target/replay.log; exit 1; }
-	@sed 's/ => .*//' $(CASES) | target/bin/replay
+	@set -o pipefail; sed 's/ => .*//' $(CASES) | target/bin/replay
 
 test:
 	bash .ci/run

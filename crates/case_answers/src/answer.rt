@@ -12,6 +12,11 @@ use tsc::TABLE_SIZE;
 // The most bytes of a page.
 pub const PAGE: usize = 600;
 
+// The answer to a line that is no case.
+pub fn print_syntax() {
+    io::write_all(1, b"syntax\n");
+}
+
 // A comma before number k of a list, counted from 0, but for the first.
 fn print_comma(k: usize) {
     if 0 < k {

@@ -1,7 +1,7 @@
 use Rattle.card_format.proofs.Fields.{few-entries}
 use native.Mathlib.Omega.{arith}
-use Rattle.case_calls.proofs.calls.print_values.Statement.{statement}
-use Rattle.case_calls.proofs.calls.print_values.Tie as tie
+use Rattle.case_cards.proofs.calls.print_values.Statement.{statement}
+use Rattle.case_cards.proofs.calls.print_values.Tie as tie
 
 print-number-requires : tie.Need-print-number-requires
 print-number-requires c κs = tt

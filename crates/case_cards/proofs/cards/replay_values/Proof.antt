@@ -3,8 +3,8 @@ use lib.ListN.{length}
 use Rattle.case_fields.specs.Lists.{room}
 use borrow.Author.Needs.{needs}
 use native.Mathlib.Omega.{arith}
-use Rattle.case_replay.proofs.line.replay_values.Statement.{statement}
-use Rattle.case_replay.proofs.line.replay_values.Tie as tie
+use Rattle.case_cards.proofs.cards.replay_values.Statement.{statement}
+use Rattle.case_cards.proofs.cards.replay_values.Tie as tie
 
 element-copy-out-size : tie.Need-element-copy-out-size
 element-copy-out-size c = search needs

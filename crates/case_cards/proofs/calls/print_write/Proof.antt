@@ -4,8 +4,8 @@ use lib.ListN.{length}
 use lib.Seq.{length-take-le}
 use native.Mathlib.Omega.{arith}
 use Rattle.case_answers.specs.Page.{mostPage}
-use Rattle.case_calls.proofs.calls.print_write.Statement.{statement}
-use Rattle.case_calls.proofs.calls.print_write.Tie as tie
+use Rattle.case_cards.proofs.calls.print_write.Statement.{statement}
+use Rattle.case_cards.proofs.calls.print_write.Tie as tie
 
 untouched-requires : tie.Need-untouched-requires
 untouched-requires c κs = tt

@@ -1,63 +1,17 @@
-// The calls, each with its answer printed. A state is handed over as a list of words, lent to the call as a copy, and compared with it after a refusal; that the
-// list is not more than its array, and a page not more than the most, case_replay has seen. Which numbers are printed is in the contracts of the calls; no
-// contract can speak of what is printed, so the stored output of the program holds that.
+// The calls on a card and a state, each with its answer printed. A state is handed over as a list of words, lent to the call as a copy, and compared with it
+// after a refusal; that the list is not more than its array, the line's reader has seen. Which numbers are printed is in the contracts of the calls; no contract
+// can speak of what is printed, so the stored output of the program holds that.
 ghost use mathlib.Core.Path.{_≡_};
 ghost use Prim.Native.Nat.{_≤_};
 ghost use Rattle.cycle.specs.Notation.{iterate};
-ghost use Rattle.tsc.specs.Constants.{mostWords};
 ghost use Rattle.generator.specs.Calls.{stepped};
 ghost use Rattle.case_fields.specs.Lists.{room};
-ghost use Rattle.case_answers.specs.Page.{mostPage, untouchedPage};
-use card_fields::table;
-use card_format::Written;
-use card_read::read;
-use card_write::write;
 use case_answers::answer;
-use case_answers::answer::PAGE;
 use case_fields::list::Numbers;
 use case_fields::list::ROOM;
 use generator::Draw;
 use generator::call;
 use pick::Pick;
-use tsc::Card;
-
-// The verdict on a card.
-pub fn print_check(card: &[u8]) {
-    io::write_all(1, b"verdict ");
-    io::print_decimal(1, card::check::check(card) as u64);
-    io::write_all(1, b"\n");
-}
-
-// The eight values of a card.
-fn print_values(card: Card)
-    requires { ⌜ card .words ≤ mostWords ⌝ }
-{
-    answer::print_number(card.words);
-    answer::print_number(card.width);
-    let table = card.table;
-    let size = table::entries(card.words as u32);
-    answer::print_entries(table, size);
-    io::write_all(1, b" ");
-    answer::print_number(card.odd_power);
-    answer::print_number(card.even_power);
-    io::write_all(1, b"0x");
-    answer::print_word(0, card.constant);
-    io::write_all(1, b" ");
-    answer::print_number(card.filter);
-    io::print_decimal(1, card.sum_term as u64);
-}
-
-// A card read.
-pub fn print_read(card: &[u8]) {
-    let found = read::read(card);
-    if found.refusal != 0 {
-        return answer::print_refused(found.refusal, true);
-    }
-    let values = found.card;
-    io::write_all(1, b"fields ");
-    print_values(values);
-    io::write_all(1, b"\n");
-}
 
 // A step.
 pub fn print_step(card: &[u8], state: Numbers)
@@ -168,38 +122,4 @@ pub fn print_pick(card: &[u8], state: Numbers, shovels: &[u16], times: &[u32])
     let m = state.count;
     let picked = pick::call::pick(card, &mut words[..m], shovels, times);
     print_picked(picked, state, words);
-}
-
-// A page as it is lent.
-fn untouched() -> [u8; PAGE]
-    ensures { λ r. ⌜ r ≡ untouchedPage ⌝ }
-{
-    [0xa5; PAGE]
-}
-
-// A writer's answer, and the whole page after it.
-fn print_written(written: Written, page: [u8; PAGE], size: usize)
-    requires { ⌜ size ≤ mostPage ⌝ }
-{
-    match written {
-        Written::Length(length) => {
-            io::write_all(1, b"length ");
-            io::print_decimal(1, length as u64);
-            io::write_all(1, b" page ");
-            answer::print_bytes(page, size);
-            io::write_all(1, b"\n");
-        }
-        Written::Refused(number) => {
-            answer::print_refused(number, check::same(&page, &untouched()));
-        }
-    }
-}
-
-// Values written to a page of so many bytes.
-pub fn print_write(card: Card, size: usize)
-    requires { ⌜ size ≤ mostPage ⌝ }
-{
-    let mut page = untouched();
-    let written = write::write(card, &mut page[..size]);
-    print_written(written, page, size);
 }

@@ -2,8 +2,8 @@ use mathlib.Core.Path.{ap}
 use Rattle.tsc.specs.declared.Card.{Card}
 use Rattle.card_format.proofs.Verdict.{reading-sound, words-sound}
 use native.Mathlib.Omega.{arith}
-use Rattle.case_calls.proofs.calls.print_read.Statement.{statement}
-use Rattle.case_calls.proofs.calls.print_read.Tie as tie
+use Rattle.case_cards.proofs.calls.print_read.Statement.{statement}
+use Rattle.case_cards.proofs.calls.print_read.Tie as tie
 
 read-requires : tie.Need-read-requires
 read-requires c κs = tt

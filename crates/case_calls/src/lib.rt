@@ -1,2 +1,0 @@
-// The calls of replayed cases, each made and answered.
-pub mod calls;

@@ -1,0 +1,87 @@
+// The lines of cases on a card and a state.
+ghost use Prim.Native.Nat.{_≤_};
+ghost use Rattle.case_fields.specs.Lists.{room};
+use super::Move;
+use super::calls;
+use case_answers::answer;
+use case_fields::line;
+use case_fields::list;
+use case_fields::list::Numbers;
+use case_fields::list::ROOM;
+use case_numbers::number;
+
+// The most words that a case may ask for.
+const MOST_DRAWS: u64 = 1024;
+
+// The largest numbers of 16 and 32 bits.
+const HALF: u32 = 0xffff;
+
+const WORD: u32 = 0xffff_ffff;
+
+// step CARD STATE, back CARD STATE, draw CARD STATE
+pub fn replay_moved(line: &[u8], call: Move, card: &[u8]) {
+    let state = list::numbers_of(line::field(line, 2), true, WORD);
+    if line::fields(line) != 3 {
+        return answer::print_syntax();
+    }
+    if ROOM <= state.count {
+        return answer::print_syntax();
+    }
+    match call {
+        Move::Step => calls::print_step(card, state),
+        Move::Back => calls::print_back(card, state),
+        Move::Draw => calls::print_draw(card, state),
+    }
+}
+
+// words CARD STATE COUNT
+pub fn replay_words(line: &[u8], card: &[u8]) {
+    let state = list::numbers_of(line::field(line, 2), true, WORD);
+    let count = number::number_of(line::field(line, 3), false);
+    if line::fields(line) != 4 {
+        return answer::print_syntax();
+    }
+    if ROOM <= state.count {
+        return answer::print_syntax();
+    }
+    if MOST_DRAWS < count {
+        return answer::print_syntax();
+    }
+    calls::print_run(card, state, count as usize);
+}
+
+// The first s of the shovels and the first t of the times; a full array can't be read.
+fn replay_parts(card: &[u8], state: Numbers, shovels: &[u16], s: usize, times: &[u32], t: usize)
+    requires { ⌜ state .count ≤ room ⌝ }
+{
+    if shovels.len() <= s {
+        return answer::print_syntax();
+    }
+    if times.len() <= t {
+        return answer::print_syntax();
+    }
+    calls::print_pick(card, state, &shovels[0..s], &times[0..t]);
+}
+
+// The lists of a pick.
+fn replay_lists(line: &[u8], card: &[u8], state: Numbers)
+    requires { ⌜ state .count ≤ room ⌝ }
+{
+    let shovels = list::numbers_of(line::field(line, 3), false, HALF);
+    let times = list::numbers_of(line::field(line, 4), false, WORD);
+    let numbers = shovels.halves;
+    let seconds = times.words;
+    replay_parts(card, state, &numbers, shovels.count, &seconds, times.count);
+}
+
+// pick CARD STATE SHOVELS TIMES
+pub fn replay_pick(line: &[u8], card: &[u8]) {
+    let state = list::numbers_of(line::field(line, 2), true, WORD);
+    if line::fields(line) != 5 {
+        return answer::print_syntax();
+    }
+    if ROOM <= state.count {
+        return answer::print_syntax();
+    }
+    replay_lists(line, card, state);
+}
