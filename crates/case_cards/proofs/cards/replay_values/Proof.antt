@@ -12,14 +12,14 @@ element-copy-out-size c = search needs
 cast-size : tie.Need-cast-size
 cast-size c = search needs
 
-syntax-requires : tie.Need-syntax-requires
-syntax-requires c κs = tt
+print-syntax-requires : tie.Need-print-syntax-requires
+print-syntax-requires c κs = tt
 
 returns : tie.Need-returns
 returns c = omega arith
 
-syntax-requires-2 : tie.Need-syntax-requires-2
-syntax-requires-2 c κs = tt
+print-syntax-requires-2 : tie.Need-print-syntax-requires-2
+print-syntax-requires-2 c κs = tt
 
 returns-2 : tie.Need-returns-2
 returns-2 c = omega arith
@@ -67,9 +67,9 @@ replay-values-spec =
     (tie.spec
     element-copy-out-size
     cast-size
-    syntax-requires
+    print-syntax-requires
     returns
-    syntax-requires-2
+    print-syntax-requires-2
     returns-2
     element-copy-out-t14
     element-copy-out-t17
