@@ -34,10 +34,10 @@ stored $fresh/stdin crates/replay/stdin
 stored $fresh/stdout crates/replay/stdout
 
 # the program's outputs
-for crate in inspect_card inspect_p1 inspect_p2 inspect_refused inspect_nothing inspect_long; do
-    input=crates/$crate/stdin
-    [ -e $input ] || input=/dev/null
-    $programs/inspect < $input > $fresh/$crate
-    stored $fresh/$crate crates/$crate/stdout
-done
+$programs/inspect < crates/inspect_card/stdin > $fresh/inspect_card
+stored $fresh/inspect_card crates/inspect_card/stdout
+for input in p1 p2 refused nothing long; do
+    $programs/inspect < crates/inspect_inputs/data/$input
+done > $fresh/inspect_inputs
+stored $fresh/inspect_inputs crates/inspect_inputs/stdout
 exit $different

@@ -1,5 +1,5 @@
 // What the program prints of a card (document 01, The program). Which numbers these are is in the contracts of the check and of the draw; no contract can
-// speak of what is read and printed, so the stored outputs of the programs inspect_.. hold that.
+// speak of what is read and printed, so the stored outputs of the programs inspect_card and inspect_inputs hold that.
 ghost use mathlib.Core.Path.{_≡_};
 ghost use Rattle.cycle.specs.Notation.{iterate};
 ghost use Rattle.generator.specs.Calls.{stepped};
@@ -51,9 +51,14 @@ pub fn print_card(card: &[u8]) {
     }
 }
 
-// Standard input as a card, up to its end or to the most bytes: a short read is not the end.
-pub fn print_input() {
+// An open file as a card, up to its end or to the most bytes: a short read is not the end.
+pub fn print_from(file: i32) {
     let mut bytes = [0u8; MOST_BYTES];
-    let n = io::read_full(0, &mut bytes);
+    let n = io::read_full(file, &mut bytes);
     print_card(&bytes[..n]);
+}
+
+// Standard input so.
+pub fn print_input() {
+    print_from(0);
 }

@@ -1,4 +1,0 @@
-// The program on no input.
-fn main() {
-    inspect::print_input();
-}
