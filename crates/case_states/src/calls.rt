@@ -1,14 +1,12 @@
 // The calls on a card and a state, each with its answer printed. A state is handed over as a list of words, lent to the call as a copy, and compared with it
 // after a refusal; that the list is not more than its array, the line's reader has seen. Which numbers are printed is in the contracts of the calls; no contract
 // can speak of what is printed, so the stored output of the program holds that.
-ghost use mathlib.Core.Path.{_≡_};
 ghost use Prim.Native.Nat.{_≤_};
-ghost use Rattle.cycle.specs.Notation.{iterate};
-ghost use Rattle.generator.specs.Calls.{stepped};
 ghost use Rattle.case_fields.specs.Lists.{room};
 use case_answers::answer;
 use case_fields::list::Numbers;
 use case_fields::list::ROOM;
+use case_words::draws;
 use generator::Draw;
 use generator::call;
 use pick::Pick;
@@ -58,30 +56,6 @@ pub fn print_draw(card: &[u8], state: Numbers)
     print_drawn(drawn, state, words);
 }
 
-// Word number k of a row of draws.
-fn print_next(k: usize, card: &[u8], state: &mut [u32])
-    ensures { λ _. ⌜ now (state .exit) ≡ stepped (now (card .entry)) (now (state .entry)) ⌝ }
-{
-    match call::draw(card, state) {
-        Draw::Word(word) => answer::print_word(k, word),
-        Draw::Refused(_) => {}
-    }
-}
-
-// So many draws, their words with commas between; - where there are none.
-fn print_draws(card: &[u8], state: &mut [u32], count: usize)
-    ensures { λ _. ⌜ now (state .exit) ≡ iterate (stepped (now (card .entry))) count (now (state .entry)) ⌝ }
-{
-    if count == 0 {
-        io::write_all(1, b"-");
-    }
-    let mut k = 0;
-    while k < count {
-        print_next(k, card, state);
-        k += 1;
-    }
-}
-
 // So many words drawn. No draw at all is refused as a draw is.
 pub fn print_run(card: &[u8], state: Numbers, count: usize)
     requires { ⌜ state .count ≤ room ⌝ }
@@ -93,7 +67,7 @@ pub fn print_run(card: &[u8], state: Numbers, count: usize)
         return answer::print_refused(begun.refusal, true);
     }
     io::write_all(1, b"words ");
-    print_draws(card, &mut words[..m], count);
+    draws::print_draws(card, &mut words[..m], count);
     io::write_all(1, b" ");
     answer::print_state(0, state, words);
 }

@@ -1,0 +1,2 @@
+// Rows of draws in answers.
+pub mod draws;
