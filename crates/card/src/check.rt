@@ -5,9 +5,9 @@ ghost use Rattle.tsc.specs.Constants.{mostWords};
 ghost use Rattle.tsc.specs.Coverage.{WellFormed};
 ghost use Rattle.refusals.specs.Refusals.{firstOf};
 ghost use Rattle.card_format.specs.Verdict.{periodChecks, verdict, ZeroIffCovers, accepting};
-use card_fields::table;
 use card_format::Reading;
 use card_read::read;
+use card_table::table;
 use card_values::answer;
 use tsc::Card;
 

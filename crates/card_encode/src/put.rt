@@ -11,7 +11,7 @@ ghost use Rattle.card_format.specs.Writing.{isWritten, fieldBytes, mapTo, writt
 ghost use Rattle.card_encode.specs.LowBytes.{lowBytes};
 use super::values::number_of;
 use card_fields::field;
-use card_fields::table;
+use card_table::table;
 use tsc::Card;
 use tsc::TABLE_SIZE;
 

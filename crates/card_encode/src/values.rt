@@ -9,7 +9,7 @@ ghost use Rattle.card_format.specs.Fields.{field, fieldCount, tableBit, allowed
 ghost use Rattle.card_format.specs.Writing.{numbersOf, inRange, valueChecks};
 use card::check;
 use card_fields::field;
-use card_fields::table;
+use card_table::table;
 use tsc::Card;
 
 // The number of field k, which is not the table: callers have asked.

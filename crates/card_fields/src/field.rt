@@ -7,7 +7,7 @@ ghost use Prim.Native.Nat.{_^_, _<_, _≤_};
 ghost use lib.Dec.{leb};
 ghost use Rattle.tsc.specs.Constants.{mostWords};
 ghost use Rattle.card_format.specs.Fields.{field, fieldCount, tableBit, extent, allowed, same};
-use super::table::entries;
+use card_table::table::entries;
 use tsc::DEFAULT_WORDS;
 use tsc::MOST_WORDS;
 

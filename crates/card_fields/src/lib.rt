@@ -1,4 +1,3 @@
-// The fields of a card one by one: what they allow, a number or a table read from its bytes, and the table's own tests.
+// The fields of a card one by one: what they allow, and a number read from its bytes. The table's code is in crate card_table.
 pub mod field;
 pub mod number;
-pub mod table;

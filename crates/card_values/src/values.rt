@@ -6,7 +6,7 @@ ghost use Rattle.tsc.specs.Constants.{mostWords};
 ghost use Rattle.card_format.specs.Fields.{tableBit};
 ghost use Rattle.card_values.specs.FieldRead.{refusedAt, fieldRead};
 use card_fields::field;
-use card_fields::table;
+use card_table::table;
 use tsc::TABLE_SIZE;
 
 // What a field's reader hands on: the refusal or 0, the bytes that it used, and the values so far, the numbers by their bits.

@@ -1,6 +1,6 @@
 // The lines of cases on cards.
 use super::calls;
-use card_fields::table;
+use card_table::table;
 use case_answers::answer;
 use case_answers::answer::PAGE;
 use case_fields::line;

@@ -8,7 +8,7 @@ ghost use Rattle.tsc.specs.Constants.{mostWords};
 ghost use Rattle.tsc.specs.Coverage.{WellFormed};
 ghost use Rattle.tsc.specs.Step.{entry};
 ghost use Rattle.columns.specs.Replace.{IsPower};
-use card_fields::table;
+use card_table::table;
 use tsc::Card;
 use tsc::TABLE_SIZE;
 use words::arithmetic;

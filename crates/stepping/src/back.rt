@@ -4,7 +4,7 @@ ghost use Rattle.tsc.specs.Coverage.{stepBack};
 ghost use Rattle.card_format.specs.Verdict.{Accepted};
 ghost use Rattle.columns.specs.Replace.{IsPower};
 ghost use Rattle.stepping.specs.State.{used, Holds, holding, undone};
-use card_fields::table;
+use card_table::table;
 use columns::power;
 use columns::power::Powers;
 use columns::replace;

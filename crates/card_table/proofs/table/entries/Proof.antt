@@ -1,7 +1,7 @@
 use native.Mathlib.Omega.{arith}
 use Rattle.card_format.proofs.Fields.{one-shifted}
-use Rattle.card_fields.proofs.table.entries.Statement.{statement}
-use Rattle.card_fields.proofs.table.entries.Tie as tie
+use Rattle.card_table.proofs.table.entries.Statement.{statement}
+use Rattle.card_table.proofs.table.entries.Tie as tie
 
 shl-result : tie.Need-shl-result
 shl-result c = omega arith

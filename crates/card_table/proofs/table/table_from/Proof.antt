@@ -5,8 +5,8 @@ use native.Mathlib.Omega.{arith}
 use lib.ListN.{length, getD, set, replicate}
 use Rattle.tsc.specs.Constants.{mostWords}
 use Rattle.card_format.proofs.Lists.{over, over-suc, over-zeros}
-use Rattle.card_fields.proofs.table.table_from.Statement.{statement}
-use Rattle.card_fields.proofs.table.table_from.Tie as tie
+use Rattle.card_table.proofs.table.table_from.Statement.{statement}
+use Rattle.card_table.proofs.table.table_from.Tie as tie
 
 abbrev Inv-loop : tie.InvT-loop
 Inv-loop part size table₀ i₀ table i = (i ≤ size) × (size ≤ 2 ^ mostWords) × (size ≤ length part) × (table ≡ over part (replicate (2 ^ mostWords) 0) i)

@@ -5,8 +5,8 @@ use lib.ListN.{getD}
 use Rattle.tsc.specs.Constants.{mostWords}
 use Rattle.cycle.proofs.Every.{extend}
 use Rattle.card_format.proofs.Fields.{few-entries, unused-clear, unused-not-clear}
-use Rattle.card_fields.proofs.table.unused_clear.Statement.{statement}
-use Rattle.card_fields.proofs.table.unused_clear.Tie as tie
+use Rattle.card_table.proofs.table.unused_clear.Statement.{statement}
+use Rattle.card_table.proofs.table.unused_clear.Tie as tie
 
 abbrev Inv-loop : tie.InvT-loop
 Inv-loop m table i₀ i = (2 ^ m ≤ i) × (i ≤ 2 ^ mostWords) × ((j : ℕ) → j < i → 2 ^ m ≤ j → getD table j 0 ≡ 0)

@@ -5,8 +5,8 @@ use lib.ListN.{getD}
 use Rattle.tsc.specs.Constants.{mostWords}
 use Rattle.cycle.proofs.Every.{extend}
 use Rattle.card_format.proofs.Fields.{few-entries, entries-allowed, entry-not-allowed}
-use Rattle.card_fields.proofs.table.entries_allowed.Statement.{statement}
-use Rattle.card_fields.proofs.table.entries_allowed.Tie as tie
+use Rattle.card_table.proofs.table.entries_allowed.Statement.{statement}
+use Rattle.card_table.proofs.table.entries_allowed.Tie as tie
 
 abbrev Inv-loop : tie.InvT-loop
 Inv-loop m table size i₀ i = (i ≤ size) × (size ≡ 2 ^ m) × (size ≤ 2 ^ mostWords) × ((j : ℕ) → j < i → getD table j 0 < size)

@@ -7,8 +7,8 @@ use lib.ListN.{getD}
 use Rattle.tsc.specs.Constants.{mostWords}
 use Rattle.cycle.specs.Cycle.{returnFrom, firstReturn}
 use Rattle.cycle.proofs.FirstReturn.{return-none, return-here, return-later}
-use Rattle.card_fields.proofs.table.first_return.Statement.{statement}
-use Rattle.card_fields.proofs.table.first_return.Tie as tie
+use Rattle.card_table.proofs.table.first_return.Statement.{statement}
+use Rattle.card_table.proofs.table.first_return.Tie as tie
 
 abbrev Inv-loop : tie.InvT-loop
 Inv-loop size table x₀ steps₀ x steps = (x < size) × (1 ≤ steps) × (steps ≤ size + 1) × (size ≤ 2 ^ mostWords) × (returnFrom (λ y. getD table y 0) (size + 1 - steps) steps x ≡ firstReturn (λ y. getD table y 0) size)

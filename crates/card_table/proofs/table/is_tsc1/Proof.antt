@@ -11,8 +11,8 @@ use lib.Seq.{length-take-le, getD-take}
 use Rattle.cycle.proofs.Every.{extend}
 use Rattle.tsc.specs.Constants.{mostWords, defaultWords, tsc1Table}
 use Rattle.card_format.proofs.Fields.{few-entries, same-all, same-not}
-use Rattle.card_fields.proofs.table.is_tsc1.Statement.{statement}
-use Rattle.card_fields.proofs.table.is_tsc1.Tie as tie
+use Rattle.card_table.proofs.table.is_tsc1.Statement.{statement}
+use Rattle.card_table.proofs.table.is_tsc1.Tie as tie
 
 other-size : (m : ℕ) → m ≢ defaultWords → 2 ^ m ≢ 2 ^ defaultWords
 other-size m ne e = go (decLt m defaultWords)
