@@ -15,13 +15,13 @@ use Rattle.card_format.specs.declared.Written.the-variants.{Refused}
 use Rattle.refusals.specs.Refusals.{firstOf, outOfRange}
 use Rattle.card_format.specs.Writing.{writeChecks, writing, pageAfter}
 use Rattle.card_format.proofs.Writing.{writing-refused}
-use Rattle.generator.specs.declared.Draw.{Draw}
-use Rattle.generator.specs.Calls.{refusalFor, stepped, steppedBack, drawing}
-use Rattle.generator.proofs.Opening.{unless-refused}
-use Rattle.generator.proofs.Called.{drawing-refused}
-use Rattle.pick.specs.declared.Pick.{Pick}
-use Rattle.pick.specs.Picks.{pickRefusal, picking, picked}
-use Rattle.pick.proofs.Picking.{picking-refused}
+use Rattle.draws.specs.declared.Draw.{Draw}
+use Rattle.draws.specs.Calls.{refusalFor, stepped, steppedBack, drawing}
+use Rattle.draws.proofs.Opening.{unless-refused}
+use Rattle.draws.proofs.Called.{drawing-refused}
+use Rattle.picks.specs.declared.Pick.{Pick}
+use Rattle.picks.specs.Picks.{pickRefusal, picking, picked}
+use Rattle.picks.proofs.Picking.{picking-refused}
 use Rattle.c_answers.specs.Answers.{drawn, choice, writtenLength, overlong, writtenFrom, pageFrom}
 
 -- what every answer is made by: a value with refusal 0 where none applies, else the refusal

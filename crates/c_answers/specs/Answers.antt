@@ -11,10 +11,10 @@ use Rattle.card_format.specs.declared.Written.the-variants.{Length, Refused}
 use Rattle.refusals.specs.Refusals.{outOfRange}
 use Rattle.card_format.specs.Reading.{padded}
 use Rattle.card_format.specs.Writing.{writing, pageAfter}
-use Rattle.generator.specs.declared.Draw.{Draw}
-use Rattle.generator.specs.declared.Draw.the-variants as draw
-use Rattle.pick.specs.declared.Pick.{Pick}
-use Rattle.pick.specs.declared.Pick.the-variants as pick
+use Rattle.draws.specs.declared.Draw.{Draw}
+use Rattle.draws.specs.declared.Draw.the-variants as draw
+use Rattle.picks.specs.declared.Pick.{Pick}
+use Rattle.picks.specs.declared.Pick.the-variants as pick
 use Rattle.c_answers.specs.declared.DrawnWord.{DrawnWord}
 use Rattle.c_answers.specs.declared.Choice.{Choice}
 use Rattle.c_answers.specs.declared.WrittenLength.{WrittenLength}

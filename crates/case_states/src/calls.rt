@@ -7,9 +7,9 @@ use case_answers::answer;
 use case_fields::list::Numbers;
 use case_fields::list::ROOM;
 use case_words::draws;
-use generator::Draw;
+use draws::Draw;
 use generator::call;
-use pick::Pick;
+use picks::Pick;
 
 // A step.
 pub fn print_step(card: &[u8], state: Numbers)

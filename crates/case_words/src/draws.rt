@@ -1,9 +1,9 @@
 // So many draws, their words printed.
 ghost use mathlib.Core.Path.{_≡_};
 ghost use Rattle.cycle.specs.Notation.{iterate};
-ghost use Rattle.generator.specs.Calls.{stepped};
+ghost use Rattle.draws.specs.Calls.{stepped};
 use case_answers::answer;
-use generator::Draw;
+use draws::Draw;
 use generator::call;
 
 // Word number k of a row of draws.

@@ -18,13 +18,13 @@ use Rattle.card_format.specs.Verdict.{cardChecks, verdict, Accepted}
 use Rattle.card_format.specs.Writing.{writing, pageAfter, rewriteChecks, rewriting, pageRewritten}
 use Rattle.card_format.proofs.Verdict.{verdict-covers, accepted-card}
 use Rattle.card_format.proofs.RoundTrip.{accepted-writing}
-use Rattle.generator.specs.Calls.{refusalFor, stepped, steppedBack, drawing}
-use Rattle.generator.proofs.Opening.{passes, unless-passed}
-use Rattle.generator.proofs.Called.{only-before}
-use Rattle.generator.proofs.Draws.{draws-state, draws-word}
-use Rattle.pick.specs.Picks.{pickRefusal, picking, picked}
-use Rattle.pick.proofs.Choice.{pick-chooses, pick-order}
-use Rattle.pick.proofs.Shift.{standby-alike}
+use Rattle.draws.specs.Calls.{refusalFor, stepped, steppedBack, drawing}
+use Rattle.draws.proofs.Opening.{passes, unless-passed}
+use Rattle.draws.proofs.Called.{only-before}
+use Rattle.draws.proofs.Draws.{draws-state, draws-word}
+use Rattle.picks.specs.Picks.{pickRefusal, picking, picked}
+use Rattle.picks.proofs.Choice.{pick-chooses, pick-order}
+use Rattle.picks.proofs.Shift.{standby-alike}
 use Rattle.demands.specs.Demands.{ByTable, AnsweredOrRefused, Ready, Published, Undone, SameBytes, SameLots, AcceptedIffCovers, Demands}
 
 -- ---- demand 1

@@ -18,13 +18,13 @@ use Rattle.card_format.specs.Fields.{Bytes}
 use Rattle.card_format.specs.Reading.{cardOf, formChecks, refusedReading, reading}
 use Rattle.card_format.specs.Verdict.{cardChecks, verdict, ZeroIffCovers, Accepted}
 use Rattle.card_format.specs.Writing.{written, writeChecks, writing, pageAfter, rewriteChecks, rewriting, pageRewritten}
-use Rattle.generator.specs.declared.Draw.the-variants as Draw
-use Rattle.generator.specs.Calls.{callChecks, refusalFor, stepped, steppedBack, drawing, OnlyBefore}
+use Rattle.draws.specs.declared.Draw.the-variants as Draw
+use Rattle.draws.specs.Calls.{callChecks, refusalFor, stepped, steppedBack, drawing, OnlyBefore}
 use Rattle.ties.specs.Ties.{ties, chosen, TieAt}
 use Rattle.ties.specs.Order.{SameShovels}
-use Rattle.pick.specs.declared.Pick.the-variants as Pick
-use Rattle.pick.specs.Picks.{pickChecks, drawnRank, drawnState, picking, picked}
-use Rattle.pick.specs.Shift.{Request, answers, stateAfter, Alike}
+use Rattle.picks.specs.declared.Pick.the-variants as Pick
+use Rattle.picks.specs.Picks.{pickChecks, drawnRank, drawnState, picking, picked}
+use Rattle.picks.specs.Shift.{Request, answers, stateAfter, Alike}
 
 -- ---- demand 1: whatever card, state, page or shovel list is handed over, the call ends with an answer or the paper's refusal number, and a refusal leaves
 -- state and page as lent. (That every call ends is part of its proof.)

@@ -8,11 +8,12 @@ ghost use Rattle.tsc.specs.Word.{word};
 ghost use Rattle.card_format.specs.Reading.{cardOf};
 ghost use Rattle.card_format.specs.Verdict.{Accepted};
 ghost use Rattle.stepping.specs.State.{used, Holds};
-ghost use Rattle.generator.specs.declared.Draw.the-variants.{Word};
-ghost use Rattle.generator.specs.Calls.{refusalFor, refusedOpening, opening, stepped, steppedBack, drawing, OnlyBefore};
-use super::Draw;
+ghost use Rattle.draws.specs.declared.Draw.the-variants.{Word};
+ghost use Rattle.draws.specs.Calls.{refusalFor, refusedOpening, opening, stepped, steppedBack, drawing, OnlyBefore};
 use card::check;
 use card_values::answer;
+use draws::Draw;
+use draws::Opened;
 use filters::filter;
 use state_words::lent;
 use stepping::back;
@@ -20,13 +21,6 @@ use stepping::step;
 use tsc::Card;
 use tsc::MOST_WORDS;
 use tsc::State;
-
-// What each call begins with: the refusal, or 0 and the card and the state by value.
-pub struct Opened {
-    pub refusal: u8,
-    pub card: Card,
-    pub state: State,
-}
 
 // A refusal, with a card that no check accepts and a state of zeros.
 fn refused(number: u8) -> Opened

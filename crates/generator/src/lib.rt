@@ -1,8 +1,2 @@
-// The generator: step, step back and draw on lent slices, for any caller. On values they are in crate stepping.
+// The generator: step, step back and draw on lent slices, for any caller. On values they are in crate stepping; what they answer is defined in crate draws.
 pub mod call;
-
-// What a draw answers: the word, or the refusal.
-pub enum Draw {
-    Word(u32),
-    Refused(u8),
-}

@@ -2,9 +2,9 @@
 // speak of what is read and printed, so the stored outputs of the programs inspect_card and inspect_inputs hold that.
 ghost use mathlib.Core.Path.{_≡_};
 ghost use Rattle.cycle.specs.Notation.{iterate};
-ghost use Rattle.generator.specs.Calls.{stepped};
+ghost use Rattle.draws.specs.Calls.{stepped};
 use card::check;
-use generator::Draw;
+use draws::Draw;
 use generator::call;
 use tsc::MOST_WORDS;
 

@@ -1,8 +1,2 @@
-// Picks: which of several shovels a truck is sent to.
+// Picks: which of several shovels a truck is sent to. What a pick answers is defined in crate picks.
 pub mod call;
-
-// What a pick answers: the shovel's number and how many ties there were, or the refusal.
-pub enum Pick {
-    Shovel(u16, u8),
-    Refused(u8),
-}

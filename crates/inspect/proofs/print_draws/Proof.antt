@@ -3,7 +3,7 @@ use Prim.Native.Nat.{ℕ, suc, _+_, _-_, _≤_}
 use native.Mathlib.Omega.{arith}
 use lib.ListN.{length}
 use Rattle.cycle.specs.Notation.{iterate}
-use Rattle.generator.specs.Calls.{stepped}
+use Rattle.draws.specs.Calls.{stepped}
 use Rattle.inspect.proofs.print_draws.Statement.{statement}
 use Rattle.inspect.proofs.print_draws.Tie as tie
 

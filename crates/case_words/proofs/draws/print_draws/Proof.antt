@@ -2,7 +2,7 @@ use mathlib.Core.Path.{_≡_, refl, sym, ap, _∙_}
 use Prim.Native.Nat.{ℕ, suc, _+_, _-_, _≤_}
 use lib.ListN.{length}
 use Rattle.cycle.specs.Notation.{iterate}
-use Rattle.generator.specs.Calls.{stepped}
+use Rattle.draws.specs.Calls.{stepped}
 use native.Mathlib.Omega.{arith}
 use Rattle.case_words.proofs.draws.print_draws.Statement.{statement}
 use Rattle.case_words.proofs.draws.print_draws.Tie as tie

@@ -10,7 +10,7 @@ use Rattle.tsc.specs.Word.{word}
 use Rattle.tsc.proofs.Step.{step-in-range}
 use Rattle.stepping.specs.State.{used}
 use Rattle.stepping.proofs.Holding.{word-holding, holding-lt}
-use Rattle.generator.proofs.Called.{stored}
+use Rattle.draws.proofs.Called.{stored}
 use Rattle.generator.proofs.call.advance.Statement.{statement}
 use Rattle.generator.proofs.call.advance.Tie as tie
 

@@ -1,8 +1,8 @@
 use mathlib.Core.List.{List}
 use Prim.Native.Nat.{ℕ}
 use native.Mathlib.Omega.{arith}
-use Rattle.generator.proofs.Opening.{Clear, begun}
-use Rattle.generator.proofs.Called.{ready, size, draw-refused, draw-made}
+use Rattle.draws.proofs.Opening.{Clear, begun}
+use Rattle.draws.proofs.Called.{ready, size, draw-refused, draw-made}
 use Rattle.generator.proofs.call.draw.Statement.{statement}
 use Rattle.generator.proofs.call.draw.Tie as tie
 

@@ -8,11 +8,11 @@ use Rattle.card_format.specs.declared.Reading.{Reading}
 use Rattle.refusals.specs.Refusals.{firstOf}
 use Rattle.card_format.specs.Reading.{cardOf}
 use Rattle.card_format.specs.Verdict.{verdict, accepting}
-use Rattle.generator.specs.declared.call.Opened.{Opened}
+use Rattle.draws.specs.declared.Opened.{Opened}
 use Rattle.state_words.specs.Checks.{stateChecks}
-use Rattle.generator.specs.Calls.{refusalFor}
+use Rattle.draws.specs.Calls.{refusalFor}
 use Rattle.card_format.proofs.Verdict.{accepted-card, accepting-passed}
-use Rattle.generator.proofs.Opening.{refusal-card, refusal-state, passed, opening-refused, opening-passed}
+use Rattle.draws.proofs.Opening.{refusal-card, refusal-state, passed, opening-refused, opening-passed}
 use Rattle.generator.proofs.call.open.Statement.{statement}
 use Rattle.generator.proofs.call.open.Tie as tie
 

@@ -1,4 +1,4 @@
-use Rattle.generator.specs.declared.call.Opened.{Opened}
+use Rattle.draws.specs.declared.Opened.{Opened}
 use Rattle.stepping.specs.State.{holding}
 use mathlib.Core.List.{[]}
 use mathlib.Core.Path.{ap}

@@ -3,9 +3,9 @@ use Prim.Native.Nat.{ℕ}
 use native.Mathlib.Omega.{arith}
 use Rattle.tsc.specs.Step.{step}
 use Rattle.card_format.specs.Reading.{cardOf}
-use Rattle.generator.specs.Calls.{stepped}
-use Rattle.generator.proofs.Opening.{Clear, begun}
-use Rattle.generator.proofs.Called.{call-refused, few, ready, step-made}
+use Rattle.draws.specs.Calls.{stepped}
+use Rattle.draws.proofs.Opening.{Clear, begun}
+use Rattle.draws.proofs.Called.{call-refused, few, ready, step-made}
 use Rattle.generator.proofs.call.step.Statement.{statement}
 use Rattle.generator.proofs.call.step.Tie as tie
 

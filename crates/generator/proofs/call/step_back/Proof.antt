@@ -3,9 +3,9 @@ use Prim.Native.Nat.{ℕ}
 use native.Mathlib.Omega.{arith}
 use Rattle.tsc.specs.Coverage.{stepBack}
 use Rattle.card_format.specs.Reading.{cardOf}
-use Rattle.generator.specs.Calls.{steppedBack}
-use Rattle.generator.proofs.Opening.{Clear, begun}
-use Rattle.generator.proofs.Called.{call-refused, few, ready, step-back-made}
+use Rattle.draws.specs.Calls.{steppedBack}
+use Rattle.draws.proofs.Opening.{Clear, begun}
+use Rattle.draws.proofs.Called.{call-refused, few, ready, step-back-made}
 use Rattle.generator.proofs.call.step_back.Statement.{statement}
 use Rattle.generator.proofs.call.step_back.Tie as tie
 

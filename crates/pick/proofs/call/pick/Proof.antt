@@ -1,10 +1,10 @@
 use mathlib.Core.Path.{sym, _∙_}
 use Prim.Native.Nat.{_<_, _≤_}
 use native.Mathlib.Omega.{arith}
-use Rattle.generator.proofs.Opening.{Clear, begun}
-use Rattle.generator.proofs.Called.{ready, of-values}
+use Rattle.draws.proofs.Opening.{Clear, begun}
+use Rattle.draws.proofs.Called.{ready, of-values}
 use Rattle.ties.specs.Ties.{mostShovels}
-use Rattle.pick.proofs.Picking.{Granted, pick-refused-call, pick-refused-list, granted, ties-few, pick-made}
+use Rattle.picks.proofs.Picking.{Granted, pick-refused-call, pick-refused-list, granted, ties-few, pick-made}
 use Rattle.pick.proofs.call.pick.Statement.{statement}
 use Rattle.pick.proofs.call.pick.Tie as tie
 

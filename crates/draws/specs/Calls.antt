@@ -11,9 +11,9 @@ use Rattle.tsc.specs.Word.{word}
 use Rattle.refusals.specs.Refusals.{Check, firstOf}
 use Rattle.card_format.specs.Reading.{cardOf, noCard}
 use Rattle.card_format.specs.Verdict.{cardChecks}
-use Rattle.generator.specs.declared.call.Opened.{Opened}
-use Rattle.generator.specs.declared.Draw.{Draw}
-use Rattle.generator.specs.declared.Draw.the-variants.{Word, Refused}
+use Rattle.draws.specs.declared.Opened.{Opened}
+use Rattle.draws.specs.declared.Draw.{Draw}
+use Rattle.draws.specs.declared.Draw.the-variants.{Word, Refused}
 use Rattle.stepping.specs.State.{holding}
 use Rattle.state_words.specs.Checks.{stateChecks}
 

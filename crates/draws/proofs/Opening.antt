@@ -16,10 +16,10 @@ use Rattle.refusals.specs.Refusals.{firstOf, NoneApplies}
 use Rattle.card_format.specs.Reading.{cardOf}
 use Rattle.card_format.specs.Verdict.{cardChecks, verdict}
 use Rattle.refusals.proofs.Refusals.{first-none, none-first, first-append, first-left, none-left, none-right}
-use Rattle.generator.specs.declared.call.Opened.{Opened}
+use Rattle.draws.specs.declared.Opened.{Opened}
 use Rattle.stepping.specs.State.{used, Holds, holding}
 use Rattle.state_words.specs.Checks.{stateChecks}
-use Rattle.generator.specs.Calls.{refusalFor, unlessRefused, opened, refusedOpening, opening}
+use Rattle.draws.specs.Calls.{refusalFor, unlessRefused, opened, refusedOpening, opening}
 use Rattle.card_format.proofs.Lists.{take-filled}
 
 -- what a call goes on with once nothing is refused: the values of the card and of the state

@@ -2,8 +2,8 @@
 use mathlib.Core.List.{List, [], _∷_}
 use Prim.Native.Nat.{ℕ}
 use Rattle.ties.specs.Order.{SameShovels}
-use Rattle.pick.specs.declared.Pick.{Pick}
-use Rattle.pick.specs.Picks.{picking, picked}
+use Rattle.picks.specs.declared.Pick.{Pick}
+use Rattle.picks.specs.Picks.{picking, picked}
 
 -- what a server hands over for a truck: the shovels and their times
 pub record Request : Type 0 where

@@ -10,15 +10,15 @@ use Rattle.tsc.specs.declared.Card.{Card}
 use Rattle.refusals.specs.Refusals.{firstOf}
 use Rattle.card_format.specs.Reading.{cardOf}
 use Rattle.refusals.proofs.Refusals.{none-first, first-append, first-left}
-use Rattle.generator.specs.declared.call.Opened.{Opened}
-use Rattle.generator.specs.Calls.{callChecks, refusalFor, opening}
-use Rattle.generator.proofs.Opening.{Clear, begun-refused}
+use Rattle.draws.specs.declared.Opened.{Opened}
+use Rattle.draws.specs.Calls.{callChecks, refusalFor, opening}
+use Rattle.draws.proofs.Opening.{Clear, begun-refused}
 use Rattle.ties.specs.Ties.{mostShovels, ties, chosen}
 use Rattle.ties.proofs.Least.{ties-some, ties-le}
 use Rattle.tie_list.specs.Checks.{listChecks}
 use Rattle.tie_list.proofs.Allowed.{Allowed, list-allowed}
-use Rattle.pick.specs.declared.Pick.the-variants.{Shovel, Refused}
-use Rattle.pick.specs.Picks.{pickRefusal, drawnRank, drawnState, picking, picked}
+use Rattle.picks.specs.declared.Pick.the-variants.{Shovel, Refused}
+use Rattle.picks.specs.Picks.{pickRefusal, drawnRank, drawnState, picking, picked}
 
 module _ (bytes xs shovels times : List ℕ) where
   pub refusal-call : refusalFor bytes xs ≢ 0 → refusalFor bytes xs ≡ pickRefusal bytes xs shovels times

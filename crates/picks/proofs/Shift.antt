@@ -2,10 +2,10 @@
 use mathlib.Core.Path.{_≡_, refl, ap, ap₂, _∙_}
 use mathlib.Core.List.{List, [], _∷_}
 use Prim.Native.Nat.{ℕ}
-use Rattle.pick.specs.declared.Pick.{Pick}
-use Rattle.pick.specs.Picks.{picked}
-use Rattle.pick.specs.Shift.{Request, answers, stateAfter, Alike}
-use Rattle.pick.proofs.Choice.{pick-order}
+use Rattle.picks.specs.declared.Pick.{Pick}
+use Rattle.picks.specs.Picks.{picked}
+use Rattle.picks.specs.Shift.{Request, answers, stateAfter, Alike}
+use Rattle.picks.proofs.Choice.{pick-order}
 
 pub standby-alike : (bytes xs : List ℕ) (qs rs : List Request) → Alike qs rs
     → (answers bytes xs rs ≡ answers bytes xs qs) × (stateAfter bytes xs rs ≡ stateAfter bytes xs qs)

@@ -8,10 +8,10 @@ use Rattle.tsc.specs.Step.{orbit}
 use Rattle.tsc.specs.Word.{word}
 use Rattle.tsc.proofs.Step.{orbit-in-range}
 use Rattle.card_format.specs.Reading.{cardOf}
-use Rattle.generator.specs.declared.Draw.the-variants.{Word}
-use Rattle.generator.specs.Calls.{refusalFor, stepped, drawing}
-use Rattle.generator.proofs.Opening.{passed, passes, unless-passed}
-use Rattle.generator.proofs.Called.{drawing-word}
+use Rattle.draws.specs.declared.Draw.the-variants.{Word}
+use Rattle.draws.specs.Calls.{refusalFor, stepped, drawing}
+use Rattle.draws.proofs.Opening.{passed, passes, unless-passed}
+use Rattle.draws.proofs.Called.{drawing-word}
 
 module _ (bytes start : List ℕ) (z : refusalFor bytes start ≡ 0) where
   pub never-refused : (t : ℕ) → refusalFor bytes (orbit (cardOf bytes) start t) ≡ 0

@@ -19,11 +19,11 @@ use Rattle.card_format.specs.Reading.{cardOf}
 use Rattle.card_format.specs.Verdict.{Accepted}
 use Rattle.card_format.proofs.Lists.{take-filled}
 use Rattle.card_format.proofs.Verdict.{accepted-card}
-use Rattle.generator.specs.declared.call.Opened.{Opened}
-use Rattle.generator.specs.declared.Draw.the-variants.{Word, Refused}
+use Rattle.draws.specs.declared.Opened.{Opened}
+use Rattle.draws.specs.declared.Draw.the-variants.{Word, Refused}
 use Rattle.stepping.specs.State.{used, Holds, holding}
-use Rattle.generator.specs.Calls.{refusalFor, unlessRefused, opening, stepped, steppedBack, OnlyBefore, drawing}
-use Rattle.generator.proofs.Opening.{Clear, passed, begun-refused, unless-refused, unless-passed, held, holds}
+use Rattle.draws.specs.Calls.{refusalFor, unlessRefused, opening, stepped, steppedBack, OnlyBefore, drawing}
+use Rattle.draws.proofs.Opening.{Clear, passed, begun-refused, unless-refused, unless-passed, held, holds}
 
 -- the step back of an accepted card is the one state before
 pub only-before : (card : Card) → Accepted card → (xs : List ℕ) → IsState card xs → OnlyBefore card (stepBack card xs) xs

@@ -16,17 +16,17 @@ use Rattle.tsc.proofs.Onto.{draw-onto}
 use Rattle.refusals.specs.Refusals.{Check, firstOf}
 use Rattle.card_format.specs.Reading.{cardOf}
 use Rattle.card_format.proofs.Verdict.{accepted-card}
-use Rattle.generator.proofs.Opening.{passed, passes}
-use Rattle.generator.specs.Calls.{callChecks}
+use Rattle.draws.proofs.Opening.{passed, passes}
+use Rattle.draws.specs.Calls.{callChecks}
 use Rattle.ties.specs.Ties.{mostShovels, isTie, ties, rank, TieAt, chosen}
 use Rattle.ties.specs.Order.{Permutes, reordered, SameShovels}
 use Rattle.ties.proofs.Rank.{rank-lt, tie-of-rank, chosen-is}
 use Rattle.ties.proofs.Order.{length-reordered, ties-reordered, chosen-reordered, twice-reordered}
 use Rattle.tie_list.specs.Checks.{listChecks}
 use Rattle.tie_list.proofs.Allowed.{Allowed}
-use Rattle.pick.specs.declared.Pick.the-variants.{Shovel}
-use Rattle.pick.specs.Picks.{pickRefusal, drawnRank, drawnState, picking, picked}
-use Rattle.pick.proofs.Picking.{refusal-list, pick-passed, picking-refused, picking-chosen, ties-few}
+use Rattle.picks.specs.declared.Pick.the-variants.{Shovel}
+use Rattle.picks.specs.Picks.{pickRefusal, drawnRank, drawnState, picking, picked}
+use Rattle.picks.proofs.Picking.{refusal-list, pick-passed, picking-refused, picking-chosen, ties-few}
 
 -- the rank drawn is one of the ties' ranks
 pub drawn-rank-lt : (card : Card) (xs : List ℕ) (k : ℕ) → 0 < k → drawnRank card xs k < k

@@ -8,11 +8,11 @@ use Rattle.tsc.specs.Step.{step}
 use Rattle.tsc.specs.Word.{word}
 use Rattle.refusals.specs.Refusals.{Check, firstOf}
 use Rattle.card_format.specs.Reading.{cardOf}
-use Rattle.generator.specs.Calls.{callChecks}
+use Rattle.draws.specs.Calls.{callChecks}
 use Rattle.ties.specs.Ties.{ties, chosen}
 use Rattle.tie_list.specs.Checks.{listChecks}
-use Rattle.pick.specs.declared.Pick.{Pick}
-use Rattle.pick.specs.declared.Pick.the-variants.{Shovel, Refused}
+use Rattle.picks.specs.declared.Pick.{Pick}
+use Rattle.picks.specs.declared.Pick.the-variants.{Shovel, Refused}
 
 -- what a pick looks at: 1 to 9, then 10 and 11, then 12 to 15
 abbrev pub pickChecks : List ℕ → List ℕ → List ℕ → List ℕ → List Check
