@@ -6,7 +6,7 @@ ghost use Rattle.case_fields.specs.Lists.{room};
 use case_answers::answer;
 use case_fields::list::Numbers;
 use case_fields::list::ROOM;
-use case_words::draws;
+use case_words::row;
 use draws::Draw;
 use generator::call;
 use picks::Pick;
@@ -67,7 +67,7 @@ pub fn print_run(card: &[u8], state: Numbers, count: usize)
         return answer::print_refused(begun.refusal, true);
     }
     io::write_all(1, b"words ");
-    draws::print_draws(card, &mut words[..m], count);
+    row::print_draws(card, &mut words[..m], count);
     io::write_all(1, b" ");
     answer::print_state(0, state, words);
 }

@@ -1,2 +1,2 @@
 // Rows of draws in answers.
-pub mod draws;
+pub mod row;

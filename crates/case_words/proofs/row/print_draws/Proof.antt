@@ -4,8 +4,8 @@ use lib.ListN.{length}
 use Rattle.cycle.specs.Notation.{iterate}
 use Rattle.draws.specs.Calls.{stepped}
 use native.Mathlib.Omega.{arith}
-use Rattle.case_words.proofs.draws.print_draws.Statement.{statement}
-use Rattle.case_words.proofs.draws.print_draws.Tie as tie
+use Rattle.case_words.proofs.row.print_draws.Statement.{statement}
+use Rattle.case_words.proofs.row.print_draws.Tie as tie
 
 abbrev Inv-loop : tie.InvT-loop
 Inv-loop card state₀ count k₀ state k =
