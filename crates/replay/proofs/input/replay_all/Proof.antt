@@ -2,8 +2,8 @@ use Prim.Native.Nat.{_+_, _-_, _≤_}
 use lib.ListN.{length}
 use native.Mathlib.Omega.{arith}
 use borrow.Author.Needs.{needs}
-use Rattle.case_replay.proofs.input.replay_all.Statement.{statement}
-use Rattle.case_replay.proofs.input.replay_all.Tie as tie
+use Rattle.replay.proofs.input.replay_all.Statement.{statement}
+use Rattle.replay.proofs.input.replay_all.Tie as tie
 
 abbrev Inv-loop : tie.InvT-loop
 Inv-loop input at₀ at = at ≤ length input + 1

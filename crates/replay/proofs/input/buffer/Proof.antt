@@ -1,6 +1,6 @@
 use mathlib.Core.Path.{refl}
-use Rattle.case_replay.proofs.input.buffer.Statement.{statement}
-use Rattle.case_replay.proofs.input.buffer.Tie as tie
+use Rattle.replay.proofs.input.buffer.Statement.{statement}
+use Rattle.replay.proofs.input.buffer.Tie as tie
 
 returns : tie.Need-returns
 returns c = refl
