@@ -5,20 +5,17 @@ ghost use lib.ListN.{length};
 ghost use Rattle.tsc.specs.Coverage.{IsState, stepBack};
 ghost use Rattle.card_format.specs.Reading.{cardOf};
 ghost use Rattle.card_format.specs.Verdict.{verdict, ZeroIffCovers};
-ghost use Rattle.card_format.specs.Writing.{writing, pageAfter};
 ghost use Rattle.draws.specs.Calls.{refusalFor, stepped, steppedBack, drawing, OnlyBefore};
 ghost use Rattle.picks.specs.Picks.{picking, picked};
-ghost use Rattle.c_answers.specs.Answers.{drawn, choice, writtenLength, given, writtenFrom, pageFrom};
+ghost use Rattle.c_answers.specs.Answers.{drawn, choice, given, writtenFrom, pageFrom};
 use c_answers::Choice;
 use c_answers::DrawnWord;
 use c_answers::WrittenLength;
+use c_structs::answer;
 use card::check;
-use card_format::Written;
 use card_table::table;
 use card_write::write;
-use draws::Draw;
 use generator::call;
-use picks::Pick;
 use tsc::Card;
 use tsc::TABLE_SIZE;
 
@@ -58,16 +55,7 @@ pub extern "C" fn tiedraw_draw(card: &[u8], state: &mut [u32]) -> DrawnWord
     ensures after { λ r. ⌜ now (state .exit) ≡ stepped (now (card .entry)) (now (state .entry)) ⌝ }
     ensures narrow { λ r. ⌜ r .word < 2 ^ cardOf (now (card .entry)) .width ⌝ }
 {
-    match call::draw(card, state) {
-        Draw::Word(word) => DrawnWord {
-            word: word,
-            refusal: 0,
-        },
-        Draw::Refused(number) => DrawnWord {
-            word: 0,
-            refusal: number,
-        },
-    }
+    answer::word_of(call::draw(card, state))
 }
 
 // The chosen shovel and the number of ties, or refusal 1 to 15.
@@ -81,35 +69,7 @@ pub extern "C" fn tiedraw_pick(
     ensures answer { λ r. ⌜ r ≡ choice (picking (now (card .entry)) (now (state .entry)) (now (shovels .entry)) (now (times .entry))) ⌝ }
     ensures after { λ r. ⌜ now (state .exit) ≡ picked (now (card .entry)) (now (state .entry)) (now (shovels .entry)) (now (times .entry)) ⌝ }
 {
-    match pick::call::pick(card, state, shovels, times) {
-        Pick::Shovel(number, ties) => Choice {
-            shovel: number,
-            ties: ties,
-            refusal: 0,
-        },
-        Pick::Refused(number) => Choice {
-            shovel: 0,
-            ties: 0,
-            refusal: number,
-        },
-    }
-}
-
-// A card by value, written: the writer's answer for C.
-fn write_card(card: Card, page: &mut [u8]) -> WrittenLength
-    ensures { λ r. ⌜ r ≡ writtenLength (writing card (length (now (page .entry)))) ⌝ }
-    ensures { λ _. ⌜ now (page .exit) ≡ pageAfter card (now (page .entry)) ⌝ }
-{
-    match write::write(card, page) {
-        Written::Length(length) => WrittenLength {
-            length: length,
-            refusal: 0,
-        },
-        Written::Refused(number) => WrittenLength {
-            length: 0,
-            refusal: number,
-        },
-    }
+    answer::choice_of(pick::call::pick(card, state, shovels, times))
 }
 
 // The length of the card written, or refusal 2, 6 to 9 or 16. A table longer than the array is refused by 2, and a shorter one counts as followed by zeros.
@@ -144,5 +104,5 @@ pub extern "C" fn tiedraw_write(
         filter: filter,
         sum_term: sum_term,
     };
-    write_card(card, page)
+    answer::length_of(write::write(card, page))
 }
