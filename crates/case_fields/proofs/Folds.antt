@@ -1,10 +1,10 @@
 -- For the loops that put one thing after the other to what they have: what is still to come, from a place on.
 use mathlib.Core.Path.{_≡_, refl, sym, ap, _∙_}
 use mathlib.Core.List.{List, [], _∷_, map}
-use Prim.Native.Nat.{ℕ, suc, _+_, _<_, _≤_}
+use Prim.Native.Nat.{ℕ, _+_, _<_, _≤_}
 use native.Mathlib.Omega.{arith}
-use lib.ListN.{length, getD, take, drop, length-drop, drop-of-length-le}
-use lib.Seq.{drop-cons, drop-drop}
+use lib.ListN.{length, take, drop, length-drop, drop-of-length-le}
+use lib.Seq.{drop-drop}
 use Rattle.case_numbers.specs.Numbers.{fold}
 use Rattle.case_fields.specs.declared.list.Numbers.{Numbers}
 use Rattle.case_fields.specs.Lists.{withNumber, pairs}

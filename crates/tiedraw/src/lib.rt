@@ -1,6 +1,6 @@
 // The calls for C and whatever can call C (include/tiedraw.h): thin, under their plain names. A slice is a pointer and a length there.
 ghost use mathlib.Core.Path.{_≡_};
-ghost use Prim.Native.Nat.{ℕ, _^_, _<_};
+ghost use Prim.Native.Nat.{_^_, _<_};
 ghost use lib.ListN.{length};
 ghost use Rattle.tsc.specs.Coverage.{IsState, stepBack};
 ghost use Rattle.card_format.specs.Reading.{cardOf};

@@ -1,7 +1,7 @@
 use native.Mathlib.Nat.{mul-le-mul}
 use native.Mathlib.Omega.{arith}
 use borrow.Author.Tests.{le-leb, lt-leb, lt-ltb, le-ltb}
-use Rattle.case_numbers.specs.Numbers.{withDigit, malformed}
+use Rattle.case_numbers.specs.Numbers.{withDigit}
 use Rattle.case_numbers.proofs.number.with_digit.Statement.{statement}
 use Rattle.case_numbers.proofs.number.with_digit.Tie as tie
 
