@@ -2,6 +2,10 @@
 SHELL = /bin/bash
 .PHONY: run replay test lib example bindings difftest bench pictures fmt vectors lines
 
+# the shared library's name has major and minor number: docs/DECISIONS.md, Versions
+VERSION := $(shell cat VERSION)
+SONAME = libtiedraw.so.$(basename $(VERSION))
+
 # the card that the program is fed, as bytes in hex
 CARD = $(shell grep -v '^\#' cards/program.hex)
 
@@ -28,8 +32,11 @@ target/lib/libtiedraw.a: crates.txt $(shell find crates -name '*.rt' -o -name '*
 	@mkdir -p target/lib && rt staticlib tiedraw > target/lib.log 2>&1 || { cat target/lib.log; exit 1; }
 	@cp target/staticlib/libtiedraw.a $@
 
-target/lib/libtiedraw.so: target/lib/libtiedraw.a
-	@gcc -shared -Wl,-soname,libtiedraw.so -Wl,-z,defs -Wl,--whole-archive $< -Wl,--no-whole-archive -o $@
+target/lib/libtiedraw.so.$(VERSION): target/lib/libtiedraw.a VERSION
+	@gcc -shared -Wl,-soname,$(SONAME) -Wl,-z,defs -Wl,--whole-archive $< -Wl,--no-whole-archive -o $@
+
+target/lib/libtiedraw.so: target/lib/libtiedraw.so.$(VERSION)
+	@ln -sf libtiedraw.so.$(VERSION) target/lib/$(SONAME) && ln -sf $(SONAME) $@
 
 # a server and its standby in C
 example: lib

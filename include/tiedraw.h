@@ -4,15 +4,20 @@
  * A pit's card (bytes) sets up a generator; a state (words of 32 bits) is where it stands. The caller keeps both
  * and lends them to each call. Two servers with the same card and state draw the same lots.
  *
- * Whatever is handed over, a call returns with an answer, or with the refusal number of the first check that
- * applies. A card's fields are checked in turn, each by 1, 2, 3, and 4 at the table's place; then come 5 to 16 in
- * order. A refusal changes nothing: state and page are as they were lent, and the other fields of the answer are 0.
+ * First what the caller answers for, since C can't check it. An array is a pointer and a count of entries; null
+ * goes with a count of 0 alone. Each array has as many entries as its count says, is aligned for its type, stays
+ * valid and is written by nobody else until the call returns; and `state` and `page` overlap no other array of the
+ * call. A null pointer with a count that is not 0, or a count that is too large, is the caller's fault: the call
+ * then reads or writes what it was not lent.
  *
- * An array is a pointer and a count of entries; a count of 0 allows a null pointer. The caller answers for what C
- * can't check: each array has as many entries as its count says, is aligned for its type, stays valid and is
- * written by nobody else until the call returns; and `state` and `page` overlap no other array of the call. Calls
- * keep nothing, allocate nothing and use no global data, so that any number of threads may call at once, each on a
- * state of its own. The library needs memcpy and memset of the C library, and nothing else.
+ * Given that, whatever bytes and numbers are handed over, a call returns with an answer, or with the refusal number
+ * of the first check that applies. A card's fields are checked in turn, each by 1, 2, 3, and 4 at the table's place;
+ * then come 5 to 16 in order. A refusal changes nothing: state and page are as they were lent, and the other fields
+ * of the answer are 0.
+ *
+ * Calls keep nothing, allocate nothing and use no global data, so that any number of threads may call at once, each
+ * on a state of its own. The library needs memcpy and memset of the C library, and nothing else. It is compiled for
+ * x86-64 alone so far; README.md says what another processor would need.
  */
 #ifndef TIEDRAW_H
 #define TIEDRAW_H
@@ -23,6 +28,19 @@
 #ifdef __cplusplus
 extern "C" {
 #endif
+
+/* The version of this header, and as one number. A client was compiled for the library that is loaded where
+   tiedraw_version() / 1000 is TIEDRAW_VERSION_NUMBER / 1000; the shared library's name ends in those two numbers. */
+#define TIEDRAW_VERSION_MAJOR 0
+#define TIEDRAW_VERSION_MINOR 2
+#define TIEDRAW_VERSION_PATCH 0
+#define TIEDRAW_VERSION_NUMBER (TIEDRAW_VERSION_MAJOR * 1000000 + TIEDRAW_VERSION_MINOR * 1000 + TIEDRAW_VERSION_PATCH)
+
+/* The most words of a state, entries of a table, bytes of an accepted card, and shovels of a pick. */
+#define TIEDRAW_MOST_WORDS 4
+#define TIEDRAW_TABLE_SIZE (1 << TIEDRAW_MOST_WORDS)
+#define TIEDRAW_MOST_CARD_BYTES 26
+#define TIEDRAW_MOST_SHOVELS 64
 
 /*
  * A card is a map byte and then the fields whose bit is 1, from bit 0 up. m, n and C are the first, second and sixth.
@@ -58,16 +76,27 @@ enum tiedraw_refusal {
     TIEDRAW_BUFFER_TOO_SMALL = 16    /* small page: the page has fewer bytes than the card needs */
 };
 
-/* No accepted card has more bytes than this. */
-#define TIEDRAW_MOST_CARD_BYTES 26
+/* The eight values of a card. Table entries past 2^words are 0. */
+typedef struct tiedraw_card {
+    uint8_t words, width, odd_power, even_power, filter, sum_term;
+    uint32_t constant;
+    uint8_t table[TIEDRAW_TABLE_SIZE];
+} tiedraw_card;
 
+typedef struct { tiedraw_card card; uint8_t refusal; } tiedraw_reading;
 typedef struct { uint32_t word; uint8_t refusal; } tiedraw_word;
 typedef struct { uint16_t shovel; uint8_t ties; uint8_t refusal; } tiedraw_choice;
 typedef struct { size_t length; uint8_t refusal; } tiedraw_written;
 
+/* The version of the library, as TIEDRAW_VERSION_NUMBER is of the header. */
+uint32_t tiedraw_version(void);
+
 /* The verdict on a card: 0, or refusal 1 to 9. Proved: of cards that are not refused by 1 to 6, this accepts
    exactly those whose steps, from any state, bring up each of the 2^(m n) states once and then return. */
 uint8_t tiedraw_check(const uint8_t *card, size_t card_len);
+
+/* The eight values of a card, given or absent; or refusal 1 to 6. A card that is read may still be refused by 7 to 9. */
+tiedraw_reading tiedraw_read(const uint8_t *card, size_t card_len);
 
 /* One step of the state: 0, or refusal 1 to 11. */
 uint8_t tiedraw_step(const uint8_t *card, size_t card_len, uint32_t *state, size_t words);
@@ -91,6 +120,12 @@ tiedraw_choice tiedraw_pick(const uint8_t *card, size_t card_len, uint32_t *stat
 tiedraw_written tiedraw_write(uint8_t words, uint8_t width, const uint8_t *table, size_t table_len,
                               uint8_t odd_power, uint8_t even_power, uint32_t constant, uint8_t filter,
                               uint8_t sum_term, uint8_t *page, size_t page_len);
+
+/* The same, of values that stand together, as tiedraw_read answers them. */
+static inline tiedraw_written tiedraw_write_card(const tiedraw_card *card, uint8_t *page, size_t page_len) {
+    return tiedraw_write(card->words, card->width, card->table, TIEDRAW_TABLE_SIZE, card->odd_power, card->even_power,
+                         card->constant, card->filter, card->sum_term, page, page_len);
+}
 
 #ifdef __cplusplus
 }

@@ -6,6 +6,7 @@ use lib.Dec.{ltb}
 use lib.ListN.{length}
 use Rattle.tsc.specs.declared.Card.{Card}
 use Rattle.tsc.specs.Constants.{mostWords}
+use Rattle.card_format.specs.declared.Reading.{Reading}
 use Rattle.card_format.specs.declared.Written.{Written}
 use Rattle.card_format.specs.declared.Written.the-variants.{Length, Refused}
 use Rattle.refusals.specs.Refusals.{outOfRange}
@@ -18,6 +19,8 @@ use Rattle.picks.specs.declared.Pick.the-variants as pick
 use Rattle.c_answers.specs.declared.DrawnWord.{DrawnWord}
 use Rattle.c_answers.specs.declared.Choice.{Choice}
 use Rattle.c_answers.specs.declared.WrittenLength.{WrittenLength}
+use Rattle.c_answers.specs.declared.CardValues.{CardValues}
+use Rattle.c_answers.specs.declared.CardReading.{CardReading}
 
 -- a draw's answer
 abbrev pub drawn : Draw → DrawnWord
@@ -33,6 +36,23 @@ choice (pick.Refused r) = record { shovel = 0; ties = 0; refusal = r }
 abbrev pub writtenLength : Written → WrittenLength
 writtenLength (Length n) = record { length = n; refusal = 0 }
 writtenLength (Refused r) = record { length = 0; refusal = r }
+
+-- a card's eight values
+abbrev pub cardValues : Card → CardValues
+cardValues card = record {
+  words = card .words;
+  width = card .width;
+  «odd_power» = card .«odd_power»;
+  «even_power» = card .«even_power»;
+  filter = card .filter;
+  «sum_term» = card .«sum_term»;
+  constant = card .constant;
+  table = card .table;
+}
+
+-- the reader's answer
+abbrev pub cardReading : Reading → CardReading
+cardReading r = record { card = cardValues (r .card); refusal = r .refusal }
 
 -- the writer's eight values, as C hands them over: a table shorter than the array counts as followed by zeros
 abbrev pub given : ℕ → ℕ → List ℕ → ℕ → ℕ → ℕ → ℕ → ℕ → Card

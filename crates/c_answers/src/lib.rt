@@ -1,4 +1,5 @@
 // The calls' answers as C has them (include/tiedraw.h). What they are is in specs/, and what a refusal leaves in proofs/.
+use tsc::TABLE_SIZE;
 
 // What a draw answers, tiedraw_word: 0 and the word, or the refusal and 0.
 #[repr(C)]
@@ -19,5 +20,25 @@ pub struct Choice {
 #[repr(C)]
 pub struct WrittenLength {
     pub length: usize,
+    pub refusal: u8,
+}
+
+// The eight values of a card, tiedraw_card: those of crate tsc, in the order of the header.
+#[repr(C)]
+pub struct CardValues {
+    pub words: u8,
+    pub width: u8,
+    pub odd_power: u8,
+    pub even_power: u8,
+    pub filter: u8,
+    pub sum_term: u8,
+    pub constant: u32,
+    pub table: [u8; TABLE_SIZE],
+}
+
+// What the reader answers, tiedraw_reading: 0 and the values, or the refusal and zeros.
+#[repr(C)]
+pub struct CardReading {
+    pub card: CardValues,
     pub refusal: u8,
 }

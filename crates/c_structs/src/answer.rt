@@ -1,9 +1,12 @@
-// Enums taken apart into structs: the values and refusal 0, or zeros and the refusal.
+// Answers taken apart into the structs that C sees: the values and refusal 0, or zeros and the refusal.
 ghost use mathlib.Core.Path.{_≡_};
-ghost use Rattle.c_answers.specs.Answers.{drawn, choice, writtenLength};
+ghost use Rattle.c_answers.specs.Answers.{drawn, choice, writtenLength, cardReading};
+use c_answers::CardReading;
+use c_answers::CardValues;
 use c_answers::Choice;
 use c_answers::DrawnWord;
 use c_answers::WrittenLength;
+use card_format::Reading;
 use card_format::Written;
 use draws::Draw;
 use picks::Pick;
@@ -55,5 +58,27 @@ pub fn length_of(answer: Written) -> WrittenLength
             length: 0,
             refusal: number,
         },
+    }
+}
+
+// The reader's.
+pub fn reading_of(answer: Reading) -> CardReading
+    ensures { λ r. ⌜ r ≡ cardReading answer ⌝ }
+{
+    let card = answer.card;
+    let table = card.table;
+    let values = CardValues {
+        words: card.words,
+        width: card.width,
+        odd_power: card.odd_power,
+        even_power: card.even_power,
+        filter: card.filter,
+        sum_term: card.sum_term,
+        constant: card.constant,
+        table: table,
+    };
+    CardReading {
+        card: values,
+        refusal: answer.refusal,
     }
 }

@@ -3,21 +3,39 @@ ghost use mathlib.Core.Path.{_≡_};
 ghost use Prim.Native.Nat.{_^_, _<_};
 ghost use lib.ListN.{length};
 ghost use Rattle.tsc.specs.Coverage.{IsState, stepBack};
-ghost use Rattle.card_format.specs.Reading.{cardOf};
+ghost use Rattle.card_format.specs.Reading.{cardOf, reading};
 ghost use Rattle.card_format.specs.Verdict.{verdict, ZeroIffCovers};
 ghost use Rattle.draws.specs.Calls.{refusalFor, stepped, steppedBack, drawing, OnlyBefore};
 ghost use Rattle.picks.specs.Picks.{picking, picked};
-ghost use Rattle.c_answers.specs.Answers.{drawn, choice, given, writtenFrom, pageFrom};
+ghost use Rattle.c_answers.specs.Answers.{drawn, choice, cardReading, given, writtenFrom, pageFrom};
+ghost use Rattle.c_answers.specs.Version.{versionNumber};
+use c_answers::CardReading;
 use c_answers::Choice;
 use c_answers::DrawnWord;
 use c_answers::WrittenLength;
 use c_structs::answer;
 use card::check;
+use card_read::read;
 use card_table::table;
 use card_write::write;
 use generator::call;
 use tsc::Card;
 use tsc::TABLE_SIZE;
+
+// The version, 0.2.0.
+const MAJOR: u32 = 0;
+
+const MINOR: u32 = 2;
+
+const PATCH: u32 = 0;
+
+// The version as one number.
+#[no_mangle]
+pub extern "C" fn tiedraw_version() -> u32
+    ensures { λ r. ⌜ r ≡ versionNumber ⌝ }
+{
+    MAJOR * 1000000 + MINOR * 1000 + PATCH
+}
 
 // 0 for an accepted card, or refusal 1 to 9. DEMAND 3, as of card::check.
 #[no_mangle]
@@ -26,6 +44,14 @@ pub extern "C" fn tiedraw_check(card: &[u8]) -> u8
     ensures covers { λ r. ⌜ ZeroIffCovers (now (card .entry)) r ⌝ }
 {
     check::check(card)
+}
+
+// The eight values of a card of sound form, or refusal 1 to 6 and zeros.
+#[no_mangle]
+pub extern "C" fn tiedraw_read(card: &[u8]) -> CardReading
+    ensures { λ r. ⌜ r ≡ cardReading (reading (now (card .entry))) ⌝ }
+{
+    answer::reading_of(read::read(card))
 }
 
 // 0 and the state stepped, or refusal 1 to 11. The step back undoes it.
