@@ -10,9 +10,12 @@ use lib.Dec.{eqb}
 use lib.ListN.{length}
 use borrow.Author.Tests.{eq-eqb, ne-eqb}
 use Rattle.tsc.specs.declared.Card.{Card}
+use Rattle.card_format.specs.declared.Reading.{Reading}
 use Rattle.card_format.specs.declared.Written.{Written}
 use Rattle.card_format.specs.declared.Written.the-variants.{Refused}
 use Rattle.refusals.specs.Refusals.{firstOf, outOfRange}
+use Rattle.card_format.specs.Reading.{cardOf, formChecks, noCard, reading}
+use Rattle.card_format.proofs.Verdict.{answering-refused}
 use Rattle.card_format.specs.Writing.{writeChecks, writing, pageAfter}
 use Rattle.card_format.proofs.Writing.{writing-refused}
 use Rattle.draws.specs.declared.Draw.{Draw}
@@ -22,7 +25,7 @@ use Rattle.draws.proofs.Called.{drawing-refused}
 use Rattle.picks.specs.declared.Pick.{Pick}
 use Rattle.picks.specs.Picks.{pickRefusal, picking, picked}
 use Rattle.picks.proofs.Picking.{picking-refused}
-use Rattle.c_answers.specs.Answers.{drawn, choice, writtenLength, overlong, writtenFrom, pageFrom}
+use Rattle.c_answers.specs.Answers.{drawn, choice, cardValues, cardReading, writtenLength, overlong, writtenFrom, pageFrom}
 
 -- what every answer is made by: a value with refusal 0 where none applies, else the refusal
 told : {A : Type 0} (refusal : A → ℕ) (r : ℕ) (value refused : A) → refusal value ≡ 0 → refusal refused ≡ r → refusal (cond (eqb r 0) value refused) ≡ r
@@ -56,6 +59,16 @@ module _ (bytes xs shovels times : List ℕ) where
   pick-refused ne =
       let p = picking-refused bytes xs shovels times _ (λ z. ne (pick-told ∙ z)) refl in
       (ap (λ (p : Pick). choice p .shovel) (sym (p .0)), ap (λ (p : Pick). choice p .ties) (sym (p .0)), sym (p .1))
+
+module _ (bytes : List ℕ) where
+  pub read-told : cardReading (reading bytes) .refusal ≡ firstOf (formChecks bytes)
+  unfolding reading
+  read-told = refl
+
+  -- every value is 0
+  pub read-refused : cardReading (reading bytes) .refusal ≢ 0 → cardReading (reading bytes) .card ≡ cardValues noCard
+  unfolding reading
+  read-refused ne = ap (λ (r : Reading). cardValues (r .card)) (sym (answering-refused (cardOf bytes) _ ne))
 
 module _ (card : Card) (page : List ℕ) where
   -- the writer's own refusal, for a table that the array can hold

@@ -67,6 +67,10 @@ given words width table oddPower evenPower constant filter sumTerm = record {
   «sum_term» = sumTerm;
 }
 
+-- the writer's values as tiedraw_write_card hands them over
+abbrev pub givenValues : CardValues → Card
+givenValues v = given (v .words) (v .width) (v .table) (v .«odd_power») (v .«even_power») (v .constant) (v .filter) (v .«sum_term»)
+
 -- whether the table is longer than the array
 abbrev pub overlong : Card → Bool
 overlong card = ltb (2 ^ mostWords) (length (card .table))
