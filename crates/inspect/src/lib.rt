@@ -1,6 +1,7 @@
 // What the program prints of a card (document 01, The program). Which numbers these are is in the contracts of the check and of the draw; no contract can
 // speak of what is read and printed, so the stored outputs of the programs inspect_card and inspect_inputs hold that.
 ghost use mathlib.Core.Path.{_≡_};
+ghost use Rattle.io.specs.Counts.{Counts};
 ghost use Rattle.cycle.specs.Notation.{iterate};
 ghost use Rattle.draws.specs.Calls.{stepped};
 use card::check;
@@ -51,10 +52,53 @@ pub fn print_card(card: &[u8]) {
     }
 }
 
-// An open file as a card, up to its end or to the most bytes: a short read is not the end.
+// What was read: how many bytes stand at the front of the slice, and whether the read failed.
+struct Input {
+    length: usize,
+    failed: bool,
+}
+
+// One read. io::read_full would do for all of them, but it takes a read that fails for the end of the file.
+fn read_once(file: i32, bytes: &mut [u8]) -> Input
+    ensures { λ r. ⌜ Counts (r .length) (now (bytes .exit)) ⌝ }
+{
+    let got = libc::read(file, bytes);
+    Input {
+        length: io::count(got, bytes),
+        failed: got < 0,
+    }
+}
+
+// Reads to the end of the file or of the slice: a short read is not the end.
+fn read_all(file: i32, bytes: &mut [u8]) -> Input
+    ensures { λ r. ⌜ Counts (r .length) (now (bytes .exit)) ⌝ }
+{
+    let mut at: usize = 0;
+    while at < bytes.len() {
+        let more = read_once(file, &mut bytes[at..]);
+        if more.length == 0 {
+            return Input {
+                length: at,
+                failed: more.failed,
+            };
+        }
+        at += more.length;
+    }
+    Input {
+        length: at,
+        failed: false,
+    }
+}
+
+// An open file as a card, up to its end or to the most bytes. Where it can't be read there is no verdict.
 pub fn print_from(file: i32) {
     let mut bytes = [0u8; MOST_BYTES];
-    let n = io::read_full(file, &mut bytes);
+    let found = read_all(file, &mut bytes);
+    if found.failed {
+        io::write_all(2, b"the card can't be read\n");
+        return;
+    }
+    let n = found.length;
     print_card(&bytes[..n]);
 }
 
