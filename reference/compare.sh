@@ -1,7 +1,9 @@
 #!/usr/bin/env bash
 # The second program against what is stored, run at the top of the repository by `make vectors`. It must give the answers of cases/papers.txt; then it makes the
-# inputs and outputs that are stored beside the programs anew. Where a stored one differs this fails, or with STORE=yes puts the new one in its place.
+# inputs and outputs that are stored beside the programs anew. Where a stored one differs this fails; with --store it puts the new one in its place.
 set -eu
+(cd reference && cargo test --release --quiet && cargo build --release --quiet)
+store=${1:-}
 programs=reference/target/release
 fresh=target/vectors
 mkdir -p $fresh
@@ -11,7 +13,7 @@ different=0
 stored() { # FRESH STORED
     if cmp -s "$1" "$2"; then
         echo "$2: the same"
-    elif [ "${STORE:-}" = yes ]; then
+    elif [ "$store" = --store ]; then
         cp "$1" "$2"
         echo "$2: replaced"
     else

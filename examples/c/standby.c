@@ -1,5 +1,7 @@
 /* A dispatch server and its standby, each with its own copy of the state and its own order of the list: they send every truck to
-   the same shovel. At the end the lots of the shift are taken back one by one, and bad input shows what a refusal is. */
+   the same shovel. First version and card are looked at; at the end the lots of the shift are taken back one by one, and bad input
+   shows what a refusal is. */
+#include <inttypes.h>
 #include <stdio.h>
 #include <stdlib.h>
 #include <string.h>
@@ -35,16 +37,31 @@ static tiedraw_choice pick(uint32_t *state, const uint16_t *shovels, uint32_t tr
     return choice;
 }
 
+/* The library is the one that this was compiled for; the card is accepted, and written again it is the same bytes. */
+static void look_at_version_and_card(void) {
+    uint32_t version = tiedraw_version();
+    stop_unless(version / 1000 == TIEDRAW_VERSION_NUMBER / 1000, "the library is of another version");
+    stop_unless(tiedraw_check(card, sizeof card) == 0, "the card was refused");
+
+    tiedraw_reading reading = tiedraw_read(card, sizeof card);
+    uint8_t page[TIEDRAW_MOST_CARD_BYTES];
+    tiedraw_written written = tiedraw_write_card(&reading.card, page, sizeof page);
+    stop_unless(reading.refusal == 0 && written.refusal == 0, "the card was not read and written");
+    stop_unless(written.length == sizeof card && memcmp(page, card, sizeof card) == 0, "the card written is another");
+    printf("version %" PRIu32 ", a card of %u words of %u bits, constant %08" PRIx32 "\n", version, reading.card.words,
+           reading.card.width, reading.card.constant);
+}
+
 int main(void) {
     const uint16_t shovels[SHOVELS] = {12, 7, 30, 4, 21};
     const uint16_t standby_shovels[SHOVELS] = {4, 7, 12, 21, 30};
     uint32_t state[WORDS] = {0}, standby_state[WORDS], start[WORDS];
 
-    stop_unless(tiedraw_check(card, sizeof card) == 0, "the card was refused");
+    look_at_version_and_card();
     for (int i = 1; i <= 3; i++) {
         tiedraw_word drawn = tiedraw_draw(card, sizeof card, state, WORDS);
         stop_unless(drawn.refusal == 0, "a draw was refused");
-        printf("draw %d: word %08x\n", i, drawn.word);
+        printf("draw %d: word %08" PRIx32 "\n", i, drawn.word);
     }
     memcpy(start, state, sizeof state);
     memcpy(standby_state, state, sizeof state);
@@ -53,7 +70,7 @@ int main(void) {
     for (uint32_t truck = 1; truck <= TRUCKS; truck++) {
         tiedraw_choice server = pick(state, shovels, truck);
         tiedraw_choice standby = pick(standby_state, standby_shovels, truck);
-        printf("truck %u: shovel %2u of %u, standby server: shovel %2u\n", truck, server.shovel, server.ties, standby.shovel);
+        printf("truck %" PRIu32 ": shovel %2u of %u, standby server: shovel %2u\n", truck, server.shovel, server.ties, standby.shovel);
         stop_unless(server.shovel == standby.shovel && memcmp(state, standby_state, sizeof state) == 0, "the servers differ");
         lots += server.ties > 1;
     }
