@@ -1,4 +1,4 @@
-//! The functions and structs of `include/tiedraw.h`, as they stand there.
+//! The functions and structs of `include/tiedraw.h`, as they stand there. Nothing here compares versions.
 
 #[repr(C)]
 pub struct Word {
@@ -20,6 +20,7 @@ pub struct Written {
 }
 
 extern "C" {
+    pub fn tiedraw_version() -> u32;
     pub fn tiedraw_check(card: *const u8, card_len: usize) -> u8;
     pub fn tiedraw_step(card: *const u8, card_len: usize, state: *mut u32, words: usize) -> u8;
     pub fn tiedraw_step_back(card: *const u8, card_len: usize, state: *mut u32, words: usize)

@@ -4,6 +4,8 @@
 //! [`Shovel`]s can't have more numbers than times. The functions of this module are the library's own, on slices, for
 //! callers who keep card and state themselves.
 //!
+//! Every call panics where the library has another major or minor version than this binding ([`check_version`]).
+//!
 //! ```
 //! use tiedraw::{Card, Generator, Shovel};
 //! let card = Card::new(&[0x27, 2, 2, 1, 2, 3, 0, 1, 0, 0, 0])?;
@@ -15,8 +17,10 @@
 
 pub mod ffi;
 mod refusal;
+mod version;
 
 pub use refusal::Refusal;
+pub use version::{check_version, library_version, Version, VersionMismatch, VERSION};
 
 /// No accepted card has more bytes.
 pub const MOST_CARD_BYTES: usize = 26;
@@ -48,11 +52,13 @@ pub struct Values {
 
 /// Accepts a card, or refuses it by 1 to 9.
 pub fn check(card: &[u8]) -> Result<(), Refusal> {
+    version::ensure();
     Refusal::result(unsafe { ffi::tiedraw_check(card.as_ptr(), card.len()) })
 }
 
 /// One step of the state.
 pub fn step(card: &[u8], state: &mut [u32]) -> Result<(), Refusal> {
+    version::ensure();
     Refusal::result(unsafe {
         ffi::tiedraw_step(card.as_ptr(), card.len(), state.as_mut_ptr(), state.len())
     })
@@ -60,6 +66,7 @@ pub fn step(card: &[u8], state: &mut [u32]) -> Result<(), Refusal> {
 
 /// One step back of the state.
 pub fn step_back(card: &[u8], state: &mut [u32]) -> Result<(), Refusal> {
+    version::ensure();
     Refusal::result(unsafe {
         ffi::tiedraw_step_back(card.as_ptr(), card.len(), state.as_mut_ptr(), state.len())
     })
@@ -67,6 +74,7 @@ pub fn step_back(card: &[u8], state: &mut [u32]) -> Result<(), Refusal> {
 
 /// One step of the state, and its word.
 pub fn draw(card: &[u8], state: &mut [u32]) -> Result<u32, Refusal> {
+    version::ensure();
     let answer =
         unsafe { ffi::tiedraw_draw(card.as_ptr(), card.len(), state.as_mut_ptr(), state.len()) };
     Refusal::result(answer.refusal).map(|()| answer.word)
@@ -79,6 +87,7 @@ pub fn pick(
     shovels: &[u16],
     times: &[u32],
 ) -> Result<Choice, Refusal> {
+    version::ensure();
     let answer = unsafe {
         ffi::tiedraw_pick(
             card.as_ptr(),
@@ -100,6 +109,7 @@ pub fn pick(
 
 /// Writes a card at the front of the page, and answers its length.
 pub fn write(values: &Values, page: &mut [u8]) -> Result<usize, Refusal> {
+    version::ensure();
     let answer = unsafe {
         ffi::tiedraw_write(
             values.words,
