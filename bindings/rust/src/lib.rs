@@ -15,6 +15,8 @@
 //! # Ok::<(), tiedraw::Refusal>(())
 //! ```
 
+#![warn(missing_docs)]
+
 pub mod ffi;
 mod refusal;
 mod version;
@@ -22,27 +24,67 @@ mod version;
 pub use refusal::Refusal;
 pub use version::{check_version, library_version, Version, VersionMismatch, VERSION};
 
+/// No state has more words.
+pub const MOST_WORDS: usize = 4;
+/// No table has more entries.
+pub const TABLE_SIZE: usize = 1 << MOST_WORDS;
 /// No accepted card has more bytes.
 pub const MOST_CARD_BYTES: usize = 26;
+/// A pick takes no more shovels.
+pub const MOST_SHOVELS: usize = 64;
 
-/// What a pick answers: the shovel's number, and how many shovels had the least time.
+/// The card of TSC-1: every field absent.
+const TSC1: &[u8] = &[0];
+
+/// What a pick answers.
 #[derive(Clone, Copy, Debug, PartialEq, Eq)]
 pub struct Choice {
+    /// the number of the shovel that is chosen
     pub shovel: u16,
+    /// how many had the least time
     pub ties: u8,
 }
 
-/// The eight values of a card. A table shorter than 16 entries counts as followed by zeros.
+/// The eight values of a card; by default TSC-1's.
 #[derive(Clone, Debug, PartialEq, Eq)]
 pub struct Values {
+    /// the words of a state
     pub words: u8,
+    /// the bits of a word
     pub width: u8,
+    /// 2^words entries; for [`write()`] up to 16, and what is missing counts as 0
     pub table: Vec<u8>,
+    /// how often the table is applied where the selector bit is 1
     pub odd_power: u8,
+    /// and where it is 0
     pub even_power: u8,
+    /// the selector's constant
     pub constant: u32,
+    /// 1 for TSC-1's filter, 2 for TSC-2's
     pub filter: u8,
+    /// 1 where the sum of the words enters the selector
     pub sum_term: u8,
+}
+
+impl Values {
+    fn of(card: ffi::Card) -> Values {
+        Values {
+            words: card.words,
+            width: card.width,
+            table: card.table[..1 << card.words].to_vec(),
+            odd_power: card.odd_power,
+            even_power: card.even_power,
+            constant: card.constant,
+            filter: card.filter,
+            sum_term: card.sum_term,
+        }
+    }
+}
+
+impl Default for Values {
+    fn default() -> Values {
+        read(TSC1).expect("TSC-1's card")
+    }
 }
 
 // ---- The library's calls, on slices.
@@ -54,6 +96,13 @@ pub struct Values {
 pub fn check(card: &[u8]) -> Result<(), Refusal> {
     version::ensure();
     Refusal::result(unsafe { ffi::tiedraw_check(card.as_ptr(), card.len()) })
+}
+
+/// The eight values of a card, or refusal 1 to 6. A card that is read may still be refused by 7 to 9.
+pub fn read(card: &[u8]) -> Result<Values, Refusal> {
+    version::ensure();
+    let answer = unsafe { ffi::tiedraw_read(card.as_ptr(), card.len()) };
+    Refusal::result(answer.refusal).map(|()| Values::of(answer.card))
 }
 
 /// One step of the state.
@@ -130,14 +179,21 @@ pub fn write(values: &Values, page: &mut [u8]) -> Result<usize, Refusal> {
 
 // ---- Values that are known to be sound.
 
-/// An accepted card.
+/// An accepted card, and its values, which are read once, when it is made; by default TSC-1's.
 #[derive(Clone, Debug, PartialEq, Eq)]
-pub struct Card(Vec<u8>);
+pub struct Card {
+    bytes: Vec<u8>,
+    values: Values,
+}
 
 impl Card {
     /// Of these bytes, or refusal 1 to 9.
     pub fn new(bytes: &[u8]) -> Result<Card, Refusal> {
-        check(bytes).map(|()| Card(bytes.to_vec()))
+        check(bytes)?;
+        Ok(Card {
+            bytes: bytes.to_vec(),
+            values: read(bytes)?,
+        })
     }
 
     /// Of these values, or refusal 2 or 6 to 9.
@@ -147,15 +203,39 @@ impl Card {
         Card::new(&page[..length])
     }
 
+    /// The bytes that the calls on slices take.
     pub fn bytes(&self) -> &[u8] {
-        &self.0
+        &self.bytes
+    }
+
+    /// The eight values; [`Card::from_values`] of them is this card.
+    pub fn values(&self) -> &Values {
+        &self.values
+    }
+
+    /// How many words a state has.
+    pub fn words(&self) -> usize {
+        self.values.words.into()
+    }
+
+    /// How many bits a word has.
+    pub fn width(&self) -> u32 {
+        self.values.width.into()
+    }
+}
+
+impl Default for Card {
+    fn default() -> Card {
+        Card::new(TSC1).expect("TSC-1's card")
     }
 }
 
 /// A shovel that a truck may be sent to, and the seconds of travel to it.
 #[derive(Clone, Copy, Debug, PartialEq, Eq)]
 pub struct Shovel {
+    /// its number
     pub number: u16,
+    /// the seconds
     pub time: u32,
 }
 
@@ -176,10 +256,12 @@ impl Generator {
         })
     }
 
+    /// The card.
     pub fn card(&self) -> &Card {
         &self.card
     }
 
+    /// Where it stands.
     pub fn state(&self) -> &[u32] {
         &self.state
     }
