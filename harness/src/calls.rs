@@ -1,21 +1,55 @@
-//! The six calls, by the library and by the second program, and everything that a caller can observe of them.
+//! The calls, by the library and by the second program, and everything that a caller can observe of them.
 
 use crate::hex;
 use crate::inputs::Input;
 use reference::{call_write, Card, TABLE_ENTRIES};
 use std::hint::black_box;
+use std::iter::once;
 use tiedraw::ffi;
+
+pub const CALLS: [&str; 7] = [
+    "check",
+    "step",
+    "step_back",
+    "draw",
+    "pick",
+    "write",
+    "read",
+];
+
+/// The numbers that a call answers, and zeros behind them: at most the reader's, seven and the table.
+type Values = [u64; 7 + TABLE_ENTRIES];
+const ZEROS: Values = [0; 7 + TABLE_ENTRIES];
 
 /// The answer's values, the refusal, what was lent after the call, and whether all around it is as it was.
 #[derive(Debug, PartialEq)]
 struct Observed {
-    values: [u64; 2],
+    values: Values,
     refusal: u8,
     lent: Vec<u32>,
     around: bool,
 }
 
-pub const CALLS: [&str; 6] = ["check", "step", "step_back", "draw", "pick", "write"];
+fn row(numbers: impl IntoIterator<Item = u64>) -> Values {
+    let mut values = ZEROS;
+    for (value, number) in values.iter_mut().zip(numbers) {
+        *value = number;
+    }
+    values
+}
+
+/// The eight values of a card of either side.
+macro_rules! eight {
+    ($card:expr) => {{
+        let card = $card;
+        let constant = u64::from(card.constant);
+        let sizes = [card.words, card.width];
+        let powers = [card.odd_power, card.even_power];
+        let kinds = [card.filter, card.sum_term];
+        let bytes = sizes.iter().chain(&powers).chain(&kinds).chain(&card.table);
+        row(once(constant).chain(bytes.map(|&byte| byte.into())))
+    }};
+}
 
 // ---- The library.
 
@@ -53,18 +87,23 @@ fn library(call: usize, input: &Input) -> Observed {
     }
     let (card, n) = (shared(&input.card), input.card.len());
     let on_state = |state, m| match CALLS[call] {
-        "check" => ([0, 0], unsafe { ffi::tiedraw_check(card, n) }),
-        "step" => ([0, 0], unsafe { ffi::tiedraw_step(card, n, state, m) }),
-        "step_back" => ([0, 0], unsafe { ffi::tiedraw_step_back(card, n, state, m) }),
+        "check" => (ZEROS, unsafe { ffi::tiedraw_check(card, n) }),
+        "read" => {
+            let answer = unsafe { ffi::tiedraw_read(card, n) };
+            (eight!(answer.card), answer.refusal)
+        }
+        "step" => (ZEROS, unsafe { ffi::tiedraw_step(card, n, state, m) }),
+        "step_back" => (ZEROS, unsafe { ffi::tiedraw_step_back(card, n, state, m) }),
         "draw" => {
             let answer = unsafe { ffi::tiedraw_draw(card, n, state, m) };
-            ([answer.word.into(), 0], answer.refusal)
+            (row([answer.word.into()]), answer.refusal)
         }
         _ => {
             let (shovels, times) = (&input.shovels, &input.times);
             let (s, k, t, l) = (shared(shovels), shovels.len(), shared(times), times.len());
             let answer = unsafe { ffi::tiedraw_pick(card, n, state, m, s, k, t, l) };
-            ([answer.shovel.into(), answer.ties.into()], answer.refusal)
+            let numbers = [answer.shovel.into(), answer.ties.into()];
+            (row(numbers), answer.refusal)
         }
     };
     let ((values, refusal), lent, around) = lend(&input.state, 0xa5c3_96e1, on_state);
@@ -93,7 +132,7 @@ fn library_write(v: &Card, page: &[u8]) -> Observed {
         )
     });
     Observed {
-        values: [answer.length as u64, 0],
+        values: row([answer.length as u64]),
         refusal: answer.refusal,
         lent: lent.into_iter().map(u32::from).collect(),
         around,
@@ -102,9 +141,9 @@ fn library_write(v: &Card, page: &[u8]) -> Observed {
 
 // ---- The second program.
 
-fn expected(answer: Result<[u64; 2], u8>, lent: Vec<u32>) -> Observed {
+fn expected(answer: Result<Values, u8>, lent: Vec<u32>) -> Observed {
     Observed {
-        values: answer.unwrap_or([0, 0]),
+        values: answer.unwrap_or(ZEROS),
         refusal: answer.err().unwrap_or(0),
         lent,
         around: true,
@@ -117,11 +156,12 @@ fn second_program(call: usize, input: &Input) -> Observed {
     let mut state = input.state.clone();
     let answer = match CALLS[call] {
         "check" => Err(reference::check(card)),
+        "read" => reference::read(card).map(|card| eight!(card)),
         "step" => Err(reference::call_step(card, &mut state)),
         "step_back" => Err(reference::call_step_back(card, &mut state)),
-        "draw" => reference::call_draw(card, &mut state).map(|word| [word.into(), 0]),
+        "draw" => reference::call_draw(card, &mut state).map(|word| row([word.into()])),
         "pick" => reference::pick::call_pick(card, &mut state, &input.shovels, &input.times)
-            .map(|(shovel, ties)| [shovel.into(), ties as u64]),
+            .map(|(shovel, ties)| row([shovel.into(), ties as u64])),
         _ => return second_write(&input.values, &input.page),
     };
     expected(answer, state)
@@ -135,7 +175,7 @@ fn second_write(values: &Card, page: &[u8]) -> Observed {
         true => Err(2),
         false => {
             card.table.resize(TABLE_ENTRIES, 0);
-            call_write(&card, &mut lent).map(|length| [length as u64, 0])
+            call_write(&card, &mut lent).map(|length| row([length as u64]))
         }
     };
     expected(answer, lent.into_iter().map(u32::from).collect())
@@ -143,16 +183,16 @@ fn second_write(values: &Card, page: &[u8]) -> Observed {
 
 // ---- The comparison.
 
-/// The refusals of the six calls on one input, and how many ties the pick had; or a text that says
+/// The refusals of the calls on one input, and how many ties the pick had; or a text that says
 /// the input and how the two sides differ.
-pub fn compare(input: &Input) -> Result<([u8; 6], u64), String> {
-    let mut refusals = [0; 6];
+pub fn compare(input: &Input) -> Result<([u8; CALLS.len()], u64), String> {
+    let mut refusals = [0; CALLS.len()];
     let mut ties = 0;
+    let page: Vec<u32> = input.page.iter().map(|&byte| byte.into()).collect();
     for (call, name) in CALLS.iter().enumerate() {
         let handed = input.clone();
         let left = library(call, &handed);
         let right = second_program(call, input);
-        let page: Vec<u32> = input.page.iter().map(|&byte| byte.into()).collect();
         let before = if *name == "write" {
             &page
         } else {
@@ -164,7 +204,9 @@ pub fn compare(input: &Input) -> Result<([u8; 6], u64), String> {
             return Err(format!("{name}: the library\n  {left:x?}\nthe second program\n  {right:x?}\ncard {card}\n{input:x?}"));
         }
         refusals[call] = left.refusal;
-        ties = left.values[1].max(ties);
+        if *name == "pick" {
+            ties = left.values[1];
+        }
     }
     Ok((refusals, ties))
 }

@@ -1,4 +1,25 @@
-//! The functions and structs of `include/tiedraw.h`, as they stand there.
+//! The functions and structs of `include/tiedraw.h`, as they stand there. Nothing here compares versions.
+#![allow(missing_docs)] // the header has them
+
+use crate::TABLE_SIZE;
+
+#[repr(C)]
+pub struct Card {
+    pub words: u8,
+    pub width: u8,
+    pub odd_power: u8,
+    pub even_power: u8,
+    pub filter: u8,
+    pub sum_term: u8,
+    pub constant: u32,
+    pub table: [u8; TABLE_SIZE],
+}
+
+#[repr(C)]
+pub struct Reading {
+    pub card: Card,
+    pub refusal: u8,
+}
 
 #[repr(C)]
 pub struct Word {
@@ -20,7 +41,9 @@ pub struct Written {
 }
 
 extern "C" {
+    pub fn tiedraw_version() -> u32;
     pub fn tiedraw_check(card: *const u8, card_len: usize) -> u8;
+    pub fn tiedraw_read(card: *const u8, card_len: usize) -> Reading;
     pub fn tiedraw_step(card: *const u8, card_len: usize, state: *mut u32, words: usize) -> u8;
     pub fn tiedraw_step_back(card: *const u8, card_len: usize, state: *mut u32, words: usize)
         -> u8;

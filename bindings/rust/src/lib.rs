@@ -4,6 +4,8 @@
 //! [`Shovel`]s can't have more numbers than times. The functions of this module are the library's own, on slices, for
 //! callers who keep card and state themselves.
 //!
+//! Every call panics where the library has another major or minor version than this binding ([`check_version`]).
+//!
 //! ```
 //! use tiedraw::{Card, Generator, Shovel};
 //! let card = Card::new(&[0x27, 2, 2, 1, 2, 3, 0, 1, 0, 0, 0])?;
@@ -13,32 +15,76 @@
 //! # Ok::<(), tiedraw::Refusal>(())
 //! ```
 
+#![warn(missing_docs)]
+
 pub mod ffi;
 mod refusal;
+mod version;
 
 pub use refusal::Refusal;
+pub use version::{check_version, library_version, Version, VersionMismatch, VERSION};
 
+/// No state has more words.
+pub const MOST_WORDS: usize = 4;
+/// No table has more entries.
+pub const TABLE_SIZE: usize = 1 << MOST_WORDS;
 /// No accepted card has more bytes.
 pub const MOST_CARD_BYTES: usize = 26;
+/// A pick takes no more shovels.
+pub const MOST_SHOVELS: usize = 64;
 
-/// What a pick answers: the shovel's number, and how many shovels had the least time.
+/// The card of TSC-1: every field absent.
+const TSC1: &[u8] = &[0];
+
+/// What a pick answers.
 #[derive(Clone, Copy, Debug, PartialEq, Eq)]
 pub struct Choice {
+    /// the number of the shovel that is chosen
     pub shovel: u16,
+    /// how many had the least time
     pub ties: u8,
 }
 
-/// The eight values of a card. A table shorter than 16 entries counts as followed by zeros.
+/// The eight values of a card; by default TSC-1's.
 #[derive(Clone, Debug, PartialEq, Eq)]
 pub struct Values {
+    /// the words of a state
     pub words: u8,
+    /// the bits of a word
     pub width: u8,
+    /// 2^words entries; for [`write()`] up to 16, and what is missing counts as 0
     pub table: Vec<u8>,
+    /// how often the table is applied where the selector bit is 1
     pub odd_power: u8,
+    /// and where it is 0
     pub even_power: u8,
+    /// the selector's constant
     pub constant: u32,
+    /// 1 for TSC-1's filter, 2 for TSC-2's
     pub filter: u8,
+    /// 1 where the sum of the words enters the selector
     pub sum_term: u8,
+}
+
+impl Values {
+    fn of(card: ffi::Card) -> Values {
+        Values {
+            words: card.words,
+            width: card.width,
+            table: card.table[..1 << card.words].to_vec(),
+            odd_power: card.odd_power,
+            even_power: card.even_power,
+            constant: card.constant,
+            filter: card.filter,
+            sum_term: card.sum_term,
+        }
+    }
+}
+
+impl Default for Values {
+    fn default() -> Values {
+        read(TSC1).expect("TSC-1's card")
+    }
 }
 
 // ---- The library's calls, on slices.
@@ -48,11 +94,20 @@ pub struct Values {
 
 /// Accepts a card, or refuses it by 1 to 9.
 pub fn check(card: &[u8]) -> Result<(), Refusal> {
+    version::ensure();
     Refusal::result(unsafe { ffi::tiedraw_check(card.as_ptr(), card.len()) })
+}
+
+/// The eight values of a card, or refusal 1 to 6. A card that is read may still be refused by 7 to 9.
+pub fn read(card: &[u8]) -> Result<Values, Refusal> {
+    version::ensure();
+    let answer = unsafe { ffi::tiedraw_read(card.as_ptr(), card.len()) };
+    Refusal::result(answer.refusal).map(|()| Values::of(answer.card))
 }
 
 /// One step of the state.
 pub fn step(card: &[u8], state: &mut [u32]) -> Result<(), Refusal> {
+    version::ensure();
     Refusal::result(unsafe {
         ffi::tiedraw_step(card.as_ptr(), card.len(), state.as_mut_ptr(), state.len())
     })
@@ -60,6 +115,7 @@ pub fn step(card: &[u8], state: &mut [u32]) -> Result<(), Refusal> {
 
 /// One step back of the state.
 pub fn step_back(card: &[u8], state: &mut [u32]) -> Result<(), Refusal> {
+    version::ensure();
     Refusal::result(unsafe {
         ffi::tiedraw_step_back(card.as_ptr(), card.len(), state.as_mut_ptr(), state.len())
     })
@@ -67,6 +123,7 @@ pub fn step_back(card: &[u8], state: &mut [u32]) -> Result<(), Refusal> {
 
 /// One step of the state, and its word.
 pub fn draw(card: &[u8], state: &mut [u32]) -> Result<u32, Refusal> {
+    version::ensure();
     let answer =
         unsafe { ffi::tiedraw_draw(card.as_ptr(), card.len(), state.as_mut_ptr(), state.len()) };
     Refusal::result(answer.refusal).map(|()| answer.word)
@@ -79,6 +136,7 @@ pub fn pick(
     shovels: &[u16],
     times: &[u32],
 ) -> Result<Choice, Refusal> {
+    version::ensure();
     let answer = unsafe {
         ffi::tiedraw_pick(
             card.as_ptr(),
@@ -100,6 +158,7 @@ pub fn pick(
 
 /// Writes a card at the front of the page, and answers its length.
 pub fn write(values: &Values, page: &mut [u8]) -> Result<usize, Refusal> {
+    version::ensure();
     let answer = unsafe {
         ffi::tiedraw_write(
             values.words,
@@ -120,14 +179,21 @@ pub fn write(values: &Values, page: &mut [u8]) -> Result<usize, Refusal> {
 
 // ---- Values that are known to be sound.
 
-/// An accepted card.
+/// An accepted card, and its values, which are read once, when it is made; by default TSC-1's.
 #[derive(Clone, Debug, PartialEq, Eq)]
-pub struct Card(Vec<u8>);
+pub struct Card {
+    bytes: Vec<u8>,
+    values: Values,
+}
 
 impl Card {
     /// Of these bytes, or refusal 1 to 9.
     pub fn new(bytes: &[u8]) -> Result<Card, Refusal> {
-        check(bytes).map(|()| Card(bytes.to_vec()))
+        check(bytes)?;
+        Ok(Card {
+            bytes: bytes.to_vec(),
+            values: read(bytes)?,
+        })
     }
 
     /// Of these values, or refusal 2 or 6 to 9.
@@ -137,15 +203,39 @@ impl Card {
         Card::new(&page[..length])
     }
 
+    /// The bytes that the calls on slices take.
     pub fn bytes(&self) -> &[u8] {
-        &self.0
+        &self.bytes
+    }
+
+    /// The eight values; [`Card::from_values`] of them is this card.
+    pub fn values(&self) -> &Values {
+        &self.values
+    }
+
+    /// How many words a state has.
+    pub fn words(&self) -> usize {
+        self.values.words.into()
+    }
+
+    /// How many bits a word has.
+    pub fn width(&self) -> u32 {
+        self.values.width.into()
+    }
+}
+
+impl Default for Card {
+    fn default() -> Card {
+        Card::new(TSC1).expect("TSC-1's card")
     }
 }
 
 /// A shovel that a truck may be sent to, and the seconds of travel to it.
 #[derive(Clone, Copy, Debug, PartialEq, Eq)]
 pub struct Shovel {
+    /// its number
     pub number: u16,
+    /// the seconds
     pub time: u32,
 }
 
@@ -166,10 +256,12 @@ impl Generator {
         })
     }
 
+    /// The card.
     pub fn card(&self) -> &Card {
         &self.card
     }
 
+    /// Where it stands.
     pub fn state(&self) -> &[u32] {
         &self.state
     }

@@ -1,33 +1,28 @@
 //! The refusals: number, trade word, and when each is told.
 
-/// Why a call was refused. A refusal changes nothing that was lent.
-#[derive(Clone, Copy, Debug, PartialEq, Eq, Hash)]
-#[non_exhaustive]
-#[repr(u8)]
-pub enum Refusal {
-    Truncated = 1,
-    OutOfRange,
-    Redundant,
-    TableMissing,
-    TrailingBytes,
-    ConstantTooWide,
-    NotSingleCycle,
-    EvenConstant,
-    PowerParity,
-    WordCount,
-    WordTooWide,
-    LengthMismatch,
-    NoShovel,
-    TooManyShovels,
-    DuplicateShovel,
-    BufferTooSmall,
+use crate::VERSION;
+
+/// A refusal, its trade word, and when it is told.
+type Row = (Refusal, &'static str, &'static str);
+
+/// The enum and `ALL`, of a row for each refusal.
+macro_rules! refusals {
+    ($(($name:ident, $word:literal, $when:literal),)*) => {
+        /// Why a call was refused. A refusal changes nothing that was lent.
+        #[derive(Clone, Copy, Debug, PartialEq, Eq, Hash)]
+        #[non_exhaustive]
+        pub enum Refusal {
+            $(#[doc = concat!($word, ": ", $when)] $name,)*
+            /// a number that this binding has no name for
+            Unknown(u8),
+        }
+
+        /// The rows, by their numbers from 1.
+        const ALL: &[Row] = &[$((Refusal::$name, $word, $when)),*];
+    };
 }
 
-use Refusal::*;
-
-/// Each refusal with its trade word and when it is told, by its number from 1.
-#[rustfmt::skip]
-const ALL: [(Refusal, &str, &str); 16] = [
+refusals! {
     (Truncated, "short", "the bytes end before the map, or before the last byte of a field"),
     (OutOfRange, "range", "a field or table entry is outside the allowed values"),
     (Redundant, "idle", "a field is given that equals its absent value"),
@@ -44,41 +39,48 @@ const ALL: [(Refusal, &str, &str); 16] = [
     (TooManyShovels, "crowd", "more than 64 shovels"),
     (DuplicateShovel, "twice", "a shovel number stands twice"),
     (BufferTooSmall, "small page", "the page has fewer bytes than the card needs"),
-];
+}
 
 impl Refusal {
+    /// Of the number by which the library tells it; none for 0, which is no refusal.
+    pub fn from_number(number: u8) -> Option<Refusal> {
+        let place = usize::from(number).checked_sub(1)?;
+        Some(ALL.get(place).map_or(Refusal::Unknown(number), |row| row.0))
+    }
+
     /// The number by which the library tells it.
     pub fn number(self) -> u8 {
-        self as u8
+        match self {
+            Refusal::Unknown(number) => number,
+            _ => 1 + ALL.iter().take_while(|row| row.0 != self).count() as u8,
+        }
     }
 
     /// The trade word for it.
     pub fn trade_word(self) -> &'static str {
-        ALL[self as usize - 1].1
+        self.row().map_or("unknown", |row| row.1)
     }
 
-    /// Nothing for 0. The library tells no number past the last.
+    fn row(self) -> Option<&'static Row> {
+        ALL.iter().find(|row| row.0 == self)
+    }
+
     pub(crate) fn result(number: u8) -> Result<(), Refusal> {
-        match number {
-            0 => Ok(()),
-            _ => Err(ALL[usize::from(number) - 1].0),
-        }
+        Refusal::from_number(number).map_or(Ok(()), Err)
     }
 }
 
 impl std::fmt::Display for Refusal {
     fn fmt(&self, f: &mut std::fmt::Formatter) -> std::fmt::Result {
-        let (_, word, when) = ALL[*self as usize - 1];
-        write!(f, "refusal {} ({word}): {when}", self.number())
+        let number = self.number();
+        match self.row() {
+            Some((_, word, when)) => write!(f, "refusal {number} ({word}): {when}"),
+            None => write!(
+                f,
+                "refusal {number}: unknown to this binding, version {VERSION}"
+            ),
+        }
     }
 }
 
 impl std::error::Error for Refusal {}
-
-#[cfg(test)]
-#[test]
-fn numbers_go_by_place() {
-    for (place, row) in ALL.iter().enumerate() {
-        assert_eq!(usize::from(row.0.number()), place + 1);
-    }
-}

@@ -16,19 +16,20 @@ const CARDS: usize = 3000;
 const MOST_BITS: u8 = 12;
 
 /// The refusals that each call has, 0 for none: all of them must come up.
-const TELLS: [&[usize]; 6] = [
+const TELLS: [&[usize]; CALLS.len()] = [
     &[0, 1, 2, 3, 4, 5, 6, 7, 8, 9],
     &[0, 1, 2, 3, 4, 5, 6, 7, 8, 9, 10, 11],
     &[0, 1, 2, 3, 4, 5, 6, 7, 8, 9, 10, 11],
     &[0, 1, 2, 3, 4, 5, 6, 7, 8, 9, 10, 11],
     &[0, 1, 2, 3, 4, 5, 6, 7, 8, 9, 10, 11, 12, 13, 14, 15],
     &[0, 2, 6, 7, 8, 9, 16],
+    &[0, 1, 2, 3, 4, 5, 6],
 ];
 
 /// How often each call told each refusal, and how many picks had ties.
 #[derive(Default)]
 struct Tally {
-    told: [[usize; 17]; 6],
+    told: [[usize; 17]; CALLS.len()],
     ties: usize,
 }
 
@@ -45,7 +46,7 @@ impl Tally {
     /// A call and a refusal of its that never came up.
     fn missing(&self) -> Option<(&str, usize)> {
         let never = |call: usize| TELLS[call].iter().find(move |&&r| self.told[call][r] == 0);
-        (0..6).find_map(|call| never(call).map(|&refusal| (CALLS[call], refusal)))
+        (0..CALLS.len()).find_map(|call| never(call).map(|&refusal| (CALLS[call], refusal)))
     }
 }
 
@@ -79,7 +80,7 @@ fn run_blocks<T: Send>(blocks: usize, work: impl Fn(usize) -> Result<T, String> 
 }
 
 /// A comparison that prints the input also where one side breaks down.
-fn compare_or_tell(input: &Input) -> Result<([u8; 6], u64), String> {
+fn compare_or_tell(input: &Input) -> Result<([u8; CALLS.len()], u64), String> {
     catch_unwind(|| compare(input)).unwrap_or_else(|_| Err(format!("broken down on {input:x?}")))
 }
 
