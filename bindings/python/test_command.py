@@ -110,6 +110,9 @@ class Command(unittest.TestCase):
             self.fails(2, "can't decode", "check", f"@{file}")
             self.fails(2, "Is a directory", "check", f"@{folder}")
 
+    def test_a_seed_that_is_no_text(self):
+        self.fails(2, "can't encode", "new", "--seed", os.fsdecode(b"\xff"))
+
     def test_a_reader_that_leaves_early(self):
         command = [sys.executable, "-m", "tiedraw", "draw", "00", "0,0,0,0", "--count", "200000"]
         with subprocess.Popen(command, cwd=HERE, stdout=subprocess.PIPE, stderr=subprocess.PIPE, env=os.environ) as running:

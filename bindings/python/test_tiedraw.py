@@ -37,12 +37,12 @@ class Document(unittest.TestCase):
         self.assertEqual(tiedraw.write(Values()), b"\0")
 
     def test_a_tie_goes_by_rank_and_not_by_place(self):
-        for times in [{7: 300, 4: 300}, {4: 300, 7: 300}, [(7, 300), (4, 300)], iter([[4, 300], [7, 300]]), {7: 300, 4: 300}.items()]:
-            times = times if isinstance(times, dict) else list(times)
-            for state, shovel, after in [((0, 0), 4, (1, 2)), ((2, 3), 7, (1, 1))]:
-                desk = tiedraw.Generator(PROGRAM, state)
-                self.assertEqual(desk.pick(times), (shovel, 2))
-                self.assertEqual(desk.state, after)
+        for numbers in [(7, 4), (4, 7)]:
+            for kind in [dict, list, iter, set, lambda pairs: dict(pairs).items()]:
+                for state, shovel, after in [((0, 0), 4, (1, 2)), ((2, 3), 7, (1, 1))]:
+                    desk = tiedraw.Generator(PROGRAM, state)
+                    self.assertEqual(desk.pick(kind([(number, 300) for number in numbers])), (shovel, 2))
+                    self.assertEqual(desk.state, after)
         self.assertEqual(tiedraw.pick(PROGRAM, [0, 0], [4, 7], [300, 299]), ((7, 1), (0, 0)))
 
     def test_what_is_unsound_is_refused_and_changes_nothing(self):

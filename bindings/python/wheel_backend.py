@@ -1,4 +1,7 @@
-"""Builds the package's wheel for pip, by setuptools alone: setuptools before 70.1 does it only with the package `wheel`."""
+"""Builds the package's wheel for pip, by setuptools alone: setuptools before 70.1 does it only with the package `wheel`.
+
+Nothing is left in this folder. Source archives are not built: the repository is the source.
+"""
 
 import base64
 import hashlib
@@ -7,7 +10,6 @@ import zipfile
 from pathlib import Path
 
 from setuptools import Distribution
-from setuptools.build_meta import build_sdist  # noqa: F401  (pip asks for it by name)
 
 WHEEL = "Wheel-Version: 1.0\nGenerator: tiedraw\nRoot-Is-Purelib: true\nTag: py3-none-any\n"
 

@@ -95,15 +95,13 @@ def _parser() -> argparse.ArgumentParser:
 
 
 def _new_options(new: argparse.ArgumentParser) -> None:
-    new.add_argument(
-        "--words", metavar="M", type=_range("words", FEWEST_WORDS, MOST_WORDS), default=MOST_WORDS,
-        help=f"{FEWEST_WORDS} to {MOST_WORDS} (default {MOST_WORDS})",
-    )  # fmt: skip
-    new.add_argument(
-        "--width", metavar="N", type=_range("width", NARROWEST, WIDEST), default=WIDEST,
-        help=f"bits of a word, {NARROWEST} to {WIDEST} (default {WIDEST})",
-    )  # fmt: skip
-    new.add_argument("--filter", type=_range("filter", 1, 2), default=1, metavar="F", help="1 or 2 (default 1)")
+    for name, least, most, default, about in [
+        ("words", FEWEST_WORDS, MOST_WORDS, MOST_WORDS, "words of a state"),
+        ("width", NARROWEST, WIDEST, WIDEST, "bits of a word"),
+        ("filter", 1, 2, 1, "filter"),
+    ]:
+        told = f"{about}, {least} to {most} (default {default})"
+        new.add_argument(f"--{name}", metavar="N", type=_range(name, least, most), default=default, help=told)
     new.add_argument("--seed", metavar="TEXT", help="the same card for the same text; else one by the system's randomness")
 
 

@@ -70,7 +70,8 @@ class Generator:
     def pick(self, times: Times) -> Choice:
         """The shovel of least time, from {shovel: time} or pairs (shovel, time); ties are broken by a draw.
 
-        An error names a time by what is written to get it: times[7] of a mapping, times[0][1] of pairs.
+        An error names a time by what is written to get it: times[7] of a mapping, times[0][1] of pairs. A number that
+        stands twice among pairs is refused by 15.
         """
         shovels, seconds = shovels_and_times(times)
         count = len(shovels)

@@ -44,7 +44,8 @@ def _found() -> ctypes.CDLL:
     if named:
         return _open(os.path.abspath(named), f"{VARIABLE} names {named}, which can't be loaded")
     files = [str(file) for file in candidates(Path(__file__).resolve().parent)]
-    for file in filter(os.path.isfile, files):
+    file = next(filter(os.path.isfile, files), None)
+    if file:
         return _open(file, f"{file} can't be loaded")
     tried = "".join(f"\n  {place}" for place in [f"{VARIABLE}: not set", *files, f"{SONAME}, by the system"])
     return _open(SONAME, f"libtiedraw is not found (`make lib` builds it); tried:{tried}")
