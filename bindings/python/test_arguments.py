@@ -1,0 +1,119 @@
+"""What can't be handed to the library is named with its place and value; what can is handed over whole."""
+
+import array
+import ctypes
+import unittest
+
+import tiedraw
+from tiedraw import Values
+
+PROGRAM = bytes.fromhex("27 02 02 01 02 03 00 01 00 00 00")
+
+
+class Index:
+    """A whole number that is no int, as numpy has them."""
+
+    def __init__(self, number):
+        self.number = number
+
+    def __index__(self):
+        return self.number
+
+
+class Misjudged(list):
+    """A list that tells a wrong length."""
+
+    def __len__(self):
+        return 1
+
+
+class Named(unittest.TestCase):
+    def told(self, kind, message, call, *arguments):
+        with self.assertRaises(kind) as caught:
+            call(*arguments)
+        self.assertEqual((type(caught.exception), str(caught.exception)), (kind, message))
+
+    def test_times_are_whole_seconds(self):
+        for time in [300.5, 300.0, "300", None, True]:
+            message = f"times[14]: {time!r} is not a whole number of seconds"
+            self.told(TypeError, message, tiedraw.pick, PROGRAM, [0, 0], range(15), [1] * 14 + [time])
+            self.told(TypeError, message, tiedraw.Generator(PROGRAM, [0, 0]).pick, {3: 1, 14: time})
+
+    def test_times_by_shovel_or_by_place(self):
+        pick = tiedraw.Generator(PROGRAM, [0, 0]).pick
+        self.told(ValueError, "times[7]: -1 is negative", pick, {4: 1, 7: -1})
+        self.told(ValueError, "a key of times: 65536 is more than 16 bits", pick, {65536: 1})
+        self.told(TypeError, "a key of times: '7' is not a whole number", pick, {"7": 1})
+        self.told(ValueError, "times[1][0]: 65536 is more than 16 bits", pick, [(4, 1), (65536, 1)])
+        self.told(ValueError, "times[0][1]: 4294967296 is more than 32 bits", pick, [(4, 2**32)])
+        self.told(TypeError, "times[0][1]: 1.5 is not a whole number of seconds", pick, iter([(4, 1.5)]))
+        self.told(TypeError, "times[1]: 7 is not a pair of shovel and time", pick, [(4, 1), 7])
+        self.told(TypeError, "times[0]: (4, 1, 1) is not a pair of shovel and time", pick, [(4, 1, 1)])
+        self.told(TypeError, "times: 5 is not a mapping or pairs", pick, 5)
+
+    def test_entries_by_place(self):
+        self.told(ValueError, "shovels[2]: 65536 is more than 16 bits", tiedraw.pick, PROGRAM, [0, 0], [1, 2, 65536], [1] * 3)
+        self.told(ValueError, "state[1]: 4294967296 is more than 32 bits", tiedraw.draw, PROGRAM, [0, 2**32])
+        self.told(ValueError, "state[1]: -1 is negative", tiedraw.Generator, PROGRAM, [0, -1])
+        self.told(TypeError, "state[0]: 0.0 is not a whole number", tiedraw.step, PROGRAM, [0.0, 0])
+        self.told(ValueError, "card[0]: 256 is more than 8 bits", tiedraw.check, [256])
+        self.told(TypeError, "card[1]: '02' is not a whole number", tiedraw.read, [1, "02"])
+        self.told(ValueError, "table[3]: 256 is more than 8 bits", tiedraw.write, Values(table=[0, 1, 2, 256]))
+
+    def test_values_by_name(self):
+        self.told(ValueError, "width: 260 is more than 8 bits", tiedraw.write, Values(width=260))
+        self.told(ValueError, "odd_power: -1 is negative", tiedraw.write, Values(odd_power=-1))
+        self.told(ValueError, "constant: 4294967296 is more than 32 bits", tiedraw.write, Values(constant=2**32))
+        self.told(TypeError, "sum_term: True is not a whole number", tiedraw.write, Values(sum_term=True))
+        self.told(ValueError, "room: -1 is negative", tiedraw.write, Values(), -1)
+
+    def test_no_bool_is_a_number(self):
+        self.told(TypeError, "card[0]: False is not a whole number", tiedraw.check, [False])
+        self.told(TypeError, "state[1]: True is not a whole number", tiedraw.draw, PROGRAM, [0, True])
+        self.told(TypeError, "shovels[0]: True is not a whole number", tiedraw.pick, PROGRAM, [0, 0], [True], [1])
+
+    def test_text_is_no_card(self):
+        self.told(TypeError, "card: '27 02' is text; bytes.fromhex makes a card of it", tiedraw.check, "27 02")
+        self.told(TypeError, "state: '0,0' is text; numbers are asked for", tiedraw.draw, PROGRAM, "0,0")
+
+    def test_what_has_no_order_is_no_row(self):
+        self.told(TypeError, "state: {0} is a set, which has no order", tiedraw.draw, PROGRAM, {0})
+        self.told(TypeError, "state: {0: 5} is a dict, which has no order", tiedraw.Generator, PROGRAM, {0: 5})
+        self.told(TypeError, "times: {7: 1} is a dict, which has no order", tiedraw.pick, PROGRAM, [0, 0], [7], {7: 1})
+        self.told(TypeError, "card: 5 is not a row of numbers", tiedraw.check, 5)
+        self.assertRaises(TypeError, tiedraw.write, Values(table={1: 2}))
+
+    def test_no_number_is_cut_off(self):
+        for call in [
+            lambda: tiedraw.draw(PROGRAM, [0, 2**32]),
+            lambda: tiedraw.pick(PROGRAM, [0, 0], [65536], [1]),
+            lambda: tiedraw.write(Values(words=260)),
+            lambda: tiedraw.write(Values(odd_power=-1)),
+        ]:
+            self.assertRaises(ValueError, call)
+
+
+class Rows(unittest.TestCase):
+    def test_the_length_handed_over_is_that_of_the_copy(self):
+        wide = array.array("L", list(PROGRAM))
+        kept = (ctypes.c_uint16 * len(PROGRAM))(*PROGRAM)
+        for card in [list(PROGRAM), bytearray(PROGRAM), wide, memoryview(wide), kept, Misjudged(PROGRAM)]:
+            tiedraw.check(card)
+            self.assertEqual(tiedraw.read(card).words, 2)
+            self.assertEqual(tiedraw.draw(card, Misjudged([2, 3])), (3, (1, 1)))
+            self.assertEqual(tiedraw.Generator(card, iter([0, 0])).card, PROGRAM)
+        self.assertIsNone(tiedraw.check(map(Index, PROGRAM)))
+
+    def test_lists_of_a_pick_may_be_iterables(self):
+        times = {7: 300, 4: 300}
+        answer = tiedraw.pick(iter(PROGRAM), iter([2, 3]), iter(times), times.values())
+        self.assertEqual(answer, ((7, 2), (1, 1)))
+
+    def test_whole_numbers_of_other_kinds(self):
+        desk = tiedraw.Generator(PROGRAM, [Index(2), Index(3)])
+        self.assertEqual(desk.pick({Index(7): Index(300), Index(4): Index(300)}), (7, 2))
+        self.assertEqual(tiedraw.write(Values(width=Index(29))), bytes.fromhex("02 1d"))
+
+
+if __name__ == "__main__":
+    unittest.main()

@@ -1,0 +1,125 @@
+"""The command line: what it prints, and its exit status."""
+
+import os
+import pathlib
+import subprocess
+import sys
+import tempfile
+import unittest
+
+import tiedraw
+
+HERE = pathlib.Path(__file__).resolve().parent
+PROGRAM = "27 02 02 01 02 03 00 01 00 00 00"
+
+
+def run(*arguments):
+    return subprocess.run(
+        [sys.executable, "-m", "tiedraw", *arguments], cwd=HERE, capture_output=True, text=True, encoding="utf-8"
+    )
+
+
+class Command(unittest.TestCase):
+    def printed(self, *arguments):
+        done = run(*arguments)
+        self.assertEqual((done.returncode, done.stderr), (0, ""))
+        return done.stdout.splitlines()
+
+    def fails(self, status, message, *arguments):
+        done = run(*arguments)
+        self.assertEqual((done.returncode, done.stdout), (status, ""))
+        self.assertIn(message, done.stderr)
+        self.assertNotIn("Traceback", done.stderr)
+
+    def test_check(self):
+        for card in [PROGRAM, PROGRAM.replace(" ", "").upper(), f"# two words\n{PROGRAM} # and so on\n", "00"]:
+            self.assertEqual(self.printed("check", card), ["accepted"])
+
+    def test_read(self):
+        self.assertEqual(
+            self.printed("read", PROGRAM),
+            ["words 2", "width 2", "table 1 2 3 0", "odd power 1", "even power 2", "constant 0x1", "filter 1", "sum term 1"],
+        )
+
+    def test_draw(self):
+        words = [f"word {word:08x}" for word in (0, 0, 3, 2)]
+        self.assertEqual(self.printed("draw", PROGRAM, "0,0", "--count", "4"), [*words, "state 00000002,00000000"])
+        self.assertEqual(self.printed("draw", PROGRAM, "0,0"), ["word 00000000", "state 00000001,00000002"])
+        self.assertEqual(self.printed("draw", "00", "0,0,0,EDB77BDE", "--count", "0"), ["state " + "00000000," * 3 + "edb77bde"])
+
+    def test_pick(self):
+        answer = ["shovel 7", "ties 2", "state 00000001,00000001"]
+        self.assertEqual(self.printed("pick", PROGRAM, "2,3", "7=300", "4=300"), answer)
+
+    def test_new_cards_can_be_given_back(self):
+        for size in [(), ("--words", "2", "--width", "7"), ("--filter", "2", "--seed", "south pit")]:
+            lines = self.printed("new", *size)
+            self.assertEqual([line[:2] for line in lines[1:]], ["# "] * 8)
+            with tempfile.TemporaryDirectory() as folder:
+                file = pathlib.Path(folder, "pit.hex")
+                file.write_text("\n".join(lines), encoding="utf-8")
+                self.assertEqual(self.printed("check", f"@{file}"), ["accepted"])
+                self.assertEqual(self.printed("read", f"@{file}"), [line[2:] for line in lines[1:]])
+        self.assertEqual(lines, self.printed("new", *size))
+        self.assertEqual(lines[0], tiedraw.new_card(filter=2, seed="south pit").hex(" "))
+
+    def test_versions_and_help(self):
+        versions = [f"binding {tiedraw.__version__}", f"library {tiedraw.library_version()}"]
+        self.assertEqual(self.printed("--version"), versions)
+        told = "\n".join(self.printed("--help"))
+        for text in ["check", "read", "draw", "pick", "new", "words in hex with commas", "@FILE", "Exit status"]:
+            self.assertIn(text, told)
+        for command in ["check", "read", "draw", "pick", "new"]:
+            self.printed(command, "--help")
+
+    def test_a_refusal_is_told_on_standard_error(self):
+        self.fails(1, "refusal 9 (powers): the odd power is even", "check", "08 02")
+        self.fails(1, "refusal 1 (short): ", "read", "")
+        self.fails(1, "refusal 10 (word count): ", "draw", PROGRAM, "0")
+        self.fails(1, "refusal 10 (word count): ", "draw", PROGRAM, "")
+        self.fails(1, "refusal 13 (no shovel): ", "pick", PROGRAM, "0,0")
+        self.fails(1, "refusal 15 (twice): ", "pick", PROGRAM, "0,0", "7=1", "7=2")
+
+    def test_wrong_usage(self):
+        for message, *arguments in [
+            ("COMMAND",),
+            ("invalid choice", "toss"),
+            ("required: CARD", "check"),
+            ("'08 0' is not bytes in hex", "check", "08 0"),
+            ("'0x00' is not bytes in hex", "check", "0x00"),
+            ("no-such-file: No such file", "check", "@no-such-file"),
+            ("unrecognized arguments: 02", "check", "08", "02"),
+            ("'0x1' is not a word in hex", "draw", PROGRAM, "0,0x1"),
+            ("'' is not a word in hex", "draw", PROGRAM, "0,"),
+            ("word 1: 4294967296 is more than 32 bits", "draw", PROGRAM, "0,100000000"),
+            ("'-1' is not a whole number", "draw", PROGRAM, "0,0", "--count", "-1"),
+            ("'7' is not SHOVEL=SECONDS", "pick", PROGRAM, "0,0", "7"),
+            ("SHOVEL: 65536 is more than 16 bits", "pick", PROGRAM, "0,0", "65536=1"),
+            ("'1.5' is not a whole number", "pick", PROGRAM, "0,0", "7=1.5"),
+            ("words: 5 is not 2 to 4", "new", "--words", "5"),
+            ("width: 1 is not 2 to 32", "new", "--width", "1"),
+            ("'x' is not a whole number", "new", "--filter", "x"),
+        ]:
+            with self.subTest(arguments):
+                self.fails(2, message, *arguments)
+
+    def test_a_file_that_is_no_text(self):
+        with tempfile.TemporaryDirectory() as folder:
+            file = pathlib.Path(folder, "pit.hex")
+            file.write_bytes(b"\xff\xfe")
+            self.fails(2, "can't decode", "check", f"@{file}")
+            self.fails(2, "Is a directory", "check", f"@{folder}")
+
+    def test_a_seed_that_is_no_text(self):
+        self.fails(2, "can't encode", "new", "--seed", os.fsdecode(b"\xff"))
+
+    def test_a_reader_that_leaves_early(self):
+        command = [sys.executable, "-m", "tiedraw", "draw", "00", "0,0,0,0", "--count", "200000"]
+        with subprocess.Popen(command, cwd=HERE, stdout=subprocess.PIPE, stderr=subprocess.PIPE, env=os.environ) as running:
+            self.assertEqual(running.stdout.readline(), b"word 0b857478\n")
+            running.stdout.close()
+            self.assertEqual((running.stderr.read(), running.wait()), (b"", 0))
+
+
+if __name__ == "__main__":
+    unittest.main()

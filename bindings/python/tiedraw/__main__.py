@@ -1,0 +1,126 @@
+"""The command line: python3 -m tiedraw."""
+
+from __future__ import annotations
+
+import argparse
+import os
+import sys
+from typing import Any, Callable, Iterator
+
+from . import Generator, Refused, __version__, check, library_version, new_card, read
+from ._library import MOST_WORDS
+from ._new_card import FEWEST_WORDS, NARROWEST, WIDEST, between
+from ._text import card_bytes, number, shovel_time, state_text, state_words, value_lines
+
+ABOUT = """\
+Tie draws for mine dispatch, proved. Each command prints one fact a line, a name and its value.
+
+CARD is bytes in hex, with blanks between them or without, and comments from # to the end of a line; or @FILE, a file of
+such text. Quote it if it has blanks. STATE is words in hex with commas between them, the first word first.
+Shovels, seconds and counts are decimal."""
+
+ENDING = "Exit status: 0; 1 if the library refuses, with number and trade word on standard error; 2 if the usage is wrong."
+
+
+def _check(options: argparse.Namespace) -> Iterator[str]:
+    check(options.card)
+    yield "accepted"
+
+
+def _read(options: argparse.Namespace) -> Iterator[str]:
+    yield from value_lines(read(options.card))
+
+
+def _draw(options: argparse.Namespace) -> Iterator[str]:
+    desk = Generator(options.card, options.state)
+    for _ in range(options.count):
+        yield f"word {desk.draw():08x}"
+    yield f"state {state_text(desk.state)}"
+
+
+def _pick(options: argparse.Namespace) -> Iterator[str]:
+    desk = Generator(options.card, options.state)
+    choice = desk.pick(options.times)
+    yield f"shovel {choice.shovel}"
+    yield f"ties {choice.ties}"
+    yield f"state {state_text(desk.state)}"
+
+
+def _new(options: argparse.Namespace) -> Iterator[str]:
+    card = new_card(options.words, options.width, options.filter, options.seed)
+    yield card.hex(" ")
+    for line in value_lines(read(card)):
+        yield f"# {line}"
+
+
+def _parsed(parse: Callable[[str], Any]) -> Callable[[str], Any]:
+    """For argparse, which tells the message of no other error."""
+
+    def parsed(text: str) -> Any:
+        try:
+            return parse(text)
+        except ValueError as error:
+            raise argparse.ArgumentTypeError(str(error)) from None
+
+    return parsed
+
+
+def _range(name: str, least: int, most: int) -> Callable[[str], Any]:
+    return _parsed(lambda text: between(name, number(text), least, most))
+
+
+def _parser() -> argparse.ArgumentParser:
+    raw = argparse.RawDescriptionHelpFormatter
+    parser = argparse.ArgumentParser("python3 -m tiedraw", description=ABOUT, epilog=ENDING, formatter_class=raw)
+    versions = f"binding {__version__}\nlibrary {library_version()}"
+    parser.add_argument("--version", action="version", version=versions, help="print binding and library version")
+    commands = parser.add_subparsers(metavar="COMMAND", required=True)
+
+    def command(run: Callable[[argparse.Namespace], Iterator[str]], about: str, *arguments: str) -> argparse.ArgumentParser:
+        added = commands.add_parser(run.__name__[1:], help=about, description=about)
+        added.set_defaults(run=run)
+        for name, parse in (("CARD", card_bytes), ("STATE", state_words)):
+            if name in arguments:
+                added.add_argument(name.lower(), metavar=name, type=_parsed(parse), help=parse.__doc__)
+        return added
+
+    command(_check, "prints `accepted`, or the card is refused by 1 to 9", "CARD")
+    command(_read, "prints the eight values of a card, or it is refused by 1 to 6", "CARD")
+    draw = command(_draw, "prints the word of each draw, then the state after the last", "CARD", "STATE")
+    draw.add_argument("--count", metavar="N", type=_parsed(number), default=1, help="so many draws (default 1)")
+    pick = command(_pick, "prints the shovel, the number of ties and the state after the pick", "CARD", "STATE")
+    pick.add_argument("times", metavar="SHOVEL=SECONDS", nargs="*", type=_parsed(shovel_time), help="a shovel and its time")
+    _new_options(command(_new, "prints a new card in hex, and its values as comments: a file for @FILE"))
+    return parser
+
+
+def _new_options(new: argparse.ArgumentParser) -> None:
+    for name, least, most, default, about in [
+        ("words", FEWEST_WORDS, MOST_WORDS, MOST_WORDS, "words of a state"),
+        ("width", NARROWEST, WIDEST, WIDEST, "bits of a word"),
+        ("filter", 1, 2, 1, "filter"),
+    ]:
+        told = f"{about}, {least} to {most} (default {default})"
+        new.add_argument(f"--{name}", metavar="N", type=_range(name, least, most), default=default, help=told)
+    new.add_argument("--seed", metavar="TEXT", help="the same card for the same text; else one by the system's randomness")
+
+
+def main(arguments: list[str] | None = None) -> int:
+    parser = _parser()
+    options = parser.parse_args(arguments)
+    try:
+        for line in options.run(options):
+            print(line)
+        sys.stdout.flush()
+    except Refused as refused:
+        print(refused, file=sys.stderr)
+        return 1
+    except ValueError as error:
+        parser.error(str(error))
+    except BrokenPipeError:  # whoever reads has had enough
+        os.dup2(os.open(os.devnull, os.O_WRONLY), sys.stdout.fileno())
+    return 0
+
+
+if __name__ == "__main__":
+    sys.exit(main())

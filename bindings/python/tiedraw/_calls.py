@@ -1,0 +1,75 @@
+"""The library's calls as functions. The state is a row of words; the one after the call is returned."""
+
+from __future__ import annotations
+
+from ctypes import c_uint8, c_uint16, c_uint32
+from typing import Any, Callable
+
+from . import _library
+from ._library import MOST_CARD_BYTES
+from ._numbers import Numbers, row, seconds_row, whole
+from ._refusal import unless_refused
+from ._values import Choice, Values
+
+
+def check(card: Numbers) -> None:
+    """Accepts a card, or refuses it by 1 to 9."""
+    unless_refused(_library.check(*row(c_uint8, "card", card)))
+
+
+def read(card: Numbers) -> Values:
+    """The eight values of a card, given or absent, or refusal 1 to 6. A card that is read may still be refused by 7 to 9."""
+    answer = _library.read(*row(c_uint8, "card", card))
+    unless_refused(answer.refusal)
+    found = {name: getattr(answer.card, name) for name in Values._fields}
+    found["table"] = tuple(found["table"][: 1 << answer.card.words])
+    return Values(**found)
+
+
+def _on_state(call: Callable[..., Any], card: Numbers, state: Numbers, *more: Any) -> tuple[Any, tuple[int, ...]]:
+    """A call on a card and a copy of the state: its answer, and the state after it."""
+    lent = row(c_uint8, "card", card)
+    words, count = row(c_uint32, "state", state)
+    answer = call(*lent, words, count, *more)
+    unless_refused(answer if isinstance(answer, int) else answer.refusal)
+    return answer, tuple(words)
+
+
+def step(card: Numbers, state: Numbers) -> tuple[int, ...]:
+    """The state one step on."""
+    return _on_state(_library.step, card, state)[1]
+
+
+def step_back(card: Numbers, state: Numbers) -> tuple[int, ...]:
+    """The one state whose step this is."""
+    return _on_state(_library.step_back, card, state)[1]
+
+
+def draw(card: Numbers, state: Numbers) -> tuple[int, tuple[int, ...]]:
+    """The word of a step, and the state after it."""
+    answer, after = _on_state(_library.draw, card, state)
+    return answer.word, after
+
+
+def pick(card: Numbers, state: Numbers, shovels: Numbers, times: Numbers) -> tuple[Choice, tuple[int, ...]]:
+    """The chosen shovel and the number of ties, and the state after the pick."""
+    lists = (*row(c_uint16, "shovels", shovels), *seconds_row(times))
+    answer, after = _on_state(_library.pick, card, state, *lists)
+    return Choice(answer.shovel, answer.ties), after
+
+
+def _arguments(name: str, value: Any) -> tuple[Any, ...]:
+    """What C is handed of one value of a card."""
+    if name == "table":
+        return row(c_uint8, name, value)
+    return (whole(name, value, 32 if name == "constant" else 8),)
+
+
+def write(values: Values, room: int = MOST_CARD_BYTES) -> bytes:
+    """The bytes of the card of these values, on a page with so much room."""
+    arguments = [argument for name, value in values._asdict().items() for argument in _arguments(name, value)]
+    length = min(whole("room", room, 64), MOST_CARD_BYTES)  # no card needs more
+    page = (c_uint8 * length)()
+    answer = _library.write(*arguments, page, length)
+    unless_refused(answer.refusal)
+    return bytes(page[: answer.length])

@@ -1,0 +1,93 @@
+"""A card and a state that are known to be sound."""
+
+from __future__ import annotations
+
+from ctypes import byref, c_size_t, c_uint8, c_uint16, c_uint32
+from functools import partial
+from threading import RLock
+from typing import Any
+
+from ._calls import step
+from ._library import Chosen, Word, call
+from ._numbers import Numbers, Times, row, shovels_and_times
+from ._refusal import unless_refused
+from ._values import Choice
+
+# With their arguments made once, as ctypes objects, the calls have nothing left to convert.
+_step = call("tiedraw_step", c_uint8)
+_step_back = call("tiedraw_step_back", c_uint8)
+_draw = call("tiedraw_draw", Word)
+_pick = call("tiedraw_pick", Chosen)
+
+
+class Generator:
+    """An accepted card and a state of its size; anything else raises Refused when it is made.
+
+    Threads may share one: draws come one after the other, and no lot is drawn twice or lost. Two are equal where card
+    and state are. A copy, also by pickle, goes on from the same state by itself.
+    """
+
+    __slots__ = ("_card", "_state", "_lock", "_step", "_step_back", "_draw", "_pick", "__weakref__")
+
+    def __init__(self, card: Numbers, state: Numbers):
+        self._card, size = row(c_uint8, "card", card)
+        self._state, words = row(c_uint32, "state", state)
+        step(bytes(self._card), tuple(self._state))
+        self._lock = RLock()  # one that a signal handler may take again
+        lent = (byref(self._card), c_size_t(size), byref(self._state), c_size_t(words))
+        self._step = partial(_step, *lent)
+        self._step_back = partial(_step_back, *lent)
+        self._draw = partial(_draw, *lent)
+        self._pick = partial(_pick, *lent)
+
+    @property
+    def card(self) -> bytes:
+        return bytes(self._card)
+
+    @property
+    def state(self) -> tuple[int, ...]:
+        with self._lock:
+            return tuple(self._state)
+
+    def step(self) -> None:
+        with self._lock:
+            refusal = self._step()
+        unless_refused(refusal)
+
+    def step_back(self) -> None:
+        with self._lock:
+            refusal = self._step_back()
+        unless_refused(refusal)
+
+    def draw(self) -> int:
+        """One step, and its word."""
+        with self._lock:
+            answer: Word = self._draw()
+        if answer.refusal:
+            unless_refused(answer.refusal)
+        return answer.word
+
+    def pick(self, times: Times) -> Choice:
+        """The shovel of least time, from {shovel: time} or pairs (shovel, time); ties are broken by a draw.
+
+        An error names a time by what is written to get it: times[7] of a mapping, times[0][1] of pairs. A number that
+        stands twice among pairs is refused by 15.
+        """
+        shovels, seconds = shovels_and_times(times)
+        count = len(shovels)
+        lists = ((c_uint16 * count)(*shovels), c_size_t(count), (c_uint32 * count)(*seconds), c_size_t(count))
+        with self._lock:
+            answer: Chosen = self._pick(*lists)
+        unless_refused(answer.refusal)
+        return Choice(answer.shovel, answer.ties)
+
+    def __eq__(self, other: object) -> bool:
+        if not isinstance(other, Generator):
+            return NotImplemented
+        return self.card == other.card and self.state == other.state
+
+    def __repr__(self) -> str:
+        return f"{type(self).__name__}(bytes.fromhex('{self.card.hex(' ')}'), {self.state})"
+
+    def __reduce__(self) -> tuple[Any, ...]:
+        return type(self), (self.card, self.state)

@@ -1,0 +1,94 @@
+"""The calls of include/tiedraw.h with their C types."""
+
+from __future__ import annotations
+
+import ctypes
+from ctypes import POINTER, c_size_t, c_uint8, c_uint16, c_uint32
+from typing import Any, Callable
+
+from ._load import load
+from ._version import __version__
+
+LIBRARY, VERSION = load()
+
+MOST_WORDS = 4
+MOST_SHOVELS = 64
+MOST_CARD_BYTES = 26
+
+
+class Card(ctypes.Structure):
+    _fields_ = [
+        ("words", c_uint8),
+        ("width", c_uint8),
+        ("odd_power", c_uint8),
+        ("even_power", c_uint8),
+        ("filter", c_uint8),
+        ("sum_term", c_uint8),
+        ("constant", c_uint32),
+        ("table", c_uint8 * (1 << MOST_WORDS)),
+    ]
+    words: int
+    width: int
+    odd_power: int
+    even_power: int
+    filter: int
+    sum_term: int
+    constant: int
+    table: ctypes.Array[c_uint8]
+
+
+class Reading(ctypes.Structure):
+    _fields_ = [("card", Card), ("refusal", c_uint8)]
+    card: Card
+    refusal: int
+
+
+class Word(ctypes.Structure):
+    _fields_ = [("word", c_uint32), ("refusal", c_uint8)]
+    word: int
+    refusal: int
+
+
+class Chosen(ctypes.Structure):
+    _fields_ = [("shovel", c_uint16), ("ties", c_uint8), ("refusal", c_uint8)]
+    shovel: int
+    ties: int
+    refusal: int
+
+
+class Written(ctypes.Structure):
+    _fields_ = [("length", c_size_t), ("refusal", c_uint8)]
+    length: int
+    refusal: int
+
+
+def library_version() -> str:
+    """The version of the library that is loaded."""
+    return VERSION
+
+
+def call(name: str, answer: Any, parameters: list[Any] | None = None) -> Callable[..., Any]:
+    """A call of the library. Without parameters, whoever calls it hands over ctypes objects of the right types."""
+    try:
+        found = LIBRARY[name]
+    except AttributeError:
+        raise ImportError(f"{LIBRARY._name} has no {name}, which binding {__version__} needs") from None
+    found.restype = answer
+    if parameters is not None:
+        found.argtypes = parameters
+    return found
+
+
+_BYTES = [POINTER(c_uint8), c_size_t]
+_ON_STATE = [*_BYTES, POINTER(c_uint32), c_size_t]
+_LISTS = [POINTER(c_uint16), c_size_t, POINTER(c_uint32), c_size_t]
+
+check: Callable[..., int] = call("tiedraw_check", c_uint8, _BYTES)
+read: Callable[..., Reading] = call("tiedraw_read", Reading, _BYTES)
+step: Callable[..., int] = call("tiedraw_step", c_uint8, _ON_STATE)
+step_back: Callable[..., int] = call("tiedraw_step_back", c_uint8, _ON_STATE)
+draw: Callable[..., Word] = call("tiedraw_draw", Word, _ON_STATE)
+pick: Callable[..., Chosen] = call("tiedraw_pick", Chosen, _ON_STATE + _LISTS)
+write: Callable[..., Written] = call(
+    "tiedraw_write", Written, [c_uint8, c_uint8, *_BYTES, c_uint8, c_uint8, c_uint32, c_uint8, c_uint8, *_BYTES]
+)
