@@ -74,7 +74,8 @@ class Bounds(unittest.TestCase):
         self.same(tiedraw.MOST_CARD_BYTES, re.findall(r"\nmostCardBytes = (\d+)\n", text("crates/card_format/specs/Fields.antt")))
 
     def test_rust(self):
-        self.same(tiedraw.MOST_CARD_BYTES, re.findall(r"pub const MOST_CARD_BYTES: usize = (\d+);", rust()))
+        for name in ["MOST_WORDS", "MOST_SHOVELS", "MOST_CARD_BYTES"]:
+            self.same(getattr(tiedraw, name), re.findall(rf"pub const {name}: usize = (\d+);", rust()))
 
 
 class Cards(unittest.TestCase):
