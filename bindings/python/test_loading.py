@@ -8,13 +8,24 @@ import sys
 import tempfile
 import unittest
 
-from tiedraw import _library, _load
+from tiedraw import __version__, _library, _load
 
 PACKAGE = pathlib.Path(_load.__file__).resolve().parent
 REAL = os.path.realpath(_library.LIBRARY._name)
-SONAME = "libtiedraw.so.0.2"
+SONAME = _load.SONAME
+MAJOR, MINOR, _ = map(int, __version__.split("."))
 TELL = "import tiedraw; print(tiedraw.library_version())"
 CALLS = ["check", "read", "step", "step_back", "draw", "pick", "write"]
+
+
+def patched(patch):
+    """A version that belongs to this binding."""
+    return f"{MAJOR}.{MINOR}.{patch}"
+
+
+def number_of(version):
+    major, minor, patch = map(int, version.split("."))
+    return major * 1000000 + minor * 1000 + patch
 
 
 class Loading(unittest.TestCase):
@@ -26,11 +37,11 @@ class Loading(unittest.TestCase):
         self.site = self.root / "bindings" / "python"
         shutil.copytree(PACKAGE, self.site / "tiedraw", ignore=shutil.ignore_patterns("__pycache__", "*.so*"))
 
-    def made_up(self, file, number, calls=CALLS):
+    def made_up(self, file, version, calls=CALLS):
         """A library that tells this version, or none, and refuses all cards by 29."""
         file.parent.mkdir(parents=True, exist_ok=True)
         source = self.folder / "made_up.c"
-        told = [] if number is None else [f"unsigned tiedraw_version(void) {{ return {number}; }}"]
+        told = [f"unsigned tiedraw_version(void) {{ return {number_of(version)}; }}"] if version else []
         source.write_text("\n".join(told + [f"unsigned char tiedraw_{call}(void) {{ return 29; }}" for call in calls]))
         subprocess.run(["gcc", "-shared", "-fPIC", str(source), "-o", str(file)], check=True)
         return str(file)
@@ -61,24 +72,24 @@ class Finding(Loading):
         beside, built, system = self.site / "tiedraw", self.root / "target" / "lib", self.folder / "system"
         (self.root / "include").mkdir()
         (self.root / "include" / "tiedraw.h").touch()
-        named = self.made_up(self.folder / "named.so", 2001)
+        named = self.made_up(self.folder / "named.so", patched(1))
         places = [beside / SONAME, beside / "libtiedraw.so", built / SONAME, built / "libtiedraw.so", system / SONAME]
-        for number, place in enumerate(places, 2002):
-            self.made_up(place, number)
-        self.loads("0.2.1", TIEDRAW_LIBRARY=named, LD_LIBRARY_PATH=str(system))
-        for number, place in enumerate(places, 2):
-            self.loads(f"0.2.{number}", LD_LIBRARY_PATH=str(system), TIEDRAW_LIBRARY="")
+        for patch, place in enumerate(places, 2):
+            self.made_up(place, patched(patch))
+        self.loads(patched(1), TIEDRAW_LIBRARY=named, LD_LIBRARY_PATH=str(system))
+        for patch, place in enumerate(places, 2):
+            self.loads(patched(patch), LD_LIBRARY_PATH=str(system), TIEDRAW_LIBRARY="")
             place.unlink()
         self.fails("is not found", "TIEDRAW_LIBRARY: not set", *map(str, places[:4]), f"{SONAME}, by the system")
 
     def test_a_named_file_is_the_only_one(self):
-        self.made_up(self.site / "tiedraw" / SONAME, 2000)
+        self.made_up(self.site / "tiedraw" / SONAME, patched(0))
         self.fails("TIEDRAW_LIBRARY names none.so, which can't be loaded", "No such file", TIEDRAW_LIBRARY="none.so")
         text = self.folder / "text.so"
         text.write_text("no library")
         self.fails(f"TIEDRAW_LIBRARY names {text}", "file too short", TIEDRAW_LIBRARY=str(text))
-        self.made_up(self.folder / "here.so", 2009)
-        self.loads("0.2.9", TIEDRAW_LIBRARY="here.so")
+        self.made_up(self.folder / "here.so", patched(9))
+        self.loads(patched(9), TIEDRAW_LIBRARY="here.so")
 
     def test_a_file_that_is_found_and_broken_is_told(self):
         broken = self.site / "tiedraw" / SONAME
@@ -86,11 +97,11 @@ class Finding(Loading):
         self.fails(f"{broken} can't be loaded", "file too short")
 
     def test_a_folder_for_all_is_no_repository(self):
-        self.made_up(self.root / "target" / "lib" / SONAME, 2001)
+        self.made_up(self.root / "target" / "lib" / SONAME, patched(1))
         self.fails("is not found")
         (self.root / "include").mkdir()
         (self.root / "include" / "tiedraw.h").touch()
-        self.loads("0.2.1")
+        self.loads(patched(1))
         self.root.chmod(0o1777)
         self.fails("is not found")
 
@@ -108,23 +119,23 @@ class Finding(Loading):
 
 class Versions(Loading):
     def test_the_patch_may_differ(self):
-        self.loads("0.2.41", TIEDRAW_LIBRARY=self.made_up(self.folder / "patched.so", 2041))
+        self.loads(patched(41), TIEDRAW_LIBRARY=self.made_up(self.folder / "patched.so", patched(41)))
 
     def test_major_and_minor_may_not(self):
-        for number, version in [(3000, "0.3.0"), (1000, "0.1.0"), (1002000, "1.2.0"), (0, "0.0.0")]:
-            file = self.made_up(self.folder / f"{number}.so", number)
-            self.fails(f"library {version}, binding 0.2.0: they belong together where", file, TIEDRAW_LIBRARY=file)
+        for version in [f"{MAJOR}.{MINOR + 1}.0", f"{MAJOR}.{MINOR - 1}.0", f"{MAJOR + 1}.{MINOR}.0", "0.0.0"]:
+            file = self.made_up(self.folder / f"{version}.so", version)
+            self.fails(f"library {version}, binding {__version__}: they belong together where", file, TIEDRAW_LIBRARY=file)
 
     def test_a_library_without_a_version(self):
         file = self.made_up(self.folder / "old.so", None)
-        self.fails(f"{file} has no tiedraw_version: it is older than binding 0.2.0", TIEDRAW_LIBRARY=file)
+        self.fails(f"{file} has no tiedraw_version: it is older than binding {__version__}", TIEDRAW_LIBRARY=file)
 
     def test_a_library_without_a_call(self):
-        file = self.made_up(self.folder / "lacking.so", 2000, CALLS[:-1])
-        self.fails(f"{file} has no tiedraw_write, which binding 0.2.0 needs", TIEDRAW_LIBRARY=file)
+        file = self.made_up(self.folder / "lacking.so", patched(0), CALLS[:-1])
+        self.fails(f"{file} has no tiedraw_write, which binding {__version__} needs", TIEDRAW_LIBRARY=file)
 
     def test_an_unknown_refusal_is_no_crash(self):
-        file = self.made_up(self.folder / "later.so", 2000)
+        file = self.made_up(self.folder / "later.so", patched(0))
         program = """if True:
             import tiedraw
             try:
@@ -133,7 +144,7 @@ class Versions(Loading):
                 print(refused.number, refused.refusal, refused)
             """
         done = self.python(program, TIEDRAW_LIBRARY=file)
-        self.assertEqual((done.stdout, done.stderr), ("29 None refusal 29: unknown to this binding, version 0.2.0\n", ""))
+        self.assertEqual((done.stdout, done.stderr), (f"29 None refusal 29: unknown to this binding, version {__version__}\n", ""))
 
 
 if __name__ == "__main__":
