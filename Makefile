@@ -96,6 +96,7 @@ test: ## the gate: everything proved from nothing, must-fail edits tried, progra
 
 check: bindings example run-test install-test vectors ## all that is no proof: bindings, example, run-test, install-test, vectors, and difftest of 200,000
 	@$(MAKE) --no-print-directory difftest INPUTS=200000
+	@echo "check: everything passed"
 
 # what follows is run with the library just built
 bindings difftest bench: export TIEDRAW_LIB_DIR = $(CURDIR)/target/lib

@@ -2,7 +2,7 @@
 # The second program against what is stored, run at the top of the repository by `make vectors`. It must give the answers of cases/papers.txt; then it makes the
 # inputs and outputs that are stored beside the programs anew. Where a stored one differs this fails; with --store it puts the new one in its place.
 set -eu
-(cd reference && cargo test --release --quiet && cargo build --release --quiet)
+(cd reference && cargo test --release --quiet --lib && cargo build --release --quiet)
 store=${1:-}
 programs=reference/target/release
 fresh=target/vectors
