@@ -1,0 +1,46 @@
+"""What docs/OPERATING.md shows as measured: accepted cards whose lots are bad, and new ones whose lots are not bad in that way."""
+
+import collections
+import random
+import unittest
+
+from tiedraw import Generator, check, new_card
+
+SHORT = bytes.fromhex("b0 00 01 00 00 00 00")
+NARROW = bytes.fromhex("27 02 02 01 02 03 00 01 00 00 00")
+
+
+def lots(card, start, ties, count):
+    desk = Generator(card, start)
+    return [desk.draw() % ties for _ in range(count)]
+
+
+def repeats(row, period):
+    return row[period:] == row[:-period]
+
+
+class Measured(unittest.TestCase):
+    def test_an_accepted_card_whose_lots_repeat(self):
+        check(SHORT)
+        self.assertEqual("".join(map(str, lots(SHORT, [0] * 4, 2, 16))), "0101111000011010")
+        row = lots(SHORT, [0] * 4, 4, 100_000)
+        self.assertTrue(repeats(row, 256) and repeats([lot % 2 for lot in row], 16))
+
+    def test_they_do_so_from_most_starts(self):
+        chance = random.Random(1)
+        starts = [[chance.getrandbits(32) for _ in range(4)] for _ in range(100)]
+        self.assertGreater(sum(repeats(lots(SHORT, start, 2, 4_000), 16) for start in starts), 85)
+
+    def test_two_of_six_shovels_never_go(self):
+        desk = Generator(NARROW, [0, 0])
+        went = collections.Counter(desk.pick({shovel: 300 for shovel in range(11, 17)}).shovel for _ in range(1_600))
+        self.assertEqual(went, {11: 400, 12: 400, 13: 400, 14: 400})
+
+    def test_new_cards_do_not_repeat_so(self):
+        for seed in range(20):
+            row = lots(new_card(seed=f"pit {seed}"), [0] * 4, 2, 4_000)
+            self.assertFalse(any(repeats(row, period) for period in range(1, 2_000)))
+
+
+if __name__ == "__main__":
+    unittest.main()
