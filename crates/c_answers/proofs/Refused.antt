@@ -25,7 +25,7 @@ use Rattle.draws.proofs.Called.{drawing-refused}
 use Rattle.picks.specs.declared.Pick.{Pick}
 use Rattle.picks.specs.Picks.{pickRefusal, picking, picked}
 use Rattle.picks.proofs.Picking.{picking-refused}
-use Rattle.c_answers.specs.Answers.{drawn, choice, cardValues, cardReading, writtenLength, overlong, writtenFrom, pageFrom}
+use Rattle.c_answers.specs.Answers.{drawn, choice, cardValues, readCard, writtenLength, overlong, writtenFrom, pageFrom}
 
 -- what every answer is made by: a value with refusal 0 where none applies, else the refusal
 told : {A : Type 0} (refusal : A → ℕ) (r : ℕ) (value refused : A) → refusal value ≡ 0 → refusal refused ≡ r → refusal (cond (eqb r 0) value refused) ≡ r
@@ -61,12 +61,12 @@ module _ (bytes xs shovels times : List ℕ) where
       (ap (λ (p : Pick). choice p .shovel) (sym (p .0)), ap (λ (p : Pick). choice p .ties) (sym (p .0)), sym (p .1))
 
 module _ (bytes : List ℕ) where
-  pub read-told : cardReading (reading bytes) .refusal ≡ firstOf (formChecks bytes)
+  pub read-told : readCard bytes .refusal ≡ firstOf (formChecks bytes)
   unfolding reading
   read-told = refl
 
   -- every value is 0
-  pub read-refused : cardReading (reading bytes) .refusal ≢ 0 → cardReading (reading bytes) .card ≡ cardValues noCard
+  pub read-refused : readCard bytes .refusal ≢ 0 → readCard bytes .card ≡ cardValues noCard
   unfolding reading
   read-refused ne = ap (λ (r : Reading). cardValues (r .card)) (sym (answering-refused (cardOf bytes) _ ne))
 

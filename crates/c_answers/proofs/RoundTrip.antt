@@ -15,7 +15,7 @@ use Rattle.card_format.specs.declared.Reading.{Reading}
 use Rattle.card_format.proofs.Sound.{sound-fitting, value-words}
 use Rattle.card_format.proofs.Verdict.{words-sound}
 use Rattle.card_format.proofs.RoundTrip.{accepted-writing}
-use Rattle.c_answers.specs.Answers.{cardValues, cardReading, writtenLength, givenValues, writtenFrom, pageFrom}
+use Rattle.c_answers.specs.Answers.{cardValues, readCard, writtenLength, givenValues, writtenFrom, pageFrom}
 use Rattle.c_answers.proofs.Given.{fitting-written}
 
 module _ (bytes : List ℕ) (s : SoundForm bytes) where
@@ -49,7 +49,7 @@ module _ (bytes : List ℕ) (s : SoundForm bytes) where
 
 -- the length of the card, and its bytes at the front of the page
 pub read-written : (bytes page : List ℕ) → Bytes bytes → verdict bytes ≡ 0 → length bytes ≤ length page
-    → let card = givenValues (cardReading (reading bytes) .card) in
+    → let card = givenValues (readCard bytes .card) in
     (writtenFrom card (length page) ≡ record { length = length bytes; refusal = 0 }) × (pageFrom card page ≡ bytes ++ drop (length bytes) page)
 unfolding verdict reading
 read-written bytes page b z l =

@@ -10,7 +10,7 @@ use Rattle.card_format.specs.declared.Reading.{Reading}
 use Rattle.card_format.specs.declared.Written.{Written}
 use Rattle.card_format.specs.declared.Written.the-variants.{Length, Refused}
 use Rattle.refusals.specs.Refusals.{outOfRange}
-use Rattle.card_format.specs.Reading.{padded}
+use Rattle.card_format.specs.Reading.{padded, reading}
 use Rattle.card_format.specs.Writing.{writing, pageAfter}
 use Rattle.draws.specs.declared.Draw.{Draw}
 use Rattle.draws.specs.declared.Draw.the-variants as draw
@@ -53,6 +53,10 @@ cardValues card = record {
 -- the reader's answer
 abbrev pub cardReading : Reading → CardReading
 cardReading r = record { card = cardValues (r .card); refusal = r .refusal }
+
+-- and what it is to these bytes
+abbrev pub readCard : List ℕ → CardReading
+readCard bytes = cardReading (reading bytes)
 
 -- the writer's eight values, as C hands them over: a table shorter than the array counts as followed by zeros
 abbrev pub given : ℕ → ℕ → List ℕ → ℕ → ℕ → ℕ → ℕ → ℕ → Card

@@ -3,11 +3,11 @@ ghost use mathlib.Core.Path.{_≡_};
 ghost use Prim.Native.Nat.{_^_, _<_};
 ghost use lib.ListN.{length};
 ghost use Rattle.tsc.specs.Coverage.{IsState, stepBack};
-ghost use Rattle.card_format.specs.Reading.{cardOf, reading};
+ghost use Rattle.card_format.specs.Reading.{cardOf};
 ghost use Rattle.card_format.specs.Verdict.{verdict, ZeroIffCovers};
 ghost use Rattle.draws.specs.Calls.{refusalFor, stepped, steppedBack, drawing, OnlyBefore};
 ghost use Rattle.picks.specs.Picks.{picking, picked};
-ghost use Rattle.c_answers.specs.Answers.{drawn, choice, cardReading, given, writtenFrom, pageFrom};
+ghost use Rattle.c_answers.specs.Answers.{drawn, choice, readCard, given, writtenFrom, pageFrom};
 ghost use Rattle.c_answers.specs.Version.{versionNumber};
 use c_answers::CardReading;
 use c_answers::Choice;
@@ -49,7 +49,7 @@ pub extern "C" fn tiedraw_check(card: &[u8]) -> u8
 // The eight values of a card of sound form, or refusal 1 to 6 and zeros.
 #[no_mangle]
 pub extern "C" fn tiedraw_read(card: &[u8]) -> CardReading
-    ensures { λ r. ⌜ r ≡ cardReading (reading (now (card .entry))) ⌝ }
+    ensures { λ r. ⌜ r ≡ readCard (now (card .entry)) ⌝ }
 {
     answer::reading_of(read::read(card))
 }
