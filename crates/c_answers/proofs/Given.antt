@@ -28,12 +28,12 @@ module _ (card : Card) (page : List ℕ) where
   fitting-written e fits = rw (e, le-ltb (2 ^ mostWords) (length (card .table)) fits) (refl, refl)
 
 module _ (table : List ℕ) where
-  -- zeros make no table overlong that was not, and none shorter
+  -- zeros make no table shorter, and one that the array can hold fills it
   pub padded-long : 2 ^ mostWords < length table → 2 ^ mostWords < length (padded table)
   padded-long l = omega (arith, length-append table (replicate (2 ^ mostWords - length table) 0))
 
-  pub padded-fits : length table ≤ 2 ^ mostWords → length (padded table) ≤ 2 ^ mostWords
-  padded-fits l = omega (arith, length-append table (replicate (2 ^ mostWords - length table) 0), length-replicate {A = ℕ} (2 ^ mostWords - length table) 0)
+  pub padded-full : length table ≤ 2 ^ mostWords → length (padded table) ≡ 2 ^ mostWords
+  padded-full l = omega (arith, length-append table (replicate (2 ^ mostWords - length table) 0), length-replicate {A = ℕ} (2 ^ mostWords - length table) 0)
 
   -- a table filled from all the entries given
   pub filled-all : (filled : List ℕ) → filled ≡ padded (take (length table) table) → filled ≡ padded table

@@ -1,4 +1,4 @@
--- What the proofs of the calls rest on, and demand 1 as C sees it.
+-- What the proofs of the calls rest on, and demands 1 and 2 as C sees them.
 pub mod Given
 pub mod Refused
 pub mod RoundTrip

@@ -1,9 +1,9 @@
 -- Demand 2 at the C interface: an accepted card, read and then written, is the same bytes.
-use mathlib.Core.Path.{_≡_, refl, sym, ap, _∙_}
+use mathlib.Core.Path.{_≡_, sym, ap, _∙_}
 use mathlib.Core.List.{List, _++_, append-nil}
 use Prim.Native.Nat.{ℕ, _-_, _^_, _≤_}
 use native.Mathlib.Omega.{arith}
-use lib.ListN.{length, drop, replicate, length-append, length-replicate}
+use lib.ListN.{length, drop, replicate}
 use lib.Pow.{pow-mono}
 use Rattle.refusals.proofs.Refusals.{none-left, none-first, first-none}
 use Rattle.tsc.specs.declared.Card.{Card}
@@ -11,12 +11,11 @@ use Rattle.tsc.specs.Constants.{mostWords}
 use Rattle.card_format.specs.Fields.{Bytes, tableBit, field, fields}
 use Rattle.card_format.specs.Reading.{SoundForm, formChecks, values, value, wordsOf, padded, cardOf, reading}
 use Rattle.card_format.specs.Verdict.{verdict}
-use Rattle.card_format.specs.declared.Reading.{Reading}
 use Rattle.card_format.proofs.Sound.{sound-fitting, value-words}
 use Rattle.card_format.proofs.Verdict.{words-sound}
 use Rattle.card_format.proofs.RoundTrip.{accepted-writing}
 use Rattle.c_answers.specs.Answers.{cardValues, readCard, writtenLength, givenValues, writtenFrom, pageFrom}
-use Rattle.c_answers.proofs.Given.{fitting-written}
+use Rattle.c_answers.proofs.Given.{padded-full, fitting-written}
 
 module _ (bytes : List ℕ) (s : SoundForm bytes) where
   -- a card's table fills the array
@@ -27,7 +26,7 @@ module _ (bytes : List ℕ) (s : SoundForm bytes) where
       let c : length t ≡ 2 ^ wordsOf bytes = sound-fitting bytes s tableBit (omega arith) .count in
       let w : value bytes 0 ≤ mostWords = words-sound bytes s in
       let few : 2 ^ wordsOf bytes ≤ 2 ^ mostWords = pow-mono {j = mostWords} (omega (arith, value-words bytes, w)) in
-      omega (arith, length-append t (replicate (2 ^ mostWords - length t) 0), length-replicate {A = ℕ} (2 ^ mostWords - length t) 0, c, few)
+      padded-full t (omega (arith, c, few))
 
   -- so nothing is put behind it, and the values handed over are the card's own
   pub read-given : givenValues (cardValues (cardOf bytes)) ≡ cardOf bytes

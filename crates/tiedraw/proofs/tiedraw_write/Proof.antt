@@ -4,7 +4,7 @@ use Prim.Native.Nat.{ℕ}
 use native.Mathlib.Omega.{arith}
 use Rattle.tsc.specs.declared.Card.{Card}
 use Rattle.c_answers.specs.Answers.{writtenLength}
-use Rattle.c_answers.proofs.Given.{overlong-refused, fitting-written, padded-long, padded-fits, filled-all}
+use Rattle.c_answers.proofs.Given.{overlong-refused, fitting-written, padded-long, padded-full, filled-all}
 use borrow.Author.Needs.{needs}
 use Rattle.tiedraw.proofs.tiedraw_write.Statement.{statement}
 use Rattle.tiedraw.proofs.tiedraw_write.Tie as tie
@@ -47,7 +47,7 @@ returns-2 c =
     let s = filled .before .before .before .before in
     let table = s .args .table .now in
     let same = ap (card s) (filled-all table _ (filled .table-from .ensures)) in
-    let w = fitting-written _ (s .args .page .now) same (padded-fits table (omega (arith, filled .before .if1 .left))) in
+    let w = fitting-written _ (s .args .page .now) same (omega (arith, padded-full table (omega (arith, filled .before .if1 .left)))) in
     let answer = wrote .write .ensures in
     (c .length-of .ensures ∙ ap writtenLength (answer .0) ∙ w .0, answer .1 ∙ w .1)
 
