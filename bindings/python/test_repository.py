@@ -52,8 +52,8 @@ class Versions(unittest.TestCase):
     def test_the_version_is_the_same_everywhere(self):
         self.same("VERSION", r"^(.+)$")
         self.same("include/tiedraw.h", r"^#define TIEDRAW_VERSION_(?:MAJOR|MINOR|PATCH) (\d+)$")
-        self.same("crates/c_answers/specs/Version.antt", r"^version(?:Major|Minor|Patch) = (\d+)$")
-        self.same("crates/tiedraw/src/lib.rt", r"^const (?:MAJOR|MINOR|PATCH): u32 = (\d+);$")
+        self.same("crates/version/specs/Version.antt", r"^version(?:Major|Minor|Patch) = (\d+)$")
+        self.same("crates/version/src/lib.rt", r"^const (?:MAJOR|MINOR|PATCH): u32 = (\d+);$")
         self.same("bindings/rust/Cargo.toml", r'^version = "(.+)"$')
 
     def test_the_library_that_is_loaded_is_of_this_version(self):

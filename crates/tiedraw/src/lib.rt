@@ -8,7 +8,7 @@ ghost use Rattle.card_format.specs.Verdict.{verdict, ZeroIffCovers};
 ghost use Rattle.draws.specs.Calls.{refusalFor, stepped, steppedBack, drawing, OnlyBefore};
 ghost use Rattle.picks.specs.Picks.{picking, picked};
 ghost use Rattle.c_answers.specs.Answers.{drawn, choice, readCard, given, writtenFrom, pageFrom};
-ghost use Rattle.c_answers.specs.Version.{versionNumber};
+ghost use Rattle.version.specs.Version.{versionNumber};
 use c_answers::CardReading;
 use c_answers::Choice;
 use c_answers::DrawnWord;
@@ -22,19 +22,12 @@ use generator::call;
 use tsc::Card;
 use tsc::TABLE_SIZE;
 
-// The version, 0.2.0.
-const MAJOR: u32 = 0;
-
-const MINOR: u32 = 2;
-
-const PATCH: u32 = 0;
-
 // The version as one number.
 #[no_mangle]
 pub extern "C" fn tiedraw_version() -> u32
     ensures { λ r. ⌜ r ≡ versionNumber ⌝ }
 {
-    MAJOR * 1000000 + MINOR * 1000 + PATCH
+    version::number()
 }
 
 // 0 for an accepted card, or refusal 1 to 9. DEMAND 3, as of card::check.

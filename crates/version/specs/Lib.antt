@@ -1,0 +1,2 @@
+-- Definitions that the contract cites.
+pub mod Version
