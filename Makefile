@@ -1,6 +1,8 @@
 # Thin targets: `make help` lists them, README.md says what they are for.
 SHELL = /bin/bash
 .DEFAULT_GOAL = help
+# two checks at once would share target/
+.NOTPARALLEL:
 
 # the shared library's name has major and minor number: docs/DECISIONS.md, Versions
 VERSION := $(shell cat VERSION)
@@ -61,8 +63,8 @@ example: lib ## a server and its standby in C, run
 
 # ---- installing it
 
-PREFIX = /usr/local
-DESTDIR =
+PREFIX ?= /usr/local
+DESTDIR ?=
 ROOT = $(DESTDIR)$(PREFIX)
 DIST = tiedraw-$(VERSION)-linux-x86_64
 

@@ -2,6 +2,7 @@
 # The bytes of a card that is written as text: hex digits in any case, with or without blanks, and comments from # to the end of the line, as in cards/. For
 # `make run`: RUN_GIVEN says whether RUN_CARD has the text or RUN_FILE names a file with it, and document 01's card is taken where neither is given.
 set -eu
+export LC_ALL=C
 
 fail() {
     echo "$1" >&2
@@ -16,7 +17,8 @@ FILE) name="FILE=$RUN_FILE" ;;
 esac
 if [ "$name" != CARD ]; then
     [ -f "$RUN_FILE" ] && [ -r "$RUN_FILE" ] || fail "$name: no file that can be read"
-    text=$(tr -d '\0' < "$RUN_FILE")
+    cmp -s "$RUN_FILE" <(tr -d '\0' < "$RUN_FILE") || fail "$name: a zero byte in it, so it is no text"
+    text=$(< "$RUN_FILE")
 fi
 
 digits=$(sed 's/#.*//' <<< "$text" | tr -d '[:space:]')

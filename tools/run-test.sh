@@ -31,6 +31,8 @@ expect "CARD: '\$' is no hex digit" 1 "${run[@]}" CARD="\$(shell touch $work/run
 expect "CARD: '\`' is no hex digit" 1 "${run[@]}" CARD="\`touch $work/run\`"
 expect "CARD: an odd number of hex digits, and a byte has two" 1 "${run[@]}" CARD="080"
 expect "FILE=$work: no file that can be read" 1 "${run[@]}" FILE="$work"
+printf '\0' > "$work/raw"
+expect "FILE=$work/raw: a zero byte in it, so it is no text" 1 "${run[@]}" FILE="$work/raw"
 expect "CARD and FILE are both given: which card is meant?" 1 "${run[@]}" CARD=00 FILE=cards/p2.hex
 [ ! -e "$work/run" ] || { echo "run-test: something given was executed" >&2; failed=1; }
 [ "$failed" = 0 ] && echo "make run: cards in any layout, and nothing that is given is executed"
