@@ -1,4 +1,4 @@
--- The refusals (document 01, Refusal table): their numbers, each with its trade word, and which of several is told.
+-- The refusals (document 01, Refusal table; document 02 from 17 on): their numbers, each with its trade word, and which of several is told.
 use mathlib.Core.Path.{_≡_}
 use mathlib.Core.Bool.{Bool, false, cond}
 use mathlib.Core.List.{List, [], _∷_}
@@ -60,6 +60,9 @@ duplicateShovel = numbered 15 tt  -- twice
 
 abbrev pub bufferTooSmall : Refusal
 bufferTooSmall = numbered 16 tt  -- small page
+
+abbrev pub spanOutOfBounds : Refusal
+spanOutOfBounds = numbered 17 tt  -- span
 
 -- a refusal and whether its condition holds
 pub record Check : Type 0 where

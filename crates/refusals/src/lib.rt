@@ -1,4 +1,4 @@
-// The refusal numbers of document 01, each with its trade word. Which of several is told, and the laws of that, are in specs/ and proofs/.
+// The refusal numbers of documents 01 and 02, each with its trade word. Which of several is told, and the laws of that, are in specs/ and proofs/.
 
 // short
 pub const TRUNCATED: u8 = 1;
@@ -32,3 +32,5 @@ pub const TOO_MANY_SHOVELS: u8 = 14;
 pub const DUPLICATE_SHOVEL: u8 = 15;
 // small page
 pub const BUFFER_TOO_SMALL: u8 = 16;
+// span
+pub const SPAN_OUT_OF_BOUNDS: u8 = 17;

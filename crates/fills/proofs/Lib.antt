@@ -1,0 +1,2 @@
+-- What is proved of fills.
+pub mod Filling

@@ -1,0 +1,3 @@
+-- What a fill answers and leaves, and the same by single draws.
+pub mod Fills
+pub mod Draws

@@ -1,0 +1,2 @@
+-- Laws of spans.
+pub mod Span

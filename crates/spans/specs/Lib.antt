@@ -1,0 +1,2 @@
+-- Refusal 17.
+pub mod Span
