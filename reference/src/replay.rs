@@ -18,11 +18,11 @@
 //! All but `check` may answer `refused V` instead, with ` CHANGED` behind it if the lent state,
 //! strip or page isn't as it was. A page is lent with every byte a5 and shown whole.
 //!
-//! CARD is pairs of hex digits, at most 600 of them. STATE, STRIP, SHOVELS, TIMES and T are lists
-//! with commas: words of 32 bits in hex, twice; decimal numbers of 16, of 32 and of 8 bits. A list
-//! has at most 600 numbers, T at most 16, and its entries not given are 0. `-` is an empty string
-//! or list. C has 32 bits, in decimal or in hex after `0x`; the COUNT of `words` is at most 1024,
-//! PAGELEN at most 600; PLACE and COUNT of a strip have 32 bits, all other single numbers 8. Hex
+//! CARD is pairs of hex digits, at most 600 of them. Lists have commas: STATE and STRIP are words
+//! of 32 bits in hex; SHOVELS, TIMES and T decimal numbers of 16, of 32 and of 8 bits. A list has
+//! at most 600 numbers, T at most 16, and its entries not given are 0. `-` is an empty string or
+//! list. C has 32 bits, in decimal or in hex after `0x`; PLACE and COUNT of `strip` have 32 bits;
+//! COUNT of `words` is at most 1024, PAGELEN at most 600; all other single numbers have 8 bits. Hex
 //! digits may have either case, numbers leading zeros.
 
 use crate::fill::call_fill;
