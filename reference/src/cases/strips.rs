@@ -126,7 +126,7 @@ fn random_span(maker: &mut Maker, length: usize) -> (usize, usize) {
     (place, maker.below(length - place + 1))
 }
 
-/// The card P1, P2, the program's and the full one, then random cards, each with a random state.
+/// P1, P2, the program's card and the full one, then random cards, each with a random state.
 fn cards(maker: &mut Maker, random: usize) -> Vec<(Vec<u8>, Vec<u32>)> {
     let mut cards: Vec<Vec<u8>> = [TSC1, TSC2, PROGRAM, FULL].map(bytes).to_vec();
     for _ in 0..random {
