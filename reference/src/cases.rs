@@ -1,11 +1,13 @@
 //! Seeded cases for `replay`, always the same ones, in sections that each open with a comment.
 //!
 //! The walks (`step`, `back`, `draw`, `words`), the picks, the cards (`check`, `read`), the writer
-//! (`write`) and the form of a line have a module each. States that go on from case to case come
-//! from this crate's own calls.
+//! (`write`), the form of a line and the strips (`strip`) have a module each, in the order in which
+//! they came, so that earlier cases stay as they are. States that go on from case to case come from
+//! this crate's own calls.
 
 mod cards;
 mod picks;
+mod strips;
 mod syntax;
 mod walks;
 mod writes;
@@ -122,6 +124,7 @@ pub fn cases() -> Vec<u8> {
     cards::make(&mut maker);
     writes::make(&mut maker);
     syntax::make(&mut maker);
+    strips::make(&mut maker);
     maker.lines
 }
 
@@ -160,6 +163,7 @@ mod tests {
             ("back", state.clone()),
             ("draw", state.clone()),
             ("words", state),
+            ("strip", (1..=11).chain([17]).collect()),
             ("pick", (1..=15).collect()),
             ("write", vec![2, 6, 7, 8, 9, 16]),
         ] {
@@ -180,7 +184,7 @@ mod tests {
         assert!(rows.iter().all(|(_, answer)| !answer.contains("CHANGED")));
     }
 
-    /// As many as the programs had that these cases replace.
+    /// As many as the programs had that these cases replace; strips are new.
     #[test]
     fn enough_of_each() {
         let rows = answered();
@@ -208,8 +212,9 @@ mod tests {
         assert!(count("back", "state") >= 1_912);
         assert!(count("step", "state") >= 300 && count("draw", "word") >= 300);
         assert!(of_call(&rows, "pick").len() >= 4_496);
+        assert!(count("strip", "strip") >= 300 && count("strip", "refused 17") >= 100);
         assert!(rows.iter().filter(|row| row.1 == "syntax").count() >= 1_000);
-        assert!(cases().len() < 2_200_000);
+        assert!(cases().len() < 2_350_000);
     }
 
     /// The step of each state that a step back answers is the state that was given.

@@ -1,10 +1,12 @@
 //! A second, independent implementation of the generator, for comparison by running.
 //!
-//! Written from two papers alone: document 002 (Hong, Lee, Yeom and Han, "A New Class of Single
+//! Written from three papers alone: document 002 (Hong, Lee, Yeom and Han, "A New Class of Single
 //! Cycle T-functions") defines TSC-1 and TSC-2; document 01, the scope, widens the sizes and has
-//! the card and the refusal numbers. Kept plain: column by column, as document 002 (12) says.
+//! the card and the refusal numbers; document 02 has the requests after that. Kept plain: column
+//! by column, as document 002 (12) says.
 
 pub mod cases;
+pub mod fill;
 pub mod pick;
 pub mod replay;
 

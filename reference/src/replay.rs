@@ -11,18 +11,21 @@
 //! | `step CARD STATE`, `back CARD STATE` | `state w,..` |
 //! | `draw CARD STATE` | `word W state w,..` |
 //! | `words CARD STATE COUNT` | `words w,.. state w,..` |
+//! | `strip CARD STATE STRIP PLACE COUNT` | `strip w,.. state w,..`, the whole strip |
 //! | `pick CARD STATE SHOVELS TIMES` | `shovel S ties K state w,..` |
 //! | `write m n T a b C filter sum PAGELEN` | `length L page HEX` |
 //!
-//! All but `check` may answer `refused V` instead, with ` CHANGED` behind it if the lent state or
-//! page isn't as it was. A page is lent with every byte a5 and shown whole.
+//! All but `check` may answer `refused V` instead, with ` CHANGED` behind it if the lent state,
+//! strip or page isn't as it was. A page is lent with every byte a5 and shown whole.
 //!
-//! CARD is pairs of hex digits, at most 600 of them. STATE, SHOVELS, TIMES and T are lists with
-//! commas: words of 32 bits in hex; decimal numbers of 16, of 32 and of 8 bits. A list has at most
-//! 600 numbers, T at most 16, and its entries not given are 0. `-` is an empty string or list. C
-//! has 32 bits, in decimal or in hex after `0x`; COUNT is at most 1024, PAGELEN at most 600, all
-//! other single numbers have 8 bits. Hex digits may have either case, numbers leading zeros.
+//! CARD is pairs of hex digits, at most 600 of them. Lists have commas: STATE and STRIP are words
+//! of 32 bits in hex; SHOVELS, TIMES and T decimal numbers of 16, of 32 and of 8 bits. A list has
+//! at most 600 numbers, T at most 16, and its entries not given are 0. `-` is an empty string or
+//! list. C has 32 bits, in decimal or in hex after `0x`; PLACE and COUNT of `strip` have 32 bits;
+//! COUNT of `words` is at most 1024, PAGELEN at most 600; all other single numbers have 8 bits. Hex
+//! digits may have either case, numbers leading zeros.
 
+use crate::fill::call_fill;
 use crate::pick::call_pick;
 use crate::{
     accept_call, call_draw, call_step, call_step_back, call_write, check, read, Card, TABLE_ENTRIES,
@@ -71,6 +74,13 @@ fn replay(line: &[u8]) -> Option<String> {
         [b"back", c, s] => step_answer(call_step_back, &card(c)?, &state(s)?),
         [b"draw", c, s] => draw_answer(&card(c)?, &state(s)?),
         [b"words", c, s, count] => words_answer(&card(c)?, &state(s)?, limited(count, MOST_WORDS)?),
+        [b"strip", c, s, strip, place, count] => strip_answer(
+            &card(c)?,
+            &state(s)?,
+            &list(strip, 16, MOST_LISTED)?,
+            number::<u32>(place, 10)? as usize,
+            number::<u32>(count, 10)? as usize,
+        ),
         [b"pick", c, s, shovels, times] => pick_answer(
             &card(c)?,
             &state(s)?,
@@ -245,6 +255,15 @@ fn words_answer(card: &[u8], state: &[u32], count: usize) -> String {
     })
 }
 
+/// A fill. The strip is shown whole, also the words that are as lent.
+fn strip_answer(card: &[u8], state: &[u32], strip: &[u32], place: usize, count: usize) -> String {
+    let (mut lent_state, mut lent_strip) = (state.to_vec(), strip.to_vec());
+    match call_fill(card, &mut lent_state, &mut lent_strip, place, count) {
+        Ok(()) => format!("strip {} state {}", words(&lent_strip), words(&lent_state)),
+        Err(refusal) => refused(refusal, lent_strip == strip && lent_state == state),
+    }
+}
+
 fn pick_answer(card: &[u8], state: &[u32], shovels: &[u16], times: &[u32]) -> String {
     on_state(state, |lent| {
         let (shovel, ties) = call_pick(card, lent, shovels, times)?;
@@ -337,6 +356,28 @@ pick 00 0,0,0,0 7,7 1,2 = refused 15",
         assert_eq!(refused(11, false), "refused 11 CHANGED");
     }
 
+    /// Document 02, One: words of the printout of document 01 within the span, the others as lent.
+    #[test]
+    fn strips() {
+        assert_answers(
+            "\
+strip 00 0,0,0,0 1,ffffffff 1 1 = strip 00000001,0b857478 state ffffffff,12488421,edb77bde,edb77bde
+strip 2702020102030001000000 1,2 a,b,c,d,e 1 3 = strip 0000000a,00000000,00000003,00000002,0000000e state 00000002,00000000
+strip 2702020102030001000000 1,2 a,b 1 0 = strip 0000000a,0000000b state 00000001,00000002
+strip 2702020102030001000000 1,2 a,b 2 0 = strip 0000000a,0000000b state 00000001,00000002
+strip 2702020102030001000000 1,2 - 0 0 = strip - state 00000001,00000002
+strip 2702020102030001000000 1,2 - 0 1 = refused 17
+strip 2702020102030001000000 1,2 a,b 3 0 = refused 17
+strip 2702020102030001000000 1,2 a,b 1 2 = refused 17
+strip 2702020102030001000000 1,2 a,b 1 4294967295 = refused 17
+strip 2702020102030001000000 1,2 a,b 4294967295 1 = refused 17
+strip 0802 1,2,3 a,b 3 0 = refused 9
+strip 00 1,2,3 a,b 3 0 = refused 10
+strip 021d 0,0,0,20000000 a,b 3 0 = refused 11
+strip 021d 0,0,0,20000000 a,b 0 0 = refused 11",
+        );
+    }
+
     /// Pages, entries not given or not used, and the order of the writer's checks.
     #[test]
     fn writer() {
@@ -394,6 +435,7 @@ write 2 2 1,2,3,0 1 2 1 1 1 10 = refused 16",
     fn syntax_of_lines() {
         let lines = "|-| |check|check |check  00| check 00|check 00 |check 00 00|check 00\r|\
             Check 00|checks 00|00|check\t00|read|step 00|step 00 0 0|words 00 0,0,0,0|\
+            strip 00 0,0,0,0 - 0|strip 00 0,0,0,0 - 0 0 0|strip 00 0,0,0,0  0 0|\
             pick 00 0,0,0,0 1|pick 00 0,0,0,0 1 1 1|write 2 2 1,2,3,0 1 2 1 1 1|\
             write 2 2 1,2,3,0 1 2 1 1 1 12 0|chéck 00|check 00#";
         for line in lines.split('|') {
@@ -410,8 +452,10 @@ write 2 2 1,2,3,0 1 2 1 1 1 10 = refused 16",
     }
 
     /// Each decimal field, the largest number it takes, and whether it is a list.
-    const DECIMALS: [(&str, u64, bool); 12] = [
+    const DECIMALS: [(&str, u64, bool); 14] = [
         ("words 00 0,0,0,0 @", 1024, false),
+        ("strip 00 0,0,0,0 1 @ 1", 4294967295, false),
+        ("strip 00 0,0,0,0 1 0 @", 4294967295, false),
         ("pick 00 0,0,0,0 @ 1", 65535, true),
         ("pick 00 0,0,0,0 1 @", 4294967295, true),
         ("write @ 2 0 1 2 1 1 1 12", 255, false),
@@ -448,17 +492,15 @@ write 2 2 1,2,3,0 1 2 1 1 1 10 = refused 16",
     fn syntax_of_hex() {
         assert_syntax("check @", "- 00 aB Ab 0123456789abcdefABCDEF", false);
         assert_syntax("check @", "0 000 0x00 0g -- 00, 00,00 +0 00- é", true);
-        assert_syntax(
-            "draw 00 @",
-            "- 0 f,F,00 FFFFFFFF,ffffffff,0000000000000ffffffff",
-            false,
-        );
-        assert_syntax(
-            "draw 00 @",
-            "100000000 0,0,0,100000000 0,10000000000000000",
-            true,
-        );
-        assert_syntax("draw 00 @", "1, ,1 1,,1 1,- -- 0x1 +1 -1 g é", true);
+        for line in ["draw 00 @", "strip 00 0,0,0,0 @ 0 0"] {
+            assert_syntax(
+                line,
+                "- 0 f,F,00 FFFFFFFF,ffffffff,0000000000000ffffffff",
+                false,
+            );
+            assert_syntax(line, "100000000 0,0,0,100000000 0,10000000000000000", true);
+            assert_syntax(line, "1, ,1 1,,1 1,- -- 0x1 +1 -1 g é", true);
+        }
         let line = "write 2 2 0 1 2 @ 1 1 12";
         assert_syntax(
             line,
@@ -496,6 +538,8 @@ write 2 2 1,2,3,0 1 2 1 1 1 10 = refused 16",
                 format!("read {card}"),
                 format!("step {card} 0,0,0,0"),
                 format!("back 00 {list}"),
+                format!("strip 00 {list} - 0 0"),
+                format!("strip 00 0,0,0,0 {list} 0 0"),
                 format!("pick 00 0,0,0,0 {list} -"),
                 format!("pick 00 0,0,0,0 - {list}"),
             ] {

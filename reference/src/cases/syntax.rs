@@ -3,7 +3,7 @@
 use super::Maker;
 use crate::replay::commas;
 
-/// A legal line of each kind.
+/// A legal line of each kind; those of strips are in their own module.
 const SAMPLES: [&str; 8] = [
     "check 0803",
     "read 0803",
@@ -161,46 +161,47 @@ pub fn make(maker: &mut Maker) {
     }
     maker.section("form of a line: case of digits, leading zeros, the largest numbers");
     maker.line(EDGES);
-    blanks_and_counts(maker);
-    forms(maker);
+    maker.section("form of a line: blanks, and too few or too many fields");
+    for sample in SAMPLES {
+        blanks_and_counts(maker, sample);
+    }
+    maker.section("form of a line: each field in many forms");
+    for sample in SAMPLES {
+        forms(maker, sample);
+    }
     long_fields(maker);
 }
 
-fn blanks_and_counts(maker: &mut Maker) {
-    maker.section("form of a line: blanks, and too few or too many fields");
-    for sample in SAMPLES {
-        maker.line(sample);
-        maker.line(sample.to_uppercase());
-        for (front, back) in [(" ", ""), ("", " "), ("", "\r"), ("", "\t"), ("", "\0")] {
-            maker.line(format!("{front}{sample}{back}"));
-        }
-        for more in ["0", "-", "00"] {
-            maker.line(format!("{sample} {more}"));
-        }
-        let fields: Vec<&str> = sample.split(' ').collect();
-        for place in 0..fields.len() {
-            maker.line(fields[..place + 1].join(" "));
-            maker.line([&fields[..place], &fields[place + 1..]].concat().join(" "));
-            maker.line(
-                [&fields[..place], &[""], &fields[place..]]
-                    .concat()
-                    .join(" "),
-            );
-        }
+/// The sample with blanks and other bytes around it, with fields more and fields less.
+pub fn blanks_and_counts(maker: &mut Maker, sample: &str) {
+    maker.line(sample);
+    maker.line(sample.to_uppercase());
+    for (front, back) in [(" ", ""), ("", " "), ("", "\r"), ("", "\t"), ("", "\0")] {
+        maker.line(format!("{front}{sample}{back}"));
+    }
+    for more in ["0", "-", "00"] {
+        maker.line(format!("{sample} {more}"));
+    }
+    let fields: Vec<&str> = sample.split(' ').collect();
+    for place in 0..fields.len() {
+        maker.line(fields[..place + 1].join(" "));
+        maker.line([&fields[..place], &fields[place + 1..]].concat().join(" "));
+        maker.line(
+            [&fields[..place], &[""], &fields[place..]]
+                .concat()
+                .join(" "),
+        );
     }
 }
 
-/// Each sample with each form in place of each field.
-fn forms(maker: &mut Maker) {
-    maker.section("form of a line: each field in many forms");
-    for sample in SAMPLES {
-        let fields: Vec<&[u8]> = sample.split(' ').map(str::as_bytes).collect();
-        for place in 1..fields.len() {
-            for form in FORMS {
-                let mut changed = fields.clone();
-                changed[place] = form;
-                maker.line(changed.join(&b' '));
-            }
+/// The sample with each form in place of each field.
+pub fn forms(maker: &mut Maker, sample: &str) {
+    let fields: Vec<&[u8]> = sample.split(' ').map(str::as_bytes).collect();
+    for place in 1..fields.len() {
+        for form in FORMS {
+            let mut changed = fields.clone();
+            changed[place] = form;
+            maker.line(changed.join(&b' '));
         }
     }
 }
