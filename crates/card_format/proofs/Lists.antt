@@ -57,16 +57,23 @@ take-filled n i xs e = ap (λ (k : ℕ). take k (zeroFilled n xs)) (sym e) ∙ t
 pub part-rest : (a : ℕ) (l : List ℕ) → take (length l - a) (drop a l) ≡ drop a l
 part-rest a l = take-all (length l - a) (drop a l) (omega (arith, length-drop a l))
 
--- a page whose front is w, once the part after it has come back with f at its front
+-- a list whose part from a on has come back with f at its front
+pub put-part : (l f : List ℕ) (a : ℕ) → let part = take (length l - a) (drop a l) in
+    take a l ++ ((f ++ drop (length f) part) ++ drop (length l - a) (drop a l)) ≡ take a l ++ f ++ drop (a + length f) l
+put-part l f a =
+    ap (λ (r : List ℕ). take a l ++ r)
+    (ap₂ (λ (x y : List ℕ). (f ++ drop (length f) x) ++ y) (part-rest a l) (drop-of-length-le (drop a l) (le-of-eq (length-drop a l)))
+    ∙ append-nil _ ∙ ap (λ (r : List ℕ). f ++ r) (drop-drop (length f) a l))
+    ∙ sym (append-assoc (take a l) f _)
+
+-- the same of a page whose front is w
 pub put-next : (w d f : List ℕ) (at : ℕ) → length w ≡ at → let page = w ++ drop at d in let part = take (length page - at) (drop at page) in
     take at page ++ ((f ++ drop (length f) part) ++ drop (length page - at) (drop at page)) ≡ (w ++ f) ++ drop (at + length f) d
 put-next w d f at e =
     let page = w ++ drop at d in
-    let rest : drop at page ≡ drop at d = drop-at w (drop at d) at e in
-    ap₂ (λ (x y : List ℕ). x ++ y) (take-at w (drop at d) at e)
-    (ap₂ (λ (x y : List ℕ). (f ++ drop (length f) x) ++ y) (part-rest at page ∙ rest) (drop-of-length-le (drop at page) (le-of-eq (length-drop at page)))
-    ∙ append-nil _ ∙ ap (λ (r : List ℕ). f ++ r) (drop-drop (length f) at d))
-    ∙ sym (append-assoc w f _)
+    let rest = ap (drop (length f)) (drop-at w (drop at d) at e) in
+    put-part page f at
+    ∙ ap₂ (λ (x y : List ℕ). x ++ f ++ y) (take-at w (drop at d) at e) (sym (drop-drop (length f) at page) ∙ rest ∙ drop-drop (length f) at d)
 
 -- the first entry set
 pub set-first : (l : List ℕ) (x : ℕ) → 0 < length l → set l 0 x ≡ x ∷ drop 1 l

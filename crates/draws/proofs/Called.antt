@@ -22,8 +22,9 @@ use Rattle.card_format.proofs.Verdict.{accepted-card}
 use Rattle.draws.specs.declared.Opened.{Opened}
 use Rattle.draws.specs.declared.Draw.the-variants.{Word, Refused}
 use Rattle.stepping.specs.State.{used, Holds, holding}
+use Rattle.stepping.proofs.Holding.{held, holds}
 use Rattle.draws.specs.Calls.{refusalFor, unlessRefused, opening, stepped, steppedBack, OnlyBefore, drawing}
-use Rattle.draws.proofs.Opening.{Clear, passed, begun-refused, unless-refused, unless-passed, held, holds}
+use Rattle.draws.proofs.Opening.{Clear, passed, begun-refused, unless-refused, unless-passed}
 
 -- the step back of an accepted card is the one state before
 pub only-before : (card : Card) → Accepted card → (xs : List ℕ) → IsState card xs → OnlyBefore card (stepBack card xs) xs

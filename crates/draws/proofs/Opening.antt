@@ -9,18 +9,15 @@ use borrow.Author.Tests.{eq-eqb, ne-eqb, eqb-true, lt-ltb, ltb-true, not-false}
 use lib.Dec.{ltb}
 use lib.ListN.{length, getD}
 use Rattle.cycle.proofs.Every.{every-at, every-of}
-use Rattle.tsc.specs.declared.Card.{Card}
-use Rattle.tsc.specs.Constants.{mostWords}
 use Rattle.tsc.specs.Coverage.{IsState}
 use Rattle.refusals.specs.Refusals.{firstOf, NoneApplies}
 use Rattle.card_format.specs.Reading.{cardOf}
 use Rattle.card_format.specs.Verdict.{cardChecks, verdict}
 use Rattle.refusals.proofs.Refusals.{first-none, none-first, first-append, first-left, none-left, none-right}
 use Rattle.draws.specs.declared.Opened.{Opened}
-use Rattle.stepping.specs.State.{used, Holds, holding}
+use Rattle.stepping.specs.State.{holding}
 use Rattle.state_words.specs.Checks.{stateChecks}
 use Rattle.draws.specs.Calls.{refusalFor, unlessRefused, opened, refusedOpening, opening}
-use Rattle.card_format.proofs.Lists.{take-filled}
 
 -- what a call goes on with once nothing is refused: the values of the card and of the state
 pub record Clear (bytes xs : List ℕ) (o : Opened) : Type 0 where
@@ -90,10 +87,3 @@ module _ (bytes xs : List ℕ) where
 
   pub unless-passed : (ys : List ℕ) → refusalFor bytes xs ≡ 0 → ys ≡ unlessRefused bytes xs ys
   unless-passed ys z = simp (eq-eqb (refusalFor bytes xs) 0 z)
-
--- a state of the card's size by value
-pub held : (card : Card) (xs : List ℕ) → IsState card xs → used card (holding xs) ≡ xs
-held card xs sx = take-filled mostWords (card .words) xs (sx .0)
-
-pub holds : (card : Card) (xs : List ℕ) → IsState card xs → Holds card (holding xs)
-holds card xs sx = rw (held card xs sx) (sx, refl)

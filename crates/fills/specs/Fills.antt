@@ -1,13 +1,11 @@
 -- What a fill answers, and what the lent state words and the lent strip are after it (document 02, One), for any bytes, words, place and count.
 use mathlib.Core.Bool.{cond}
 use mathlib.Core.List.{List, _++_}
-use Prim.Native.Nat.{ℕ, suc, _+_}
+use Prim.Native.Nat.{ℕ, _+_}
 use lib.Dec.{eqb}
 use lib.ListN.{length, take, drop}
-use Rattle.cycle.specs.Notation.{tabulate}
-use Rattle.tsc.specs.declared.Card.{Card}
 use Rattle.tsc.specs.Step.{orbit}
-use Rattle.tsc.specs.Word.{word}
+use Rattle.tsc.specs.Word.{orbitWords}
 use Rattle.refusals.specs.Refusals.{Check, firstOf}
 use Rattle.card_format.specs.Reading.{cardOf}
 use Rattle.draws.specs.Calls.{callChecks}
@@ -20,10 +18,6 @@ fillChecks bytes xs strip place count = callChecks bytes xs ++ spanChecks (lengt
 -- the refusal that it tells; 0 where none applies
 unfoldable pub fillRefusal : List ℕ → List ℕ → List ℕ → ℕ → ℕ → ℕ
 fillRefusal bytes xs strip place count = firstOf (fillChecks bytes xs strip place count)
-
--- the words of states number 1 to count of the orbit
-unfoldable pub orbitWords : Card → List ℕ → ℕ → List ℕ
-orbitWords card xs count = tabulate count (λ t. word card (orbit card xs (suc t)))
 
 -- the strip after a fill: what stands before the place, the words, and what stands behind them; as lent where it refuses
 unfoldable pub filled : List ℕ → List ℕ → List ℕ → ℕ → ℕ → List ℕ

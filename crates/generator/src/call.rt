@@ -14,7 +14,7 @@ use card::check;
 use card_values::answer;
 use draws::Draw;
 use draws::Opened;
-use filters::filter;
+use outputs::next;
 use state_words::lent;
 use stepping::back;
 use stepping::step;
@@ -97,9 +97,9 @@ pub fn advance(card: Card, s: State, state: &mut [u32]) -> u32
     ensures { λ r. ⌜ r ≡ word card (step card (used card s)) ⌝ }
     ensures { λ _. ⌜ now (state .exit) ≡ step card (used card s) ⌝ }
 {
-    let after = step::next_state(card, step::forward(card), s);
-    lent::store(after, state);
-    filter::word_of(card, after)
+    let drawn = next::next_output(card, step::forward(card), s);
+    lent::store(drawn.state, state);
+    drawn.word
 }
 
 // One step of the state, and the word of the state that it comes to; or the refusal. A word is below 2^n.

@@ -1,5 +1,5 @@
 -- A state by value has the columns and the word of the words that it holds.
-use mathlib.Core.Path.{_≡_, ap, _∙_}
+use mathlib.Core.Path.{_≡_, refl, ap, _∙_}
 use mathlib.Core.List.{List}
 use Prim.Native.Nat.{ℕ, _-_, _^_, _≤_, _<_}
 use native.Mathlib.Nat.{le-refl}
@@ -8,15 +8,16 @@ use native.Mathlib.Omega.{arith}
 use lib.ListN.{length, getD, replicate, length-append, length-replicate, List·getD-eq-default}
 use lib.Pow.{pow-pos}
 use lib.Seq.{take-all}
-use Rattle.card_format.proofs.Lists.{getD-filled, over, over-zeros}
+use Rattle.card_format.proofs.Lists.{getD-filled, over, over-zeros, take-filled}
 use Rattle.cycle.specs.Notation.{zeroFilled}
 use Rattle.tsc.specs.declared.Card.{Card}
 use Rattle.tsc.specs.Constants.{mostWords}
 use Rattle.tsc.specs.Columns.{InRange, column}
+use Rattle.tsc.specs.Coverage.{IsState}
 use Rattle.tsc.specs.Word.{word}
 use Rattle.tsc.proofs.LowWords.{column-filled}
 use Rattle.tsc.proofs.Word.{word-ext}
-use Rattle.stepping.specs.State.{holding}
+use Rattle.stepping.specs.State.{used, Holds, holding}
 
 pub length-holding : (xs : List ℕ) → length xs ≤ mostWords → length (holding xs .words) ≡ mostWords
 length-holding xs h =
@@ -39,3 +40,10 @@ holding-lt m n xs h k = rw (getD-filled xs (mostWords - length xs) k 0) (go (dec
 -- zeros overwritten by words
 pub over-holding : (xs : List ℕ) → over xs (replicate mostWords 0) (length xs) ≡ holding xs .words
 over-holding xs = over-zeros xs mostWords (length xs) (le-refl (length xs)) ∙ ap (zeroFilled mostWords) (take-all (length xs) xs (le-refl (length xs)))
+
+-- a state of the card's size by value
+pub held : (card : Card) (xs : List ℕ) → IsState card xs → used card (holding xs) ≡ xs
+held card xs sx = take-filled mostWords (card .words) xs (sx .0)
+
+pub holds : (card : Card) (xs : List ℕ) → IsState card xs → Holds card (holding xs)
+holds card xs sx = rw (held card xs sx) (sx, refl)

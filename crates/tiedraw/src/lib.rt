@@ -6,6 +6,7 @@ ghost use Rattle.tsc.specs.Coverage.{IsState, stepBack};
 ghost use Rattle.card_format.specs.Reading.{cardOf};
 ghost use Rattle.card_format.specs.Verdict.{verdict, ZeroIffCovers};
 ghost use Rattle.draws.specs.Calls.{refusalFor, stepped, steppedBack, drawing, OnlyBefore};
+ghost use Rattle.fills.specs.Fills.{fillRefusal, filled, filledState};
 ghost use Rattle.picks.specs.Picks.{picking, picked};
 ghost use Rattle.c_answers.specs.Answers.{drawn, choice, readCard, given, writtenFrom, pageFrom};
 ghost use Rattle.version.specs.Version.{versionNumber};
@@ -75,6 +76,22 @@ pub extern "C" fn tiedraw_draw(card: &[u8], state: &mut [u32]) -> DrawnWord
     ensures narrow { λ r. ⌜ r .word < 2 ^ cardOf (now (card .entry)) .width ⌝ }
 {
     answer::word_of(call::draw(card, state))
+}
+
+// 0 and as many words in the strip from the place on as single draws would give, with the state moved as they would move it; or refusal 1 to 11 or 17.
+#[no_mangle]
+pub extern "C" fn tiedraw_fill(
+    card: &[u8],
+    state: &mut [u32],
+    strip: &mut [u32],
+    place: usize,
+    count: usize,
+) -> u8
+    ensures answer { λ r. ⌜ r ≡ fillRefusal (now (card .entry)) (now (state .entry)) (now (strip .entry)) place count ⌝ }
+    ensures words { λ r. ⌜ now (strip .exit) ≡ filled (now (card .entry)) (now (state .entry)) (now (strip .entry)) place count ⌝ }
+    ensures after { λ r. ⌜ now (state .exit) ≡ filledState (now (card .entry)) (now (state .entry)) (now (strip .entry)) place count ⌝ }
+{
+    fill::call::fill(card, state, strip, place, count)
 }
 
 // The chosen shovel and the number of ties, or refusal 1 to 15.

@@ -2,18 +2,20 @@
 use mathlib.Core.Path.{_≡_, sym, ap, ap₂, _∙_, subst, fun-ext}
 use mathlib.Core.Bool.{Bool, true, false, cond}
 use mathlib.Core.List.{List}
-use Prim.Native.Nat.{ℕ, _+_, _-_, _*_, _/_, _%_, _^_, _<_}
+use Prim.Native.Nat.{ℕ, suc, _+_, _-_, _*_, _/_, _%_, _^_, _<_}
 use native.Mathlib.Nat.{add-comm, add-zero, mul-mod-left, mod-lt, mod-eq-of-lt, add-mod-mod, add-mod-right}
 use native.Mathlib.Decide.{decLt}
 use native.Mathlib.Omega.{arith}
 use lib.Arith.{digits-lt}
 use lib.Dec.{eqb}
-use lib.ListN.{getD}
+use lib.ListN.{length, getD}
 use lib.Pow.{pow-pos, pow-add, shl-shr, shr-shr, shr-lt, mod-pow-add, high, low}
 use Rattle.cycle.specs.Notation.{bit}
 use Rattle.cycle.proofs.Bits.{bit-mod}
+use Rattle.cycle.proofs.Digits.{length-tabulate, getD-tabulate}
 use Rattle.tsc.specs.declared.Card.{Card}
-use Rattle.tsc.specs.Word.{_⊞_, _⋘_, filter1, filter2, word}
+use Rattle.tsc.specs.Step.{orbit}
+use Rattle.tsc.specs.Word.{_⊞_, _⋘_, filter1, filter2, word, orbitWords}
 
 module _ (n x k : ℕ) (pos : 0 < n) (lx : x < 2 ^ n) where
   -- r places to the left, d places to the right
@@ -78,3 +80,14 @@ word-lt card xs = go (eqb (card .filter) 2)
 pub word-ext : (card : Card) (xs ys : List ℕ) → ((k : ℕ) → getD xs k 0 ≡ getD ys k 0) → word card xs ≡ word card ys
 unfolding word
 word-ext card xs ys h = ap (λ (x : ℕ → ℕ). cond (eqb (card .filter) 2) (filter2 (card .width) x) (filter1 (card .width) x)) (fun-ext h)
+
+-- ---- the words of the orbit
+
+module _ (card : Card) (xs : List ℕ) (count : ℕ) where
+  pub length-orbitWords : length (orbitWords card xs count) ≡ count
+  unfolding orbitWords
+  length-orbitWords = length-tabulate count _
+
+  pub orbitWords-at : (t : ℕ) → t < count → getD (orbitWords card xs count) t 0 ≡ word card (orbit card xs (suc t))
+  unfolding orbitWords
+  orbitWords-at t l = getD-tabulate count _ t l

@@ -1,10 +1,12 @@
 -- The output word of a state: filters 1 and 2 (document 002, 15 and 20), within n bits as document 01 says.
 use mathlib.Core.Bool.{cond}
 use mathlib.Core.List.{List}
-use Prim.Native.Nat.{ℕ, _+_, _-_, _*_, _/_, _%_, _^_}
+use Prim.Native.Nat.{ℕ, suc, _+_, _-_, _*_, _/_, _%_, _^_}
 use lib.Dec.{eqb}
 use lib.ListN.{getD}
+use Rattle.cycle.specs.Notation.{tabulate}
 use Rattle.tsc.specs.declared.Card.{Card}
+use Rattle.tsc.specs.Step.{orbit}
 
 module _ (n : ℕ) where
   infixl 65 _⊞_
@@ -30,3 +32,7 @@ unfoldable pub word : Card → List ℕ → ℕ
 word card xs =
     let x : ℕ → ℕ = λ k. getD xs k 0 in
     cond (eqb (card .filter) 2) (filter2 (card .width) x) (filter1 (card .width) x)
+
+-- the words of states number 1 to count of the orbit: what so many draws give
+unfoldable pub orbitWords : Card → List ℕ → ℕ → List ℕ
+orbitWords card xs count = tabulate count (λ t. word card (orbit card xs (suc t)))

@@ -1,0 +1,2 @@
+-- Laws of rows of words.
+pub mod Written
