@@ -6,14 +6,14 @@
  *
  * First what the caller answers for, since C can't check it. An array is a pointer and a count of entries; null
  * goes with a count of 0 alone. Each array has as many entries as its count says, is aligned for its type, stays
- * valid and is written by nobody else until the call returns; and `state` and `page` overlap no other array of the
- * call. A null pointer with a count that is not 0, or a count that is too large, is the caller's fault: the call
- * then reads or writes what it was not lent.
+ * valid and is written by nobody else until the call returns; and `state`, `strip` and `page` overlap no other array
+ * of the call. A null pointer with a count that is not 0, or a count that is too large, is the caller's fault: the
+ * call then reads or writes what it was not lent.
  *
  * Given that, whatever bytes and numbers are handed over, a call returns with an answer, or with the refusal number
  * of the first check that applies. A card's fields are checked in turn, each by 1, 2, 3, and 4 at the table's place;
- * then come 5 to 16 in order. A refusal changes nothing: state and page are as they were lent, and the other fields
- * of the answer are 0.
+ * then come 5 to 17 in order. A refusal changes nothing: state, strip and page are as they were lent, and the other
+ * fields of the answer are 0.
  *
  * Calls keep nothing, allocate nothing and use no global data, so that any number of threads may call at once, each
  * on a state of its own. The library needs memcpy and memset of the C library, and nothing else. It is compiled for
@@ -33,7 +33,7 @@ extern "C" {
    tiedraw_version() / 1000 is TIEDRAW_VERSION_NUMBER / 1000; the shared library's name ends in those two numbers. */
 #define TIEDRAW_VERSION_MAJOR 0
 #define TIEDRAW_VERSION_MINOR 2
-#define TIEDRAW_VERSION_PATCH 0
+#define TIEDRAW_VERSION_PATCH 1
 #define TIEDRAW_VERSION_NUMBER (TIEDRAW_VERSION_MAJOR * 1000000 + TIEDRAW_VERSION_MINOR * 1000 + TIEDRAW_VERSION_PATCH)
 
 /* The most words of a state, entries of a table, bytes of an accepted card, and shovels of a pick. */
@@ -73,7 +73,8 @@ enum tiedraw_refusal {
     TIEDRAW_NO_SHOVEL = 13,          /* no shovel: the list is empty */
     TIEDRAW_TOO_MANY_SHOVELS = 14,   /* crowd: more than 64 shovels */
     TIEDRAW_DUPLICATE_SHOVEL = 15,   /* twice: a shovel number stands twice */
-    TIEDRAW_BUFFER_TOO_SMALL = 16    /* small page: the page has fewer bytes than the card needs */
+    TIEDRAW_BUFFER_TOO_SMALL = 16,   /* small page: the page has fewer bytes than the card needs */
+    TIEDRAW_SPAN_OUT_OF_BOUNDS = 17  /* span: the place is past the strip's end, or the count does not fit behind it */
 };
 
 /* The eight values of a card. Table entries past 2^words are 0. */
@@ -106,6 +107,12 @@ uint8_t tiedraw_step_back(const uint8_t *card, size_t card_len, uint32_t *state,
 
 /* One step, and the word of the state that it comes to; or refusal 1 to 11. */
 tiedraw_word tiedraw_draw(const uint8_t *card, size_t card_len, uint32_t *state, size_t words);
+
+/* Writes `count` words into the strip from `place` on, as so many draws would give them, and moves the state as they
+   would; the strip's other words are untouched. The card is read and checked once. 0, or refusal 1 to 11 or 17, also
+   where count is 0. */
+uint8_t tiedraw_fill(const uint8_t *card, size_t card_len, uint32_t *state, size_t words, uint32_t *strip,
+                     size_t strip_len, size_t place, size_t count);
 
 /* The shovel with the least time. Where `ties` of them have it, and that is more than one, a step is made, and the
    word modulo `ties` is the rank of the one chosen, rank 0 being the lowest number: so the order of the list makes

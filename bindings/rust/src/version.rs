@@ -127,7 +127,7 @@ mod tests {
         let mismatch = compare(Version::from_number(2_000), Version::from_number(1_003_004));
         assert_eq!(
             mismatch.unwrap_err().to_string(),
-            "tiedraw: the binding has version 0.2.0, the library 1.3.4; major and minor must be the same"
+            "tiedraw: the binding has version 0.2.1, the library 1.3.4; major and minor must be the same"
         );
     }
 
