@@ -1,15 +1,16 @@
 -- THE PROOF OF THE CLAIM: each statement of specs/Demands.antt from the theorems of the crates below, and `demands`, which is all of them.
 use mathlib.Core.Path.{_≡_, refl, sym, ap, _∙_}
 use mathlib.Core.Bool.{Bool, true, false, cond}
-use mathlib.Core.List.{List, []}
-use Prim.Native.Nat.{ℕ}
+use mathlib.Core.List.{List, _++_}
+use Prim.Native.Nat.{ℕ, _+_}
 use borrow.Author.Tests.{ne-eqb, le-ltb}
 use lib.Dec.{eqb}
-use lib.ListN.{length}
+use lib.ListN.{length, take, drop}
 use Rattle.refusals.specs.Refusals.{Check, firstOf, NoneApplies}
 use Rattle.refusals.proofs.Refusals.{first-none, none-first, none-left, none-append}
 use Rattle.tsc.specs.Columns.{column}
-use Rattle.tsc.specs.Step.{step}
+use Rattle.tsc.specs.Step.{step, orbit}
+use Rattle.tsc.specs.Word.{orbitWords}
 use Rattle.tsc.specs.Coverage.{stepBack}
 use Rattle.tsc.proofs.Step.{step-in-range, column-step}
 use Rattle.tsc.proofs.StepBack.{back-of-step}
@@ -22,15 +23,17 @@ use Rattle.draws.specs.Calls.{refusalFor, stepped, steppedBack, drawing}
 use Rattle.draws.proofs.Opening.{passes, unless-passed}
 use Rattle.draws.proofs.Called.{only-before}
 use Rattle.draws.proofs.Draws.{draws-state, draws-word}
+use Rattle.fills.specs.Fills.{fillRefusal, filled, filledState}
+use Rattle.fills.proofs.Fills.{fill-draws, fill-none, fill-append}
 use Rattle.picks.specs.Picks.{pickRefusal, picking, picked}
 use Rattle.picks.proofs.Choice.{pick-chooses, pick-order}
 use Rattle.picks.proofs.Shift.{standby-alike}
-use Rattle.demands.specs.Demands.{ByTable, AnsweredOrRefused, Ready, Published, Undone, SameBytes, SameLots, AcceptedIffCovers, Demands}
+use Rattle.demands.specs.Demands.{ByTable, nothing, AnsweredOrRefused, Ready, Published, Undone, SameBytes, SameLots, AcceptedIffCovers, FilledAsDrawn, Demands}
 
 -- ---- demand 1
 
 -- a call that is worked out from the first refusal r that applies, and from whether r is 0
-by-first : {A : Type 0} {refused : ℕ → A} {checks : List Check} {lent : List ℕ} (call : Bool → ℕ → A × List ℕ)
+by-first : {A L : Type 0} {refused : ℕ → A} {checks : List Check} {lent : L} (call : Bool → ℕ → A × L)
     → ((r : ℕ) → call false r ≡ (refused r, lent)) → let r = firstOf checks in ByTable refused checks lent (call true 0) (call (eqb r 0) r)
 by-first {checks} call h =
     let r = firstOf checks in
@@ -45,16 +48,19 @@ by-table : {A : Type 0} {refused : ℕ → A} {checks : List Check} {lent : List
 by-table {refused} {lent} {good} = by-first (λ b r. (cond b (good .0) (refused r), cond b (good .1) lent)) (λ r. refl)
 
 pub answered-or-refused : AnsweredOrRefused
-unfolding verdict reading writing pageAfter rewriting pageRewritten refusalFor stepped steppedBack drawing pickRefusal picking picked
+unfolding verdict reading writing pageAfter rewriting pageRewritten refusalFor stepped steppedBack drawing fillRefusal filled filledState pickRefusal picking picked
 answered-or-refused =
     record {
-      ofCheck = λ bytes. by-first (λ b r. (r, [])) (λ r. refl);
-      ofRead = λ bytes. by-first (λ b r. (record { refusal = r; card = cond b (cardOf bytes) noCard }, [])) (λ r. refl);
+      ofCheck = λ bytes. by-first (λ b r. (r, nothing)) (λ r. refl);
+      ofRead = λ bytes. by-first (λ b r. (record { refusal = r; card = cond b (cardOf bytes) noCard }, nothing)) (λ r. refl);
       ofWrite = λ card page. by-table;
       ofRewrite = λ bytes page. by-table;
       ofStep = λ bytes xs. by-first (λ b r. (r, cond b (step (cardOf bytes) xs) xs)) (λ r. refl);
       ofStepBack = λ bytes xs. by-first (λ b r. (r, cond b (stepBack (cardOf bytes) xs) xs)) (λ r. refl);
       ofDraw = λ bytes xs. by-table;
+      ofFill = λ bytes xs strip place count. let card = cardOf bytes in
+          let row = take place strip ++ orbitWords card xs count ++ drop (place + count) strip in
+          by-first (λ b r. (r, (cond b row strip, cond b (orbit card xs count) xs))) (λ r. refl);
       ofPick = λ bytes xs shovels times. by-table;
     }
 
@@ -127,8 +133,13 @@ same-lots =
 pub accepted-iff-covers : AcceptedIffCovers
 accepted-iff-covers = verdict-covers
 
+-- ---- document 02, One
+
+pub filled-as-drawn : FilledAsDrawn
+filled-as-drawn = record { draws = fill-draws; none = fill-none; append = fill-append }
+
 -- ---- the whole
 
 pub demands : Demands
 demands =
-    record { one = answered-or-refused; twoA = published; twoB = undone; twoC = same-bytes; twoD = same-lots; three = accepted-iff-covers }
+    record { one = answered-or-refused; twoA = published; twoB = undone; twoC = same-bytes; twoD = same-lots; three = accepted-iff-covers; requestOne = filled-as-drawn }

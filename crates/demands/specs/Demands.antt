@@ -1,17 +1,17 @@
--- THE CLAIM: the user's three demands in the user's order, each part a statement. proofs/Demands.antt proves them all. What a call answers, and what it leaves
--- in the words or the page lent to it, is by its contract what the definitions named here say, for every input.
+-- THE CLAIM: the user's three demands in the user's order, each part a statement, and what the requests of document 02 add. proofs/Demands.antt proves them all.
+-- What a call answers, and what it leaves in the words or the page lent to it, is by its contract what the definitions named here say, for every input.
 use mathlib.Core.Path.{_≡_}
 use mathlib.Core.Logic.{_≢_}
-use mathlib.Core.List.{List, [], _++_}
-use Prim.Native.Nat.{ℕ, suc, _≤_, _<_}
-use lib.ListN.{length, getD, drop}
+use mathlib.Core.List.{List, _++_}
+use Prim.Native.Nat.{ℕ, suc, _+_, _≤_, _<_}
+use lib.ListN.{length, getD, take, drop}
 use Rattle.refusals.specs.Refusals.{Check, firstOf, NoneApplies}
 use Rattle.cycle.specs.Notation.{iterate, bit}
 use Rattle.tsc.specs.declared.Card.{Card}
 use Rattle.tsc.specs.Columns.{column}
 use Rattle.tsc.specs.Selector.{selector}
 use Rattle.tsc.specs.Step.{entry, power, step, orbit}
-use Rattle.tsc.specs.Word.{word}
+use Rattle.tsc.specs.Word.{word, orbitWords}
 use Rattle.tsc.specs.Coverage.{IsState, stepBack}
 use Rattle.card_format.specs.declared.Written.the-variants as Written
 use Rattle.card_format.specs.Fields.{Bytes}
@@ -20,6 +20,8 @@ use Rattle.card_format.specs.Verdict.{cardChecks, verdict, ZeroIffCovers, Accep
 use Rattle.card_format.specs.Writing.{written, writeChecks, writing, pageAfter, rewriteChecks, rewriting, pageRewritten}
 use Rattle.draws.specs.declared.Draw.the-variants as Draw
 use Rattle.draws.specs.Calls.{callChecks, refusalFor, stepped, steppedBack, drawing, OnlyBefore}
+use Rattle.fills.specs.Fills.{fillChecks, fillRefusal, filled, filledState}
+use Rattle.fills.specs.Draws.{drawnStrip, drawsMade}
 use Rattle.ties.specs.Ties.{ties, chosen, TieAt}
 use Rattle.ties.specs.Order.{SameShovels}
 use Rattle.picks.specs.declared.Pick.the-variants as Pick
@@ -31,13 +33,18 @@ use Rattle.picks.specs.Shift.{Request, answers, stateAfter, Alike}
 
 -- what a call that has these checks answers and leaves, `result`: where no check applies it is `good`; else it is the refusal of the first that applies, and
 -- what was lent as it was
-pub record ByTable {A : Type 0} (refused : ℕ → A) (checks : List Check) (lent : List ℕ) (good result : A × List ℕ) : Type 0 where
+pub record ByTable {A L : Type 0} (refused : ℕ → A) (checks : List Check) (lent : L) (good result : A × L) : Type 0 where
   pub passes : NoneApplies checks → result ≡ good
   pub refuses : firstOf checks ≢ 0 → result ≡ (refused (firstOf checks), lent)
 
+-- where nothing is lent that the call could change
+abbrev pub nothing : Unit {0}
+nothing = tt
+
 pub record AnsweredOrRefused : Type 0 where
-  pub ofCheck : (bytes : List ℕ) → ByTable (λ r. r) (cardChecks bytes) [] (0, []) (verdict bytes, [])
-  pub ofRead : (bytes : List ℕ) → ByTable refusedReading (formChecks bytes) [] (record { refusal = 0; card = cardOf bytes }, []) (reading bytes, [])
+  pub ofCheck : (bytes : List ℕ) → ByTable (λ r. r) (cardChecks bytes) nothing (0, nothing) (verdict bytes, nothing)
+  pub ofRead : (bytes : List ℕ) →
+      ByTable refusedReading (formChecks bytes) nothing (record { refusal = 0; card = cardOf bytes }, nothing) (reading bytes, nothing)
   pub ofWrite : (card : Card) (page : List ℕ) → ByTable Written.Refused (writeChecks card (length page)) page
       (Written.Length (length (written card)), written card ++ drop (length (written card)) page) (writing card (length page), pageAfter card page)
   pub ofRewrite : (bytes page : List ℕ) → ByTable Written.Refused (rewriteChecks bytes (length page)) page
@@ -46,6 +53,10 @@ pub record AnsweredOrRefused : Type 0 where
   pub ofStepBack : (bytes xs : List ℕ) → ByTable (λ r. r) (callChecks bytes xs) xs (0, stepBack (cardOf bytes) xs) (refusalFor bytes xs, steppedBack bytes xs)
   pub ofDraw : (bytes xs : List ℕ) → let next = step (cardOf bytes) xs in
       ByTable Draw.Refused (callChecks bytes xs) xs (Draw.Word (word (cardOf bytes) next), next) (drawing bytes xs, stepped bytes xs)
+  pub ofFill : (bytes xs strip : List ℕ) (place count : ℕ) → let card = cardOf bytes in
+      ByTable {L = List ℕ × List ℕ} (λ r. r) (fillChecks bytes xs strip place count) (strip, xs)
+      (0, (take place strip ++ orbitWords card xs count ++ drop (place + count) strip, orbit card xs count))
+      (fillRefusal bytes xs strip place count, (filled bytes xs strip place count, filledState bytes xs strip place count))
   pub ofPick : (bytes xs shovels times : List ℕ) → let k = ties times in
       ByTable Pick.Refused (pickChecks bytes xs shovels times) xs
       (Pick.Shovel (chosen shovels times (drawnRank (cardOf bytes) xs k)) k, drawnState (cardOf bytes) xs k)
@@ -97,6 +108,21 @@ pub record SameLots : Type 0 where
 abbrev pub AcceptedIffCovers : Type 0
 AcceptedIffCovers = (bytes : List ℕ) → ZeroIffCovers bytes (verdict bytes)
 
+-- ---- document 02, One: one call writes a wanted count of words into a lent strip; the strip and state end as single draws would leave them, and a count of 0
+-- changes nothing
+
+pub record FilledAsDrawn : Type 0 where
+  -- for every input; where the span ends past the strip, no draw is made
+  pub draws : (bytes xs strip : List ℕ) (place count : ℕ) → let t = drawsMade (length strip) place count in
+      (filled bytes xs strip place count ≡ drawnStrip bytes xs strip place t) × (filledState bytes xs strip place count ≡ iterate (stepped bytes) t xs)
+  pub none : (bytes xs strip : List ℕ) (place : ℕ) → (filled bytes xs strip place 0 ≡ strip) × (filledState bytes xs strip place 0 ≡ xs)
+  -- a fill, and a fill behind it, are one fill of both counts
+  pub append : (bytes xs strip : List ℕ) (place j k : ℕ) → place + (j + k) ≤ length strip
+      → let ys = filledState bytes xs strip place j in let ws = filled bytes xs strip place j in
+      (fillRefusal bytes ys ws (place + j) k ≡ fillRefusal bytes xs strip place (j + k))
+      × (filled bytes ys ws (place + j) k ≡ filled bytes xs strip place (j + k))
+      × (filledState bytes ys ws (place + j) k ≡ filledState bytes xs strip place (j + k))
+
 -- ---- the whole
 
 pub record Demands : Type 0 where
@@ -106,3 +132,4 @@ pub record Demands : Type 0 where
   pub twoC : SameBytes
   pub twoD : SameLots
   pub three : AcceptedIffCovers
+  pub requestOne : FilledAsDrawn
