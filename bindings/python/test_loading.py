@@ -15,7 +15,7 @@ REAL = os.path.realpath(_library.LIBRARY._name)
 SONAME = _load.SONAME
 MAJOR, MINOR, _ = map(int, __version__.split("."))
 TELL = "import tiedraw; print(tiedraw.library_version())"
-CALLS = ["check", "read", "step", "step_back", "draw", "pick", "write"]
+CALLS = ["check", "read", "step", "step_back", "draw", "fill", "pick", "write"]
 
 
 def patched(patch):
@@ -131,8 +131,10 @@ class Versions(Loading):
         self.fails(f"{file} has no tiedraw_version: it is older than binding {__version__}", TIEDRAW_LIBRARY=file)
 
     def test_a_library_without_a_call(self):
-        file = self.made_up(self.folder / "lacking.so", patched(0), CALLS[:-1])
-        self.fails(f"{file} has no tiedraw_write, which binding {__version__} needs", TIEDRAW_LIBRARY=file)
+        for lacking in CALLS:
+            there = [call for call in CALLS if call != lacking]
+            file = self.made_up(self.folder / f"no_{lacking}.so", patched(0), there)
+            self.fails(f"{file} has no tiedraw_{lacking}, which binding {__version__} needs", TIEDRAW_LIBRARY=file)
 
     def test_an_unknown_refusal_is_no_crash(self):
         file = self.made_up(self.folder / "later.so", patched(0))

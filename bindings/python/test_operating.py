@@ -11,8 +11,7 @@ NARROW = bytes.fromhex("27 02 02 01 02 03 00 01 00 00 00")
 
 
 def lots(card, start, ties, count):
-    desk = Generator(card, start)
-    return [desk.draw() % ties for _ in range(count)]
+    return [word % ties for word in Generator(card, start).words(count)]
 
 
 def repeats(row, period):

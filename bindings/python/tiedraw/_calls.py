@@ -3,11 +3,11 @@
 from __future__ import annotations
 
 from ctypes import c_uint8, c_uint16, c_uint32
-from typing import Any, Callable
+from typing import Any, Callable, SupportsIndex
 
 from . import _library
 from ._library import MOST_CARD_BYTES
-from ._numbers import Numbers, row, seconds_row, whole
+from ._numbers import Numbers, row, seconds_row, span, whole
 from ._refusal import unless_refused
 from ._values import Choice, Values
 
@@ -49,6 +49,15 @@ def draw(card: Numbers, state: Numbers) -> tuple[int, tuple[int, ...]]:
     """The word of a step, and the state after it."""
     answer, after = _on_state(_library.draw, card, state)
     return answer.word, after
+
+
+def fill(
+    card: Numbers, state: Numbers, strip: Numbers, place: SupportsIndex = 0, count: SupportsIndex | None = None
+) -> tuple[tuple[int, ...], tuple[int, ...]]:
+    """The strip with the words of `count` draws from `place` on, and the state after them. No count: all that fit."""
+    words, length = row(c_uint32, "strip", strip)
+    after = _on_state(_library.fill, card, state, words, *span(length, place, count))[1]
+    return tuple(words), after
 
 
 def pick(card: Numbers, state: Numbers, shovels: Numbers, times: Numbers) -> tuple[Choice, tuple[int, ...]]:

@@ -2,14 +2,17 @@
 
 from __future__ import annotations
 
+import sys
+from array import array
 from ctypes import byref, c_size_t, c_uint8, c_uint16, c_uint32
 from functools import partial
 from threading import RLock
-from typing import Any
+from typing import Any, SupportsIndex
 
+from ._buffers import Buffer, address, words_of
 from ._calls import step
 from ._library import Chosen, Word, call
-from ._numbers import Numbers, Times, row, shovels_and_times
+from ._numbers import Numbers, Times, natural, row, shovels_and_times, span
 from ._refusal import unless_refused
 from ._values import Choice
 
@@ -17,17 +20,19 @@ from ._values import Choice
 _step = call("tiedraw_step", c_uint8)
 _step_back = call("tiedraw_step_back", c_uint8)
 _draw = call("tiedraw_draw", Word)
+_fill = call("tiedraw_fill", c_uint8)
 _pick = call("tiedraw_pick", Chosen)
 
 
 class Generator:
     """An accepted card and a state of its size; anything else raises Refused when it is made.
 
-    Threads may share one: draws come one after the other, and no lot is drawn twice or lost. Two are equal where card
-    and state are. A copy, also by pickle, goes on from the same state by itself.
+    Threads may share one: draws come one after the other, and no lot is drawn twice or lost; no other draw comes between
+    the words of a fill. Two are equal where card and state are. A copy, also by pickle, goes on from the same state by
+    itself.
     """
 
-    __slots__ = ("_card", "_state", "_lock", "_step", "_step_back", "_draw", "_pick", "__weakref__")
+    __slots__ = ("_card", "_state", "_lock", "_step", "_step_back", "_draw", "_fill", "_pick", "__weakref__")
 
     def __init__(self, card: Numbers, state: Numbers):
         self._card, size = row(c_uint8, "card", card)
@@ -38,6 +43,7 @@ class Generator:
         self._step = partial(_step, *lent)
         self._step_back = partial(_step_back, *lent)
         self._draw = partial(_draw, *lent)
+        self._fill = partial(_fill, *lent)
         self._pick = partial(_pick, *lent)
 
     @property
@@ -66,6 +72,26 @@ class Generator:
         if answer.refusal:
             unless_refused(answer.refusal)
         return answer.word
+
+    def fill(self, buffer: Buffer, place: SupportsIndex = 0, count: SupportsIndex | None = None) -> None:
+        """Writes the words of `count` draws into the buffer, from `place` on; without a count, all that fit behind it.
+
+        The buffer lends one row of 32-bit unsigned numbers in this machine's byte order, to be written: an array("I"), an
+        array of ctypes or numpy, a memoryview of these or by cast("I") of bytes. Anything else raises TypeError. Nothing
+        is copied, and other threads run meanwhile: they must not write there until the call returns. A span that is not
+        inside is refused by 17, and nothing has changed.
+        """
+        with words_of(buffer) as view:
+            strip = (address(view), *map(c_size_t, span(len(view), place, count)))
+            with self._lock:
+                refusal = self._fill(*strip)
+        unless_refused(refusal)
+
+    def words(self, count: SupportsIndex) -> array[int]:
+        """The words of so many draws, in a new array of 32-bit unsigned numbers."""
+        drawn = array("I", [0]) * min(natural("count", count), sys.maxsize)
+        self.fill(drawn)
+        return drawn
 
     def pick(self, times: Times) -> Choice:
         """The shovel of least time, from {shovel: time} or pairs (shovel, time); ties are broken by a draw.

@@ -82,12 +82,14 @@ def call(name: str, answer: Any, parameters: list[Any] | None = None) -> Callabl
 _BYTES = [POINTER(c_uint8), c_size_t]
 _ON_STATE = [*_BYTES, POINTER(c_uint32), c_size_t]
 _LISTS = [POINTER(c_uint16), c_size_t, POINTER(c_uint32), c_size_t]
+_SPAN = [POINTER(c_uint32), c_size_t, c_size_t, c_size_t]
 
 check: Callable[..., int] = call("tiedraw_check", c_uint8, _BYTES)
 read: Callable[..., Reading] = call("tiedraw_read", Reading, _BYTES)
 step: Callable[..., int] = call("tiedraw_step", c_uint8, _ON_STATE)
 step_back: Callable[..., int] = call("tiedraw_step_back", c_uint8, _ON_STATE)
 draw: Callable[..., Word] = call("tiedraw_draw", Word, _ON_STATE)
+fill: Callable[..., int] = call("tiedraw_fill", c_uint8, _ON_STATE + _SPAN)
 pick: Callable[..., Chosen] = call("tiedraw_pick", Chosen, _ON_STATE + _LISTS)
 write: Callable[..., Written] = call(
     "tiedraw_write", Written, [c_uint8, c_uint8, *_BYTES, c_uint8, c_uint8, c_uint32, c_uint8, c_uint8, *_BYTES]

@@ -13,9 +13,11 @@ Kind = TypeVar("Kind", ctypes.c_uint8, ctypes.c_uint16, ctypes.c_uint32)
 Numbers = Iterable[SupportsIndex]
 Times = Union[Mapping[int, SupportsIndex], Iterable[tuple[SupportsIndex, SupportsIndex]]]
 
+WIDEST_SIZE = ctypes.c_size_t(-1).value
 
-def whole(place: str, number: SupportsIndex, bits: int, of: str = "") -> int:
-    """The number, if it is a whole one of so many bits."""
+
+def natural(place: str, number: SupportsIndex, of: str = "") -> int:
+    """The number, if it is a whole one and not negative."""
     try:
         if isinstance(number, bool):
             raise TypeError
@@ -24,6 +26,12 @@ def whole(place: str, number: SupportsIndex, bits: int, of: str = "") -> int:
         raise TypeError(f"{place}: {shown(number)} is not a whole number{of}") from None
     if found < 0:
         raise ValueError(f"{place}: {shown(found)} is negative")
+    return found
+
+
+def whole(place: str, number: SupportsIndex, bits: int, of: str = "") -> int:
+    """The number, if it is a whole one of so many bits."""
+    found = natural(place, number, of)
     if found >> bits:
         raise ValueError(f"{place}: {shown(found)} is more than {bits} bits")
     return found
@@ -58,6 +66,17 @@ def row(kind: type[Kind], name: str, numbers: Numbers, of: str = "") -> tuple[ct
 
 def seconds_row(times: Numbers) -> tuple[ctypes.Array[ctypes.c_uint32], int]:
     return row(ctypes.c_uint32, "times", times, " of seconds")
+
+
+def _size(name: str, number: SupportsIndex) -> int:
+    """A number for size_t. One that is too wide becomes the widest, which is more than any strip has."""
+    return min(natural(name, number), WIDEST_SIZE)
+
+
+def span(length: int, place: SupportsIndex, count: SupportsIndex | None) -> tuple[int, int, int]:
+    """A strip's length, and a place and count in it; no count is all that fits behind the place. C judges whether it fits."""
+    begin = _size("place", place)
+    return length, begin, max(length - begin, 0) if count is None else _size("count", count)
 
 
 def _pair(i: int, pair: Any) -> tuple[Any, Any]:

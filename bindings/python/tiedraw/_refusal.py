@@ -29,6 +29,7 @@ class Refusal(enum.IntEnum):
     TOO_MANY_SHOVELS = 14, "crowd", "more than 64 shovels"
     DUPLICATE_SHOVEL = 15, "twice", "a shovel number stands twice"
     BUFFER_TOO_SMALL = 16, "small page", "the page has fewer bytes than the card needs"
+    SPAN_OUT_OF_BOUNDS = 17, "span", "the place is past the strip's end, or the count does not fit behind it"
 
     def __new__(cls, number: int, trade_word: str, when: str) -> Refusal:
         self = int.__new__(cls, number)
