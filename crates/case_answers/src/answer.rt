@@ -30,10 +30,13 @@ pub fn print_word(k: usize, word: u32) {
     io::print_hex(1, word as u64, 8);
 }
 
-// The first m words, commas between.
-fn print_words(words: [u32; ROOM], m: usize)
+// The first m words, commas between; - where there are none.
+pub fn print_words(words: [u32; ROOM], m: usize)
     requires { ⌜ m ≤ room ⌝ }
 {
+    if m == 0 {
+        io::write_all(1, b"-");
+    }
     let mut k = 0;
     while k < m {
         print_word(k, words[k]);
@@ -91,7 +94,7 @@ pub fn print_refused(number: u8, kept: bool) {
 }
 
 // Whether two arrays of words are the same.
-fn same_words(a: [u32; ROOM], b: [u32; ROOM]) -> bool
+pub fn same_words(a: [u32; ROOM], b: [u32; ROOM]) -> bool
     ensures { λ r. ⌜ r ≡ same a b ⌝ }
 {
     let mut i = 0;

@@ -14,6 +14,7 @@ enum Call {
     Back,
     Draw,
     Words,
+    Strip,
     Pick,
 }
 
@@ -30,6 +31,7 @@ fn replay_bytes(line: &[u8], call: Call, bytes: &[u8], n: usize) {
         Call::Back => states::replay_moved(line, Move::Back, card),
         Call::Draw => states::replay_moved(line, Move::Draw, card),
         Call::Words => states::replay_words(line, card),
+        Call::Strip => case_strips::replay_strip(line, card),
         Call::Pick => states::replay_pick(line, card),
     }
 }
@@ -61,6 +63,9 @@ fn replay_case(line: &[u8]) {
     }
     if check::same(word, b"words") {
         return replay_call(line, Call::Words);
+    }
+    if check::same(word, b"strip") {
+        return replay_call(line, Call::Strip);
     }
     if check::same(word, b"pick") {
         return replay_call(line, Call::Pick);

@@ -10,6 +10,12 @@ Inv-loop m words k₀ k = (m ≤ room) × (k ≤ m)
 abbrev μ-loop : tie.MeasureT-loop
 μ-loop m words k₀ k = m - k
 
+slice-aggregate-write-all : tie.Need-slice-aggregate-write-all Inv-loop μ-loop
+slice-aggregate-write-all c = omega arith
+
+write-all-requires : tie.Need-write-all-requires Inv-loop μ-loop
+write-all-requires c κs = tt
+
 loop-holds : tie.Need-loop-holds Inv-loop μ-loop
 loop-holds c = (omega arith, omega arith)
 
@@ -40,6 +46,8 @@ print-words-spec =
     (tie.spec
     Inv-loop
     μ-loop
+    slice-aggregate-write-all
+    write-all-requires
     loop-holds
     mul-print-word
     array-read-print-word

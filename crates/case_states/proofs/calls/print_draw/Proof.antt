@@ -2,7 +2,7 @@ use mathlib.Core.Path.{_≡_}
 use borrow.Author.Needs.{needs}
 use lib.ListN.{length}
 use Rattle.case_fields.specs.Lists.{room}
-use Rattle.case_states.proofs.Front.{front, front-length}
+use Rattle.case_answers.proofs.Front.{front, front-length}
 use native.Mathlib.Omega.{arith}
 use Rattle.case_states.proofs.calls.print_draw.Statement.{statement}
 use Rattle.case_states.proofs.calls.print_draw.Tie as tie
