@@ -2,16 +2,18 @@
 
 use crate::hex;
 use crate::inputs::Input;
+use reference::fill::call_fill;
 use reference::{call_write, Card, TABLE_ENTRIES};
 use std::hint::black_box;
 use std::iter::once;
 use tiedraw::ffi;
 
-pub const CALLS: [&str; 7] = [
+pub const CALLS: [&str; 8] = [
     "check",
     "step",
     "step_back",
     "draw",
+    "fill",
     "pick",
     "write",
     "read",
@@ -21,12 +23,14 @@ pub const CALLS: [&str; 7] = [
 type Values = [u64; 7 + TABLE_ENTRIES];
 const ZEROS: Values = [0; 7 + TABLE_ENTRIES];
 
-/// The answer's values, the refusal, what was lent after the call, and whether all around it is as it was.
+/// The answer's values, the refusal, the state or page and the strip after the call, and whether all around them is as it was.
 #[derive(Debug, PartialEq)]
 struct Observed {
     values: Values,
     refusal: u8,
     lent: Vec<u32>,
+    /// empty but for the fill
+    strip: Vec<u32>,
     around: bool,
 }
 
@@ -36,6 +40,11 @@ fn row(numbers: impl IntoIterator<Item = u64>) -> Values {
         *value = number;
     }
     values
+}
+
+/// A page's bytes as words.
+fn widened(page: &[u8]) -> Vec<u32> {
+    page.iter().map(|&byte| byte.into()).collect()
 }
 
 /// The eight values of a card of either side.
@@ -52,6 +61,9 @@ macro_rules! eight {
 }
 
 // ---- The library.
+
+/// what stands around lent words
+const GUARD: u32 = 0xa5c3_96e1;
 
 /// Lends a copy of the words between guards, and gives back the words after the call, and whether
 /// the guards are as they were. An empty slice is lent as null.
@@ -82,8 +94,10 @@ fn shared<T>(slice: &[T]) -> *const T {
 
 /// Call number `call` of the library.
 fn library(call: usize, input: &Input) -> Observed {
-    if CALLS[call] == "write" {
-        return library_write(&input.values, &input.page);
+    match CALLS[call] {
+        "fill" => return library_fill(input),
+        "write" => return library_write(&input.values, &input.page),
+        _ => {}
     }
     let (card, n) = (shared(&input.card), input.card.len());
     let on_state = |state, m| match CALLS[call] {
@@ -106,12 +120,31 @@ fn library(call: usize, input: &Input) -> Observed {
             (row(numbers), answer.refusal)
         }
     };
-    let ((values, refusal), lent, around) = lend(&input.state, 0xa5c3_96e1, on_state);
+    let ((values, refusal), lent, around) = lend(&input.state, GUARD, on_state);
     Observed {
         values,
         refusal,
         lent,
+        strip: vec![],
         around,
+    }
+}
+
+fn library_fill(input: &Input) -> Observed {
+    let (card, n) = (shared(&input.card), input.card.len());
+    let (place, count) = input.span;
+    let on_state = |state, m| {
+        lend(&input.strip, GUARD, |strip, length| unsafe {
+            ffi::tiedraw_fill(card, n, state, m, strip, length, place, count)
+        })
+    };
+    let ((refusal, strip, around_strip), lent, around) = lend(&input.state, GUARD, on_state);
+    Observed {
+        values: ZEROS,
+        refusal,
+        lent,
+        strip,
+        around: around && around_strip,
     }
 }
 
@@ -134,7 +167,8 @@ fn library_write(v: &Card, page: &[u8]) -> Observed {
     Observed {
         values: row([answer.length as u64]),
         refusal: answer.refusal,
-        lent: lent.into_iter().map(u32::from).collect(),
+        lent: widened(&lent),
+        strip: vec![],
         around,
     }
 }
@@ -146,6 +180,7 @@ fn expected(answer: Result<Values, u8>, lent: Vec<u32>) -> Observed {
         values: answer.unwrap_or(ZEROS),
         refusal: answer.err().unwrap_or(0),
         lent,
+        strip: vec![],
         around: true,
     }
 }
@@ -162,9 +197,20 @@ fn second_program(call: usize, input: &Input) -> Observed {
         "draw" => reference::call_draw(card, &mut state).map(|word| row([word.into()])),
         "pick" => reference::pick::call_pick(card, &mut state, &input.shovels, &input.times)
             .map(|(shovel, ties)| row([shovel.into(), ties as u64])),
+        "fill" => return second_fill(input),
         _ => return second_write(&input.values, &input.page),
     };
     expected(answer, state)
+}
+
+fn second_fill(input: &Input) -> Observed {
+    let (mut state, mut strip) = (input.state.clone(), input.strip.clone());
+    let (place, count) = input.span;
+    let answer = call_fill(&input.card, &mut state, &mut strip, place, count);
+    Observed {
+        strip,
+        ..expected(answer.map(|()| ZEROS), state)
+    }
 }
 
 /// The second program's writer takes document 01's array of 16 entries; the library's rule for tables of another length is put around it.
@@ -178,35 +224,48 @@ fn second_write(values: &Card, page: &[u8]) -> Observed {
             call_write(&card, &mut lent).map(|length| row([length as u64]))
         }
     };
-    expected(answer, lent.into_iter().map(u32::from).collect())
+    expected(answer, widened(&lent))
 }
 
 // ---- The comparison.
 
-/// The refusals of the calls on one input, and how many ties the pick had; or a text that says
-/// the input and how the two sides differ.
-pub fn compare(input: &Input) -> Result<([u8; CALLS.len()], u64), String> {
-    let mut refusals = [0; CALLS.len()];
-    let mut ties = 0;
-    let page: Vec<u32> = input.page.iter().map(|&byte| byte.into()).collect();
+/// What the calls on one input told, where the two sides agree.
+#[derive(Default)]
+pub struct Told {
+    pub refusals: [u8; CALLS.len()],
+    /// shovels that the pick had at the least time
+    pub ties: u64,
+    /// words that the fill wrote
+    pub filled: usize,
+}
+
+/// Whether what was lent to a call is as it was.
+fn untouched(name: &str, input: &Input, after: &Observed) -> bool {
+    match name {
+        "write" => after.lent == widened(&input.page),
+        "fill" => after.lent == input.state && after.strip == input.strip,
+        _ => after.lent == input.state,
+    }
+}
+
+/// All calls on one input; or a text that says the input and how the two sides differ.
+pub fn compare(input: &Input) -> Result<Told, String> {
+    let mut told = Told::default();
     for (call, name) in CALLS.iter().enumerate() {
         let handed = input.clone();
         let left = library(call, &handed);
         let right = second_program(call, input);
-        let before = if *name == "write" {
-            &page
-        } else {
-            &input.state
-        };
-        let kept = left.refusal == 0 || left.lent == *before;
+        let kept = left.refusal == 0 || untouched(name, input, &left);
         if left != right || !kept || black_box(&handed) != input {
             let card = hex(&input.card);
             return Err(format!("{name}: the library\n  {left:x?}\nthe second program\n  {right:x?}\ncard {card}\n{input:x?}"));
         }
-        refusals[call] = left.refusal;
-        if *name == "pick" {
-            ties = left.values[1];
+        told.refusals[call] = left.refusal;
+        match *name {
+            "pick" => told.ties = left.values[1],
+            "fill" if left.refusal == 0 => told.filled = input.span.1,
+            _ => {}
         }
     }
-    Ok((refusals, ties))
+    Ok(told)
 }

@@ -1,4 +1,4 @@
-//! Random inputs: cards valid and damaged, states and lists of right and wrong size, values and pages for the writer.
+//! Random inputs: cards valid and damaged, states and lists of right and wrong size, strips and spans, values and pages for the writer.
 
 use crate::random::Random;
 use reference::{encode, mask, Card, TSC1_CONSTANT, TSC1_TABLE};
@@ -8,6 +8,9 @@ use reference::{encode, mask, Card, TSC1_CONSTANT, TSC1_TABLE};
 pub struct Input {
     pub card: Vec<u8>,
     pub state: Vec<u32>,
+    pub strip: Vec<u32>,
+    /// place and count
+    pub span: (usize, usize),
     pub shovels: Vec<u16>,
     pub times: Vec<u32>,
     /// for the writer; the table has any number of entries
@@ -21,12 +24,18 @@ impl Input {
         let card = card_bytes(&sound, random);
         let read = reference::read(&card).unwrap_or_else(|_| sound.clone());
         let state = state_words(&read, random);
+        let strip: Vec<u32> = (0..random.below(41))
+            .map(|_| random.word() as u32)
+            .collect();
+        let span = span(strip.len(), random);
         let (shovels, times) = lists(random);
         let values = writer_values(sound, random);
         let page = page_for(&values, random);
         Input {
             card,
             state,
+            strip,
+            span,
             shovels,
             times,
             values,
@@ -157,6 +166,29 @@ fn state_words(card: &Card, random: &mut Random) -> Vec<u32> {
         state[random.below(size)] = mask(card.width).wrapping_add(1);
     }
     state
+}
+
+/// Place and count: half of them fit; the others don't, by little or by far, also where a number cut to 8, 16 or 32 bits, one with a sign, or the sum modulo 2^64 would.
+fn span(length: usize, random: &mut Random) -> (usize, usize) {
+    let place = random.below(length + 1);
+    let room = length - place;
+    let count = random.below(room + 1);
+    let far = [1 << 8, 1 << 16, 1 << 32, 1 << 63][random.below(4)];
+    let last = usize::MAX - [0, random.below(length + 2)][random.below(2)];
+    match random.below(16) {
+        0 => (length, 0),
+        1 => (place, room),
+        2 => (place, room + random.within(1, 3)),
+        3 => (length + random.within(1, 3), 0),
+        4 => (length + random.within(1, 3), random.below(length + 1)),
+        5 => (place, count + far),
+        6 => (place + far, [0, count][random.below(2)]),
+        7 => (place, last),
+        8 => (last, [0, count, last][random.below(3)]),
+        9 => (place, random.below(length + 1).wrapping_sub(place)),
+        10 => (last, random.below(length + 1).wrapping_sub(last)),
+        _ => (place, count),
+    }
 }
 
 /// How many shovels: few and many, around 64, and so many that a count cut to 8 or 16 bits would pass.

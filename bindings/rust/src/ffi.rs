@@ -48,6 +48,16 @@ extern "C" {
     pub fn tiedraw_step_back(card: *const u8, card_len: usize, state: *mut u32, words: usize)
         -> u8;
     pub fn tiedraw_draw(card: *const u8, card_len: usize, state: *mut u32, words: usize) -> Word;
+    pub fn tiedraw_fill(
+        card: *const u8,
+        card_len: usize,
+        state: *mut u32,
+        words: usize,
+        strip: *mut u32,
+        strip_len: usize,
+        place: usize,
+        count: usize,
+    ) -> u8;
     pub fn tiedraw_pick(
         card: *const u8,
         card_len: usize,

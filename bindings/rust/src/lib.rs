@@ -1,8 +1,8 @@
 //! Tie draws for mine dispatch, proved: a safe wrapper over `include/tiedraw.h`, on the standard library alone.
 //!
-//! [`Generator`] holds an accepted card and a state of its size, so that its draws and steps can't be refused; a list of
-//! [`Shovel`]s can't have more numbers than times. The functions of this module are the library's own, on slices, for
-//! callers who keep card and state themselves.
+//! [`Generator`] holds an accepted card and a state of its size, so that its draws, fills and steps can't be refused; a
+//! list of [`Shovel`]s can't have more numbers than times. The functions of this module are the library's own, on
+//! slices, for callers who keep card and state themselves.
 //!
 //! Every call panics where the library has another major or minor version than this binding ([`check_version`]).
 //!
@@ -127,6 +127,40 @@ pub fn draw(card: &[u8], state: &mut [u32]) -> Result<u32, Refusal> {
     let answer =
         unsafe { ffi::tiedraw_draw(card.as_ptr(), card.len(), state.as_mut_ptr(), state.len()) };
     Refusal::result(answer.refusal).map(|()| answer.word)
+}
+
+/// Writes `count` words into the strip from `place` on, as so many draws would give them, and moves the state as they
+/// would; or refusal 1 to 11 or 17, also where `count` is 0. The card is read and checked once.
+///
+/// ```
+/// let program = [0x27, 2, 2, 1, 2, 3, 0, 1, 0, 0, 0];
+/// let (mut state, mut strip) = ([2, 3], [7; 4]);
+/// tiedraw::fill(&program, &mut state, &mut strip, 1, 2)?;
+/// assert_eq!((strip, state), ([7, 3, 2, 7], [2, 0]));
+/// let refusal = tiedraw::fill(&program, &mut state, &mut strip, 3, 2);
+/// assert_eq!(refusal, Err(tiedraw::Refusal::SpanOutOfBounds));
+/// # Ok::<(), tiedraw::Refusal>(())
+/// ```
+pub fn fill(
+    card: &[u8],
+    state: &mut [u32],
+    strip: &mut [u32],
+    place: usize,
+    count: usize,
+) -> Result<(), Refusal> {
+    version::ensure();
+    Refusal::result(unsafe {
+        ffi::tiedraw_fill(
+            card.as_ptr(),
+            card.len(),
+            state.as_mut_ptr(),
+            state.len(),
+            strip.as_mut_ptr(),
+            strip.len(),
+            place,
+            count,
+        )
+    })
 }
 
 /// The shovel of least time; ties are broken by a draw.
@@ -279,6 +313,25 @@ impl Generator {
     /// One step, and its word. It can't be refused.
     pub fn draw(&mut self) -> u32 {
         draw(self.card.bytes(), &mut self.state).expect("a state of an accepted card")
+    }
+
+    /// A draw's word for each place of the slice, from the front on. It can't be refused.
+    ///
+    /// ```
+    /// use tiedraw::{Card, Generator};
+    /// let mut server = Generator::new(Card::default(), &[0; 4])?;
+    /// let mut standby = server.clone();
+    /// let mut strip = [0; 100];
+    /// server.fill(&mut strip[..60]);
+    /// server.fill(&mut strip[60..]);
+    /// assert!(strip.iter().all(|&word| word == standby.draw()));
+    /// assert_eq!(server, standby);
+    /// # Ok::<(), tiedraw::Refusal>(())
+    /// ```
+    pub fn fill(&mut self, words: &mut [u32]) {
+        let count = words.len();
+        fill(self.card.bytes(), &mut self.state, words, 0, count)
+            .expect("a state of an accepted card, and the slice's own span");
     }
 
     /// The shovel of least time, or refusal 13 to 15. Several at that time are ties, and a draw decides.

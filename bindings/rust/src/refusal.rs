@@ -39,6 +39,7 @@ refusals! {
     (TooManyShovels, "crowd", "more than 64 shovels"),
     (DuplicateShovel, "twice", "a shovel number stands twice"),
     (BufferTooSmall, "small page", "the page has fewer bytes than the card needs"),
+    (SpanOutOfBounds, "span", "the place is past the strip's end, or the count does not fit behind it"),
 }
 
 impl Refusal {

@@ -124,10 +124,13 @@ mod tests {
 
     #[test]
     fn a_mismatch_tells_both_versions() {
-        let mismatch = compare(Version::from_number(2_000), Version::from_number(1_003_004));
+        let mismatch = compare(
+            Version::from_number(5_006_007),
+            Version::from_number(1_003_004),
+        );
         assert_eq!(
             mismatch.unwrap_err().to_string(),
-            "tiedraw: the binding has version 0.2.1, the library 1.3.4; major and minor must be the same"
+            "tiedraw: the binding has version 5.6.7, the library 1.3.4; major and minor must be the same"
         );
     }
 

@@ -1,6 +1,6 @@
 //! The library against the second program on random inputs, and the check against walks counted out. `difftest SEED INPUTS`.
 
-use harness::calls::{compare, CALLS};
+use harness::calls::{compare, Told, CALLS};
 use harness::hex;
 use harness::inputs::{sound_form, Input};
 use harness::random::Random;
@@ -15,22 +15,27 @@ const CARDS: usize = 3000;
 /// the most bits of a state for that
 const MOST_BITS: u8 = 12;
 
+/// the last refusal's number
+const REFUSALS: usize = 17;
+
 /// The refusals that each call has, 0 for none: all of them must come up.
 const TELLS: [&[usize]; CALLS.len()] = [
     &[0, 1, 2, 3, 4, 5, 6, 7, 8, 9],
     &[0, 1, 2, 3, 4, 5, 6, 7, 8, 9, 10, 11],
     &[0, 1, 2, 3, 4, 5, 6, 7, 8, 9, 10, 11],
     &[0, 1, 2, 3, 4, 5, 6, 7, 8, 9, 10, 11],
+    &[0, 1, 2, 3, 4, 5, 6, 7, 8, 9, 10, 11, 17],
     &[0, 1, 2, 3, 4, 5, 6, 7, 8, 9, 10, 11, 12, 13, 14, 15],
     &[0, 2, 6, 7, 8, 9, 16],
     &[0, 1, 2, 3, 4, 5, 6],
 ];
 
-/// How often each call told each refusal, and how many picks had ties.
+/// How often each call told each refusal, how many picks had ties, and how many words were filled in.
 #[derive(Default)]
 struct Tally {
-    told: [[usize; 17]; CALLS.len()],
+    told: [[usize; REFUSALS + 1]; CALLS.len()],
     ties: usize,
+    filled: usize,
 }
 
 impl Tally {
@@ -41,6 +46,7 @@ impl Tally {
             }
         }
         self.ties += other.ties;
+        self.filled += other.filled;
     }
 
     /// A call and a refusal of its that never came up.
@@ -80,7 +86,7 @@ fn run_blocks<T: Send>(blocks: usize, work: impl Fn(usize) -> Result<T, String> 
 }
 
 /// A comparison that prints the input also where one side breaks down.
-fn compare_or_tell(input: &Input) -> Result<([u8; CALLS.len()], u64), String> {
+fn compare_or_tell(input: &Input) -> Result<Told, String> {
     catch_unwind(|| compare(input)).unwrap_or_else(|_| Err(format!("broken down on {input:x?}")))
 }
 
@@ -88,11 +94,12 @@ fn compare_block(seed: u64, block: usize) -> Result<Tally, String> {
     let mut random = Random::new(seed, block as u64);
     let mut tally = Tally::default();
     for _ in 0..BLOCK {
-        let (refusals, ties) = compare_or_tell(&Input::random(&mut random))?;
-        for (call, refusal) in refusals.into_iter().enumerate() {
+        let told = compare_or_tell(&Input::random(&mut random))?;
+        for (call, refusal) in told.refusals.into_iter().enumerate() {
             tally.told[call][usize::from(refusal)] += 1;
         }
-        tally.ties += usize::from(ties > 1);
+        tally.ties += usize::from(told.ties > 1);
+        tally.filled += told.filled;
     }
     Ok(tally)
 }
@@ -104,12 +111,13 @@ fn compare_inputs(seed: u64, inputs: usize) {
         total.add(&tally);
     }
     println!(
-        "{} inputs, each through {} calls: no difference; {} picks with ties",
+        "{} inputs, each through {} calls: no difference; {} picks with ties, {} words filled in",
         blocks * BLOCK,
         CALLS.len(),
-        total.ties
+        total.ties,
+        total.filled
     );
-    println!("answers, then refusals 1 to 16:");
+    println!("answers, then refusals 1 to {REFUSALS}:");
     for (name, sums) in CALLS.iter().zip(total.told) {
         let counts: Vec<String> = sums.iter().map(|sum| format!("{sum:>6}")).collect();
         println!("{name:>9} {}", counts.join(" "));
