@@ -12,13 +12,13 @@ sizes : (s : tie.Start) → (length (s .args .state .words) ≡ room) × (length
 sizes s = (search needs, search needs)
 
 array-borrow-prefix-words : tie.Need-array-borrow-prefix-words
-array-borrow-prefix-words c = let s = c .before .before .before in front _ _ (sizes s .0) (s .pre .0)
+array-borrow-prefix-words c = let s = c .before .before .before in front _ (s .args .state .words) (sizes s .0) (s .pre .0)
 
 slice-aggregate-fill : tie.Need-slice-aggregate-fill
 slice-aggregate-fill c = let s = c .before .before .before .before in front-length _ _ (sizes s .0) (s .pre .0)
 
 array-borrow-prefix-filled : tie.Need-array-borrow-prefix-filled
-array-borrow-prefix-filled c = let s = c .before .before .before .before in front _ _ (sizes s .1) (s .pre .1)
+array-borrow-prefix-filled c = let s = c .before .before .before .before in front _ (s .args .strip .words) (sizes s .1) (s .pre .1)
 
 slice-aggregate-fill-2 : tie.Need-slice-aggregate-fill-2
 slice-aggregate-fill-2 c = let s = c .before .before .before .before .before in front-length _ _ (sizes s .1) (s .pre .1)
