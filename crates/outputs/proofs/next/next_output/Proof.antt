@@ -1,8 +1,7 @@
 use mathlib.Core.Path.{ap, ap₂, _∙_}
 use mathlib.Core.List.{List}
-use Prim.Native.Nat.{ℕ, _^_, _<_}
+use Prim.Native.Nat.{ℕ}
 use native.Mathlib.Omega.{arith}
-use lib.ListN.{getD}
 use Rattle.tsc.specs.declared.State.{State}
 use Rattle.tsc.specs.Step.{step}
 use Rattle.tsc.specs.Word.{word}
@@ -26,9 +25,7 @@ word-of-requires c κs =
     let card = s .args .card in
     let ok = s .pre .0 .0 in
     let sx = step-in-range card (used card (s .args .s)) in
-    let next : (k : ℕ) → getD (c .next-state .result .words) k 0 < 2 ^ card .width
-    = λ k. rw (c .next-state .ensures) (holding-lt (card .words) (card .width) (after s) sx k) in
-    ((omega (arith, ok .formed .width), ok .narrow), λ k l. next k)
+    ((omega (arith, ok .formed .width), ok .narrow), λ k l. rw (c .next-state .ensures) (holding-lt (card .words) (card .width) (after s) sx k))
 
 returns : tie.Need-returns
 returns c =
