@@ -23,7 +23,7 @@ use Rattle.card_format.specs.Fields.{Bytes, fields, field, fieldCount, m
 use Rattle.card_format.specs.Reading.{present, offset, valuesAt, wordsOf, values, value, padded, cardFrom, cardOf, partChecks, fieldChecks, checksTo, constantCheck, formChecks, SoundForm}
 use Rattle.card_format.specs.Verdict.{periodChecks, cardChecks, verdict}
 use Rattle.card_format.specs.Writing.{numbersOf, isWritten, fieldBytes, writtenTo, written, unusedClear, inRange, valueChecks, writeChecks, writing, pageAfter, rewriteChecks, rewriting, pageRewritten}
-use Rattle.refusals.proofs.Refusals.{first-none, none-first, first-append, first-left, none-left, none-right, none-append}
+use Rattle.refusals.proofs.Refusals.{first-none, none-first, first-append, first-right, first-left, none-left, none-right, none-append}
 use Rattle.card_format.proofs.Sound.{Fitting, offset-suc, sound-fitting, value-words, field-none}
 use Rattle.card_format.proofs.Fields.{by-table, count-one, same-refl, same-true}
 use Rattle.card_format.proofs.Verdict.{words-sound}
@@ -146,7 +146,7 @@ verdict-rewriting bytes page ne = rewriting-refused bytes page _ ne (first-left 
 -- the room decides on an accepted card
 accepted-told : (bytes : List ℕ) → verdict bytes ≡ 0 → (room : ℕ) → firstOf (rewriteChecks bytes room) ≡ cond (ltb room (length bytes)) 16 0
 unfolding verdict rewriteChecks firstOf
-accepted-told bytes z room = first-append (cardChecks bytes) _ (none-first _ z)
+accepted-told bytes z room = first-right (cardChecks bytes) _ z
 
 -- with room it gives the same bytes and the same length
 pub accepted-rewriting : (bytes page : List ℕ) → verdict bytes ≡ 0 → length bytes ≤ length page

@@ -25,7 +25,7 @@ use Rattle.refusals.specs.Refusals.{firstOf, NoneApplies}
 use Rattle.card_format.specs.Fields.{fields, field, fieldCount, mostCardBytes, tableBit, extent, bytesOf, allowed, same}
 use Rattle.card_format.specs.Reading.{cardFrom}
 use Rattle.card_format.specs.Writing.{numbersOf, isWritten, fieldBytes, writtenTo, written, inRange, valueChecks, writeChecks, writing, pageAfter}
-use Rattle.refusals.proofs.Refusals.{none-first, first-append, first-left}
+use Rattle.refusals.proofs.Refusals.{none-first, first-right, first-left}
 use Rattle.card_format.proofs.Fields.{allowed-at, by-table, each-number, few-entries}
 use Rattle.card_format.proofs.Bytes.{cond-le, length-cond, length-bytesOf}
 
@@ -169,7 +169,7 @@ value-told card room ne = first-left (valueChecks card) _ ne
 -- where there is none, the room decides
 pub room-told : (card : Card) (room : ℕ) → firstOf (valueChecks card) ≡ 0 → firstOf (writeChecks card room) ≡ cond (ltb room (length (written card))) 16 0
 unfolding writeChecks firstOf
-room-told card room z = first-append (valueChecks card) _ (none-first (valueChecks card) z)
+room-told card room z = first-right (valueChecks card) _ z
 
 pub value-range : (card : Card) → firstOf (valueChecks card) ≡ 0 → inRange card ≡ true
 unfolding valueChecks NoneApplies

@@ -13,7 +13,7 @@ use Rattle.tsc.specs.Coverage.{IsState}
 use Rattle.refusals.specs.Refusals.{firstOf, NoneApplies}
 use Rattle.card_format.specs.Reading.{cardOf}
 use Rattle.card_format.specs.Verdict.{cardChecks, verdict}
-use Rattle.refusals.proofs.Refusals.{first-none, none-first, first-append, first-left, none-left, none-right}
+use Rattle.refusals.proofs.Refusals.{first-none, none-first, first-right, first-left, none-left, none-right}
 use Rattle.draws.specs.declared.Opened.{Opened}
 use Rattle.stepping.specs.State.{holding}
 use Rattle.state_words.specs.Checks.{stateChecks}
@@ -32,7 +32,7 @@ module _ (bytes xs : List ℕ) where
 
   pub refusal-state : verdict bytes ≡ 0 → firstOf (stateChecks (cardOf bytes) xs) ≡ refusalFor bytes xs
   unfolding verdict refusalFor
-  refusal-state z = sym (first-append (cardChecks bytes) (stateChecks (cardOf bytes) xs) (none-first (cardChecks bytes) z))
+  refusal-state z = sym (first-right (cardChecks bytes) (stateChecks (cardOf bytes) xs) z)
 
   -- no refusal: the card is accepted and the words are a state of its size
   pub passed : refusalFor bytes xs ≡ 0 → (verdict bytes ≡ 0) × IsState (cardOf bytes) xs

@@ -3,7 +3,6 @@ use mathlib.Core.Path.{_≡_, refl, sym, ap, _∙_}
 use mathlib.Core.Logic.{_≢_}
 use mathlib.Core.List.{List, _++_}
 use Prim.Native.Nat.{ℕ, _+_, _-_, _≤_}
-use native.Mathlib.Decide.{ℕ-discrete}
 use borrow.Author.Tests.{ne-eqb}
 use lib.ListN.{length, take, drop}
 use Rattle.tsc.specs.declared.State.{State}
@@ -12,7 +11,7 @@ use Rattle.tsc.specs.Word.{orbitWords}
 use Rattle.tsc.proofs.Step.{orbit-in-range}
 use Rattle.tsc.proofs.Word.{length-orbitWords}
 use Rattle.refusals.specs.Refusals.{firstOf}
-use Rattle.refusals.proofs.Refusals.{none-first, first-append, first-left}
+use Rattle.refusals.proofs.Refusals.{first-left, first-right, first-both}
 use Rattle.card_format.specs.Reading.{cardOf}
 use Rattle.card_format.proofs.Lists.{put-part}
 use Rattle.stepping.specs.State.{used, holding}
@@ -31,15 +30,12 @@ module _ (bytes xs strip : List ℕ) (place count : ℕ) where
 
   pub refusal-span : refusalFor bytes xs ≡ 0 → firstOf (spanChecks (length strip) place count) ≡ fillRefusal bytes xs strip place count
   unfolding refusalFor fillRefusal
-  refusal-span z = sym (first-append (callChecks bytes xs) (spanChecks (length strip) place count) (none-first (callChecks bytes xs) z))
+  refusal-span z = sym (first-right (callChecks bytes xs) (spanChecks (length strip) place count) z)
 
   -- no refusal: the call's checks are passed, and the span is in the strip
   pub fill-passed : fillRefusal bytes xs strip place count ≡ 0 → (refusalFor bytes xs ≡ 0) × (place + count ≤ length strip)
-  fill-passed z = go (ℕ-discrete (refusalFor bytes xs) 0)
-    where
-      go : Dec (refusalFor bytes xs ≡ 0) → (refusalFor bytes xs ≡ 0) × (place + count ≤ length strip)
-      go (yes p) = (p, span-within (length strip) place count (refusal-span p ∙ z))
-      go (no n) = absurd (n (refusal-call n ∙ z))
+  unfolding refusalFor fillRefusal
+  fill-passed z = let b = first-both (callChecks bytes xs) (spanChecks (length strip) place count) z in (b .0, span-within (length strip) place count (b .1))
 
   -- what a fill promises of its answer r, of the strip ws and of the state words ys that it leaves
   abbrev pub Promised : ℕ → List ℕ → List ℕ → Type 0

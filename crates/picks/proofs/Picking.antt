@@ -3,13 +3,12 @@ use mathlib.Core.Path.{_≡_, sym, ap, ap₂, _∙_}
 use mathlib.Core.Logic.{_≢_}
 use mathlib.Core.List.{List}
 use Prim.Native.Nat.{ℕ, _≤_, _<_}
-use native.Mathlib.Decide.{ℕ-discrete}
 use native.Mathlib.Omega.{arith}
 use borrow.Author.Tests.{ne-eqb}
 use Rattle.tsc.specs.declared.Card.{Card}
 use Rattle.refusals.specs.Refusals.{firstOf}
 use Rattle.card_format.specs.Reading.{cardOf}
-use Rattle.refusals.proofs.Refusals.{none-first, first-append, first-left}
+use Rattle.refusals.proofs.Refusals.{first-left, first-right, first-both}
 use Rattle.draws.specs.declared.Opened.{Opened}
 use Rattle.draws.specs.Calls.{callChecks, refusalFor, opening}
 use Rattle.draws.proofs.Opening.{Clear, begun-refused}
@@ -27,15 +26,12 @@ module _ (bytes xs shovels times : List ℕ) where
 
   pub refusal-list : refusalFor bytes xs ≡ 0 → firstOf (listChecks shovels times) ≡ pickRefusal bytes xs shovels times
   unfolding refusalFor pickRefusal
-  refusal-list z = sym (first-append (callChecks bytes xs) (listChecks shovels times) (none-first (callChecks bytes xs) z))
+  refusal-list z = sym (first-right (callChecks bytes xs) (listChecks shovels times) z)
 
   -- no refusal: the call's checks and the list's are passed
   pub pick-passed : pickRefusal bytes xs shovels times ≡ 0 → (refusalFor bytes xs ≡ 0) × Allowed shovels times
-  pick-passed z = go (ℕ-discrete (refusalFor bytes xs) 0)
-    where
-      go : Dec (refusalFor bytes xs ≡ 0) → (refusalFor bytes xs ≡ 0) × Allowed shovels times
-      go (yes p) = (p, list-allowed shovels times (refusal-list p ∙ z))
-      go (no n) = absurd (n (refusal-call n ∙ z))
+  unfolding refusalFor pickRefusal
+  pick-passed z = let b = first-both (callChecks bytes xs) (listChecks shovels times) z in (b .0, list-allowed shovels times (b .1))
 
   pub picking-refused : (r : ℕ) → r ≢ 0 → r ≡ pickRefusal bytes xs shovels times
       → (Refused r ≡ picking bytes xs shovels times) × (xs ≡ picked bytes xs shovels times)

@@ -47,5 +47,12 @@ unfolding NoneApplies
 none-right [] ds h = h
 none-right (c ∷ cs) ds h = none-right cs ds (h .1)
 
+-- the same by the numbers told: where the first list tells nothing, the second tells; where both together tell nothing, neither does
+pub first-right : (cs ds : List Check) → firstOf cs ≡ 0 → firstOf (cs ++ ds) ≡ firstOf ds
+first-right cs ds z = first-append cs ds (none-first cs z)
+
+pub first-both : (cs ds : List Check) → firstOf (cs ++ ds) ≡ 0 → (firstOf cs ≡ 0) × (firstOf ds ≡ 0)
+first-both cs ds z = let n = none-first (cs ++ ds) z in (first-none cs (none-left cs ds n), first-none ds (none-right cs ds n))
+
 pub none-append : (cs ds : List Check) → NoneApplies cs → NoneApplies ds → NoneApplies (cs ++ ds)
 none-append cs ds h t = none-first (cs ++ ds) (first-append cs ds h ∙ first-none ds t)
