@@ -7,11 +7,10 @@ use Prim.Native.Nat.{ℕ, zero, suc, _+_, _≤_}
 use native.Mathlib.Nat.{le-of-eq, add-comm, add-assoc, add-zero, add-suc}
 use native.Mathlib.Decide.{ℕ-discrete}
 use native.Mathlib.Omega.{arith}
-use lib.ListN.{length, take, drop, set, length-set}
+use lib.ListN.{length, take, drop, length-set}
 use lib.Seq.{paste, paste-zero, paste-suc, take-all}
 use Rattle.cycle.specs.Notation.{iterate}
 use Rattle.cycle.proofs.Iterate.{iterate-add}
-use Rattle.tsc.specs.Step.{orbit}
 use Rattle.tsc.specs.Word.{orbitWords}
 use Rattle.tsc.proofs.Word.{length-orbitWords, orbitWords-at}
 use Rattle.card_format.specs.Reading.{cardOf}
@@ -30,6 +29,11 @@ length-withDraw strip place (Refused r) = refl
 pub drawn-state-append : (bytes xs : List ℕ) (j k : ℕ) → iterate (stepped bytes) (j + k) xs ≡ iterate (stepped bytes) k (iterate (stepped bytes) j xs)
 drawn-state-append bytes xs j k = ap (λ (t : ℕ). iterate (stepped bytes) t xs) (add-comm j k) ∙ iterate-add (stepped bytes) k j xs
 
+pub refused-state : (bytes xs : List ℕ) → refusalFor bytes xs ≢ 0 → (t : ℕ) → iterate (stepped bytes) t xs ≡ xs
+unfolding iterate stepped
+refused-state bytes xs ne zero = refl
+refused-state bytes xs ne (suc t) = ap (stepped bytes) (refused-state bytes xs ne t) ∙ sym (unless-refused bytes xs _ ne)
+
 module _ (bytes xs strip : List ℕ) (place : ℕ) where
   pub length-drawnStrip : (t : ℕ) → length (drawnStrip bytes xs strip place t) ≡ length strip
   unfolding drawnStrip
@@ -43,22 +47,17 @@ module _ (bytes xs strip : List ℕ) (place : ℕ) where
   unfolding drawnStrip
   drawn-append j zero = ap (drawnStrip bytes xs strip place) (add-zero j)
   drawn-append j (suc k) =
+      let strip₁ = drawnStrip bytes (iterate (stepped bytes) j xs) (drawnStrip bytes xs strip place j) (place + j) k in
       ap (drawnStrip bytes xs strip place) (add-suc j k)
       ∙ ap₂ (λ (l : List ℕ) (i : ℕ). withDraw l i (drawing bytes (iterate (stepped bytes) (j + k) xs))) (drawn-append j k) (sym (add-assoc place j k))
-      ∙ ap (λ (ys : List ℕ). withDraw (drawnStrip bytes (iterate (stepped bytes) j xs) (drawnStrip bytes xs strip place j) (place + j) k) (place + j + k) (drawing bytes ys)) (drawn-state-append bytes xs j k)
+      ∙ ap (λ (ys : List ℕ). withDraw strip₁ (place + j + k) (drawing bytes ys)) (drawn-state-append bytes xs j k)
 
-  module _ (ne : refusalFor bytes xs ≢ 0) where
-    pub refused-state : (t : ℕ) → iterate (stepped bytes) t xs ≡ xs
-    unfolding iterate stepped
-    refused-state zero = refl
-    refused-state (suc t) = ap (stepped bytes) (refused-state t) ∙ sym (unless-refused bytes xs _ ne)
-
-    pub refused-strip : (t : ℕ) → drawnStrip bytes xs strip place t ≡ strip
-    unfolding drawnStrip
-    refused-strip zero = refl
-    refused-strip (suc t) =
-        ap (λ (ys : List ℕ). withDraw (drawnStrip bytes xs strip place t) (place + t) (drawing bytes ys)) (refused-state t)
-        ∙ ap (withDraw (drawnStrip bytes xs strip place t) (place + t)) (sym (drawing-refused bytes xs _ refl ne)) ∙ refused-strip t
+  pub refused-strip : refusalFor bytes xs ≢ 0 → (t : ℕ) → drawnStrip bytes xs strip place t ≡ strip
+  unfolding drawnStrip
+  refused-strip ne zero = refl
+  refused-strip ne (suc t) =
+      ap (λ (ys : List ℕ). withDraw (drawnStrip bytes xs strip place t) (place + t) (drawing bytes ys)) (refused-state bytes xs ne t)
+      ∙ ap (withDraw (drawnStrip bytes xs strip place t) (place + t)) (sym (drawing-refused bytes xs _ refl ne)) ∙ refused-strip ne t
 
   module _ (z : refusalFor bytes xs ≡ 0) (count : ℕ) (room : place + count ≤ length strip) where
     row : List ℕ
@@ -84,4 +83,4 @@ drawn-told bytes xs t = go (ℕ-discrete (refusalFor bytes xs) 0)
   where
     go : Dec (refusalFor bytes xs ≡ 0) → refusalFor bytes (iterate (stepped bytes) t xs) ≡ refusalFor bytes xs
     go (yes z) = ap (refusalFor bytes) (draws-state bytes xs z t) ∙ never-refused bytes xs z t ∙ sym z
-    go (no n) = ap (refusalFor bytes) (refused-state bytes xs xs 0 n t)
+    go (no n) = ap (refusalFor bytes) (refused-state bytes xs n t)

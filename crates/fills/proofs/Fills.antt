@@ -27,7 +27,7 @@ module _ (bytes xs strip : List ℕ) (place count : ℕ) where
   as-refused : (t : ℕ) → refusalFor bytes xs ≢ 0 → As t
   as-refused t n =
       let r = promised-refused bytes xs strip place count _ n (refusal-call bytes xs strip place count n) in
-      (sym (r .1 .0) ∙ sym (refused-strip bytes xs strip place n t), sym (r .1 .1) ∙ sym (refused-state bytes xs strip place n t))
+      (sym (r .1 .0) ∙ sym (refused-strip bytes xs strip place n t), sym (r .1 .1) ∙ sym (refused-state bytes xs n t))
 
   module _ (room : place + count ≤ length strip) where
     -- where the span is in the strip, a fill is refused as a draw is

@@ -16,6 +16,7 @@ pub struct Output {
     pub word: u32,
 }
 
+// The next state of the orbit, with its word.
 pub fn next_output(card: Card, p: Powers, s: State) -> Output
     requires { ⌜ Accepted card × Holds card s ⌝ }
     requires { ⌜ IsPower card (card .«odd_power») (p .odd) × IsPower card (card .«even_power») (p .even) ⌝ }
