@@ -46,6 +46,10 @@ module _ (bytes xs strip : List ℕ) (place count : ℕ) where
   unfolding filled filledState
   promised-refused r ne e = (e, rw (sym e) (simp (ne-eqb r 0 ne), simp (ne-eqb r 0 ne)))
 
+  -- A REFUSAL LEAVES STRIP AND STATE AS LENT
+  pub fill-refused : fillRefusal bytes xs strip place count ≢ 0 → (filled bytes xs strip place count ≡ strip) × (filledState bytes xs strip place count ≡ xs)
+  fill-refused ne = let p = promised-refused _ ne refl in (sym (p .1 .0), sym (p .1 .1))
+
   pub promised-passed : fillRefusal bytes xs strip place count ≡ 0
       → Promised 0 (take place strip ++ orbitWords (cardOf bytes) xs count ++ drop (place + count) strip) (orbit (cardOf bytes) xs count)
   unfolding filled filledState

@@ -15,7 +15,7 @@ use Rattle.draws.proofs.Draws.{draws-state}
 use Rattle.spans.proofs.Span.{span-fits}
 use Rattle.fills.specs.Fills.{fillRefusal, filled, filledState}
 use Rattle.fills.specs.Draws.{drawnStrip, drawsMade}
-use Rattle.fills.proofs.Filling.{refusal-call, refusal-span, fill-passed, promised-refused, promised-passed}
+use Rattle.fills.proofs.Filling.{refusal-call, refusal-span, fill-passed, fill-refused, promised-passed}
 use Rattle.fills.proofs.Draws.{length-drawnStrip, drawn-append, drawn-state-append, refused-state, refused-strip, drawn-row, drawn-told}
 
 module _ (bytes xs strip : List ℕ) (place count : ℕ) where
@@ -26,8 +26,8 @@ module _ (bytes xs strip : List ℕ) (place count : ℕ) where
   -- with a card and a state that are refused nothing is drawn
   as-refused : (t : ℕ) → refusalFor bytes xs ≢ 0 → As t
   as-refused t n =
-      let r = promised-refused bytes xs strip place count _ n (refusal-call bytes xs strip place count n) in
-      (sym (r .1 .0) ∙ sym (refused-strip bytes xs strip place n t), sym (r .1 .1) ∙ sym (refused-state bytes xs n t))
+      let r = fill-refused bytes xs strip place count (λ z. n (refusal-call bytes xs strip place count n ∙ z)) in
+      (r .0 ∙ sym (refused-strip bytes xs strip place n t), r .1 ∙ sym (refused-state bytes xs n t))
 
   module _ (room : place + count ≤ length strip) where
     -- where the span is in the strip, a fill is refused as a draw is
@@ -50,7 +50,7 @@ module _ (bytes xs strip : List ℕ) (place count : ℕ) where
   -- a refusal leaves what no draw leaves
   as-none : fillRefusal bytes xs strip place count ≢ 0 → As 0
   unfolding drawnStrip iterate
-  as-none n = let r = promised-refused bytes xs strip place count _ n refl in (sym (r .1 .0), sym (r .1 .1))
+  as-none n = fill-refused bytes xs strip place count n
 
   -- STRIP AND STATE ARE AS SINGLE DRAWS LEAVE THEM, for every input: as many as are asked for, and none where the span ends past the strip
   pub fill-draws : As (drawsMade (length strip) place count)
