@@ -1,5 +1,5 @@
 -- What is to be believed of fills: strip and state are as so many single draws leave them; a fill and a fill behind it are one; a count of 0 changes nothing.
-use mathlib.Core.Path.{_≡_, refl, sym, ap, ap₂, _∙_}
+use mathlib.Core.Path.{_≡_, sym, ap, ap₂, _∙_}
 use mathlib.Core.Bool.{Bool, true, false, cond}
 use mathlib.Core.Logic.{_≢_}
 use mathlib.Core.List.{List}
