@@ -1,14 +1,32 @@
 -- A function applied repeatedly.
-use mathlib.Core.Path.{_≡_, sym, ap, _∙_}
+use mathlib.Core.Path.{_≡_, refl, sym, ap, _∙_}
 use Prim.Native.Nat.{ℕ, zero, suc, _+_, _*_, _/_, _%_, _<_}
 use native.Mathlib.Nat.{zero-add, suc-add, zero-mul, suc-mul, mod-add-div'}
 use Rattle.cycle.specs.Notation.{iterate}
+
+-- the first application can be told from the rest as well as the last
+iterate-inner : {A : Type 0} (f : A → A) (t : ℕ) (x : A) → iterate f (suc t) x ≡ iterate f t (f x)
+unfolding iterate
+iterate-inner f zero x = refl
+iterate-inner f (suc t) x = ap f (iterate-inner f t x)
 
 module _ {A : Type 0} (f : A → A) where
   pub iterate-add : (j k : ℕ) (x : A) → iterate f (j + k) x ≡ iterate f j (iterate f k x)
   unfolding iterate
   iterate-add zero k x = rw zero-add
   iterate-add (suc j) k x = rw suc-add (ap f (iterate-add j k x))
+
+  -- what f leaves as it is stays so
+  pub iterate-fixed : (x : A) → f x ≡ x → (t : ℕ) → iterate f t x ≡ x
+  unfolding iterate
+  iterate-fixed x e zero = refl
+  iterate-fixed x e (suc t) = ap f (iterate-fixed x e t) ∙ e
+
+  -- where g undoes each application of f, as many of g undo as many of f
+  pub iterate-undone : (g : A → A) (x : A) → ((t : ℕ) → g (f (iterate f t x)) ≡ iterate f t x) → (t : ℕ) → iterate g t (iterate f t x) ≡ x
+  unfolding iterate
+  iterate-undone g x h zero = refl
+  iterate-undone g x h (suc t) = iterate-inner g t (f (iterate f t x)) ∙ ap (iterate g t) (h t) ∙ iterate-undone g x h t
 
   -- what returns after p applications returns after each multiple of p, so only the remainder by p counts
   module _ (p : ℕ) (z : A) (back : iterate f p z ≡ z) where

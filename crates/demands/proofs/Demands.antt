@@ -24,7 +24,7 @@ use Rattle.draws.proofs.Opening.{passes, unless-passed}
 use Rattle.draws.proofs.Called.{only-before}
 use Rattle.draws.proofs.Draws.{draws-state, draws-word}
 use Rattle.fills.specs.Fills.{fillRefusal, filled, filledState}
-use Rattle.fills.proofs.Fills.{fill-draws, fill-none, fill-append}
+use Rattle.fills.proofs.Fills.{fill-draws, fill-undone, fill-none, fill-append}
 use Rattle.picks.specs.Picks.{pickRefusal, picking, picked}
 use Rattle.picks.proofs.Choice.{pick-chooses, pick-order}
 use Rattle.picks.proofs.Shift.{standby-alike}
@@ -136,7 +136,7 @@ accepted-iff-covers = verdict-covers
 -- ---- document 02, One
 
 pub filled-as-drawn : FilledAsDrawn
-filled-as-drawn = record { draws = fill-draws; none = fill-none; append = fill-append }
+filled-as-drawn = record { draws = fill-draws; undone = fill-undone; none = fill-none; append = fill-append }
 
 -- ---- the whole
 

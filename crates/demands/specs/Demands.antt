@@ -115,6 +115,9 @@ pub record FilledAsDrawn : Type 0 where
   -- for every input; where the span ends past the strip, no draw is made
   pub draws : (bytes xs strip : List ℕ) (place count : ℕ) → let t = drawsMade (length strip) place count in
       (filled bytes xs strip place count ≡ drawnStrip bytes xs strip place t) × (filledState bytes xs strip place count ≡ iterate (stepped bytes) t xs)
+  -- so many steps back take the state back
+  pub undone : (bytes xs strip : List ℕ) (place count : ℕ) → let t = drawsMade (length strip) place count in
+      iterate (steppedBack bytes) t (filledState bytes xs strip place count) ≡ xs
   pub none : (bytes xs strip : List ℕ) (place : ℕ) → (filled bytes xs strip place 0 ≡ strip) × (filledState bytes xs strip place 0 ≡ xs)
   -- a fill, and a fill behind it, are one fill of both counts
   pub append : (bytes xs strip : List ℕ) (place j k : ℕ) → place + (j + k) ≤ length strip

@@ -1,15 +1,18 @@
 -- Draws one after the other. From a start that a draw does not refuse: no later draw is refused, t draws leave state number t of the orbit, and the next
--- answers the word of state number t + 1. So a module that steps truly once and then stands is ruled out, from every state.
+-- answers the word of state number t + 1; as many steps back undo them. So a module that steps truly once and then stands is ruled out, from every state.
 use mathlib.Core.Path.{_≡_, refl, sym, ap, _∙_}
 use mathlib.Core.List.{List}
 use Prim.Native.Nat.{ℕ, zero, suc}
 use Rattle.cycle.specs.Notation.{iterate}
+use Rattle.cycle.proofs.Iterate.{iterate-undone}
 use Rattle.tsc.specs.Step.{orbit}
 use Rattle.tsc.specs.Word.{word}
 use Rattle.tsc.proofs.Step.{orbit-in-range}
+use Rattle.tsc.proofs.StepBack.{back-of-step}
 use Rattle.card_format.specs.Reading.{cardOf}
+use Rattle.card_format.proofs.Verdict.{accepted-card}
 use Rattle.draws.specs.declared.Draw.the-variants.{Word}
-use Rattle.draws.specs.Calls.{refusalFor, stepped, drawing}
+use Rattle.draws.specs.Calls.{refusalFor, stepped, steppedBack, drawing}
 use Rattle.draws.proofs.Opening.{passed, passes, unless-passed}
 use Rattle.draws.proofs.Called.{drawing-word}
 
@@ -30,3 +33,16 @@ module _ (bytes start : List ℕ) (z : refusalFor bytes start ≡ 0) where
   unfolding iterate
   draws-word t =
       ap (drawing bytes) (draws-state t) ∙ sym (drawing-word bytes (orbit (cardOf bytes) start t) _ refl (never-refused t))
+
+  pub draws-undone : (t : ℕ) → iterate (steppedBack bytes) t (iterate (stepped bytes) t start) ≡ start
+  unfolding iterate steppedBack
+  draws-undone = iterate-undone (stepped bytes) (steppedBack bytes) start back
+    where
+      back : (t : ℕ) → steppedBack bytes (stepped bytes (iterate (stepped bytes) t start)) ≡ iterate (stepped bytes) t start
+      back t =
+          let card = cardOf bytes in
+          let ys = orbit card start t in
+          let p = passed bytes start z in
+          let ok = accepted-card bytes (p .0) in
+          ap (steppedBack bytes) (draws-state (suc t)) ∙ sym (unless-passed bytes (orbit card start (suc t)) _ (never-refused (suc t)))
+          ∙ back-of-step card (ok .formed) (ok .period) ys (orbit-in-range card start (p .1) t) ∙ sym (draws-state t)

@@ -1,4 +1,5 @@
--- What is to be believed of fills: strip and state are as so many single draws leave them; a fill and a fill behind it are one; a count of 0 changes nothing.
+-- What is to be believed of fills: strip and state are as so many single draws leave them, and so many steps back undo it; a count of 0 changes nothing; a fill
+-- and a fill behind it are one.
 use mathlib.Core.Path.{_≡_, sym, ap, ap₂, _∙_}
 use mathlib.Core.Bool.{Bool, true, false, cond}
 use mathlib.Core.Logic.{_≢_}
@@ -10,13 +11,13 @@ use borrow.Author.Tests.{lt-ltb, le-ltb}
 use lib.Dec.{ltb}
 use lib.ListN.{length}
 use Rattle.cycle.specs.Notation.{iterate}
-use Rattle.draws.specs.Calls.{refusalFor, stepped}
+use Rattle.draws.specs.Calls.{refusalFor, stepped, steppedBack}
 use Rattle.draws.proofs.Draws.{draws-state}
 use Rattle.spans.proofs.Span.{span-fits}
 use Rattle.fills.specs.Fills.{fillRefusal, filled, filledState}
 use Rattle.fills.specs.Draws.{drawnStrip, drawsMade}
 use Rattle.fills.proofs.Filling.{refusal-call, refusal-span, fill-passed, fill-refused, promised-passed}
-use Rattle.fills.proofs.Draws.{length-drawnStrip, drawn-append, drawn-state-append, refused-state, refused-strip, drawn-row, drawn-told}
+use Rattle.fills.proofs.Draws.{length-drawnStrip, drawn-append, drawn-state-append, refused-state, refused-strip, drawn-row, drawn-undone, drawn-told}
 
 module _ (bytes xs strip : List ℕ) (place count : ℕ) where
   -- what a fill leaves is what so many draws leave
@@ -59,6 +60,13 @@ module _ (bytes xs strip : List ℕ) (place count : ℕ) where
       go : Dec (length strip < place + count) → As (drawsMade (length strip) place count)
       go (yes l) = rw (lt-ltb (length strip) (place + count) l) (as-none (λ z. absurd (omega (arith, fill-passed bytes xs strip place count z .1))))
       go (no n) = rw (le-ltb (length strip) (place + count) (omega arith)) (fill-draws-in (omega arith))
+
+-- AS MANY STEPS BACK UNDO A FILL, for every input
+pub fill-undone : (bytes xs strip : List ℕ) (place count : ℕ)
+    → iterate (steppedBack bytes) (drawsMade (length strip) place count) (filledState bytes xs strip place count) ≡ xs
+fill-undone bytes xs strip place count =
+    let t = drawsMade (length strip) place count in
+    ap (iterate (steppedBack bytes) t) (fill-draws bytes xs strip place count .1) ∙ drawn-undone bytes xs t
 
 -- A COUNT OF 0 CHANGES NOTHING, refused or not
 pub fill-none : (bytes xs strip : List ℕ) (place : ℕ) → (filled bytes xs strip place 0 ≡ strip) × (filledState bytes xs strip place 0 ≡ xs)
