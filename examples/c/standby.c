@@ -1,6 +1,6 @@
 /* A dispatch server and its standby, each with its own copy of the state and its own order of the list: they send every truck to
-   the same shovel. First version and card are looked at; at the end the lots of the shift are taken back one by one, and bad input
-   shows what a refusal is. */
+   the same shovel. First version and card are looked at, and a simulation desk sees the lots of the shift beforehand; at the end
+   they are taken back one by one, and bad input shows what a refusal is. */
 #include <inttypes.h>
 #include <stdio.h>
 #include <stdlib.h>
@@ -8,7 +8,7 @@
 
 #include "tiedraw.h"
 
-enum { WORDS = 4, SHOVELS = 5, TRUCKS = 8 };
+enum { WORDS = 4, SHOVELS = 5, TRUCKS = 8, LOTS = 6 };
 
 /* TSC-1: every field of the card is absent. */
 static const uint8_t card[] = {0x00};
@@ -52,6 +52,31 @@ static void look_at_version_and_card(void) {
            reading.card.width, reading.card.constant);
 }
 
+/* The words of the next lots by one call, from a copy of the state: the four shovels other than 30 tie for six of the trucks. */
+static void look_ahead(const uint32_t *state) {
+    uint32_t copy[WORDS], strip[LOTS];
+    memcpy(copy, state, sizeof copy);
+    stop_unless(tiedraw_fill(card, sizeof card, copy, WORDS, strip, LOTS, 0, LOTS) == 0, "a fill was refused");
+    printf("the desk, from a copy: ranks among four ties");
+    for (int i = 0; i < LOTS; i++)
+        printf(" %" PRIu32, strip[i] % 4);
+    printf("\n");
+}
+
+/* A bad card, no card, and a strip without room: each refused, and the state stays. */
+static void try_bad_input(uint32_t *state) {
+    uint32_t start[WORDS], strip[LOTS];
+    memcpy(start, state, sizeof start);
+    const uint8_t even_odd_power[] = {0x08, 0x02};
+    tiedraw_word refused = tiedraw_draw(even_odd_power, sizeof even_odd_power, state, WORDS);
+    uint8_t span = tiedraw_fill(card, sizeof card, state, WORDS, strip, LOTS, 3, 4);
+    stop_unless(refused.refusal == TIEDRAW_POWER_PARITY && span == TIEDRAW_SPAN_OUT_OF_BOUNDS, "bad input was not refused");
+    stop_unless(memcmp(state, start, sizeof start) == 0, "a refusal moved the state");
+    printf("a card whose odd power is even: refusal %u, and the state is as it was\n", refused.refusal);
+    printf("no card at all: refusal %u\n", tiedraw_draw(NULL, 0, state, WORDS).refusal);
+    printf("four words from place 3 of a strip of six: refusal %u\n", span);
+}
+
 int main(void) {
     const uint16_t shovels[SHOVELS] = {12, 7, 30, 4, 21};
     const uint16_t standby_shovels[SHOVELS] = {4, 7, 12, 21, 30};
@@ -65,6 +90,7 @@ int main(void) {
     }
     memcpy(start, state, sizeof state);
     memcpy(standby_state, state, sizeof state);
+    look_ahead(state);
 
     int lots = 0;
     for (uint32_t truck = 1; truck <= TRUCKS; truck++) {
@@ -79,11 +105,6 @@ int main(void) {
         stop_unless(tiedraw_step_back(card, sizeof card, state, WORDS) == 0, "a step back was refused");
     stop_unless(memcmp(state, start, sizeof state) == 0, "the steps back lead elsewhere");
     printf("%d steps back: the shift's first state\n", lots);
-
-    const uint8_t even_odd_power[] = {0x08, 0x02};
-    tiedraw_word refused = tiedraw_draw(even_odd_power, sizeof even_odd_power, state, WORDS);
-    stop_unless(refused.refusal == TIEDRAW_POWER_PARITY && memcmp(state, start, sizeof state) == 0, "a bad card was not refused");
-    printf("a card whose odd power is even: refusal %u, and the state is as it was\n", refused.refusal);
-    printf("no card at all: refusal %u\n", tiedraw_draw(NULL, 0, state, WORDS).refusal);
+    try_bad_input(state);
     return 0;
 }
