@@ -109,8 +109,8 @@ uint8_t tiedraw_step_back(const uint8_t *card, size_t card_len, uint32_t *state,
 tiedraw_word tiedraw_draw(const uint8_t *card, size_t card_len, uint32_t *state, size_t words);
 
 /* Writes `count` words into the strip from `place` on, as so many draws would give them, and moves the state as they
-   would; the strip's other words are untouched. The card is read and checked once. 0, or refusal 1 to 11 or 17, also
-   where count is 0. */
+   would; the strip's other words are untouched. The card is read and checked once. Place and count may be any
+   numbers, and their sum is never worked out. 0, or refusal 1 to 11 or 17, also where count is 0. */
 uint8_t tiedraw_fill(const uint8_t *card, size_t card_len, uint32_t *state, size_t words, uint32_t *strip,
                      size_t strip_len, size_t place, size_t count);
 
