@@ -7,14 +7,13 @@ use case_fields::line;
 use case_fields::list;
 use case_fields::list::Numbers;
 use case_fields::list::ROOM;
+use case_fields::list::WORD;
 use case_numbers::number;
 use tsc::Card;
 use tsc::TABLE_SIZE;
 
-// The largest numbers of 8 and 32 bits.
+// The largest number of 8 bits.
 const BYTE: u32 = 0xff;
-
-const WORD: u32 = 0xffff_ffff;
 
 // check CARD
 pub fn replay_check(line: &[u8], card: &[u8]) {

@@ -8,15 +8,14 @@ use case_fields::line;
 use case_fields::list;
 use case_fields::list::Numbers;
 use case_fields::list::ROOM;
+use case_fields::list::WORD;
 use case_numbers::number;
 
 // The most words that a case may ask for.
 const MOST_DRAWS: u64 = 1024;
 
-// The largest numbers of 16 and 32 bits.
+// The largest number of 16 bits.
 const HALF: u32 = 0xffff;
-
-const WORD: u32 = 0xffff_ffff;
 
 // step CARD STATE, back CARD STATE, draw CARD STATE
 pub fn replay_moved(line: &[u8], call: Move, card: &[u8]) {

@@ -2,13 +2,8 @@
 use mathlib.Core.Path.{_≡_, refl, sym, ap, _∙_}
 use Prim.Native.Nat.{ℕ, zero, suc, _+_, _*_, _/_, _%_, _<_}
 use native.Mathlib.Nat.{zero-add, suc-add, zero-mul, suc-mul, mod-add-div'}
+use native.Mathlib.Numerals.{add-one}
 use Rattle.cycle.specs.Notation.{iterate}
-
--- the first application can be told from the rest as well as the last
-iterate-inner : {A : Type 0} (f : A → A) (t : ℕ) (x : A) → iterate f (suc t) x ≡ iterate f t (f x)
-unfolding iterate
-iterate-inner f zero x = refl
-iterate-inner f (suc t) x = ap f (iterate-inner f t x)
 
 module _ {A : Type 0} (f : A → A) where
   pub iterate-add : (j k : ℕ) (x : A) → iterate f (j + k) x ≡ iterate f j (iterate f k x)
@@ -22,12 +17,6 @@ module _ {A : Type 0} (f : A → A) where
   iterate-fixed x e zero = refl
   iterate-fixed x e (suc t) = ap f (iterate-fixed x e t) ∙ e
 
-  -- where g undoes each application of f, as many of g undo as many of f
-  pub iterate-undone : (g : A → A) (x : A) → ((t : ℕ) → g (f (iterate f t x)) ≡ iterate f t x) → (t : ℕ) → iterate g t (iterate f t x) ≡ x
-  unfolding iterate
-  iterate-undone g x h zero = refl
-  iterate-undone g x h (suc t) = iterate-inner g t (f (iterate f t x)) ∙ ap (iterate g t) (h t) ∙ iterate-undone g x h t
-
   -- what returns after p applications returns after each multiple of p, so only the remainder by p counts
   module _ (p : ℕ) (z : A) (back : iterate f p z ≡ z) where
     pub iterate-rounds : (j : ℕ) → iterate f (j * p) z ≡ z
@@ -39,6 +28,14 @@ module _ {A : Type 0} (f : A → A) where
     iterate-mod k =
         ap (iterate f (k % p)) (sym (iterate-rounds (k / p))) ∙ sym (iterate-add (k % p) (k / p * p) z)
         ∙ ap (λ (x : ℕ). iterate f x z) (mod-add-div' k p)
+
+-- where g undoes each application of f, as many of g undo as many of f
+pub iterate-undone : {A : Type 0} (f g : A → A) (x : A) → ((t : ℕ) → g (f (iterate f t x)) ≡ iterate f t x) → (t : ℕ) → iterate g t (iterate f t x) ≡ x
+unfolding iterate
+iterate-undone f g x h zero = refl
+iterate-undone f g x h (suc t) =
+    let y = f (iterate f t x) in
+    ap (λ (n : ℕ). iterate g n y) (sym (add-one t)) ∙ iterate-add g t 1 y ∙ ap (iterate g t) (h t) ∙ iterate-undone f g x h t
 
 -- f maps the numbers below N to numbers below N
 abbrev pub MapsBelow : ℕ → (ℕ → ℕ) → Type 0

@@ -12,7 +12,7 @@ use Rattle.tsc.specs.Columns.{column}
 use Rattle.tsc.specs.Step.{step, orbit}
 use Rattle.tsc.specs.Word.{orbitWords}
 use Rattle.tsc.specs.Coverage.{stepBack}
-use Rattle.tsc.proofs.Step.{step-in-range, column-step}
+use Rattle.tsc.proofs.Step.{column-step}
 use Rattle.tsc.proofs.StepBack.{back-of-step}
 use Rattle.card_format.specs.Reading.{cardOf, formChecks, noCard, reading}
 use Rattle.card_format.specs.Verdict.{cardChecks, verdict, Accepted}
@@ -22,7 +22,7 @@ use Rattle.card_format.proofs.RoundTrip.{accepted-writing}
 use Rattle.draws.specs.Calls.{refusalFor, stepped, steppedBack, drawing}
 use Rattle.draws.proofs.Opening.{passes, unless-passed}
 use Rattle.draws.proofs.Called.{only-before}
-use Rattle.draws.proofs.Draws.{draws-state, draws-word}
+use Rattle.draws.proofs.Draws.{back-of-stepped, draws-state, draws-word}
 use Rattle.fills.specs.Fills.{fillRefusal, filled, filledState}
 use Rattle.fills.proofs.Fills.{fill-draws, fill-undone, fill-none, fill-append}
 use Rattle.picks.specs.Picks.{pickRefusal, picking, picked}
@@ -93,9 +93,7 @@ published =
 pub undone : Undone
 undone =
     record {
-      backOfStep = λ bytes xs h. let card = cardOf bytes in
-          ap (steppedBack bytes) (forth bytes xs h) ∙ back bytes (step card xs) (record { accepted = h .accepted; state = step-in-range card xs })
-          ∙ back-of-step card (ok bytes xs h .formed) (ok bytes xs h .period) xs (h .state);
+      backOfStep = λ bytes xs h. back-of-stepped bytes xs (none bytes xs h);
       stepOfBack = λ bytes xs h. let card = cardOf bytes in
           let b = only-before card (ok bytes xs h) xs (h .state) in
           ap (stepped bytes) (back bytes xs h) ∙ forth bytes (stepBack card xs) (record { accepted = h .accepted; state = b .0 }) ∙ b .1;

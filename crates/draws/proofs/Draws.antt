@@ -5,9 +5,10 @@ use mathlib.Core.List.{List}
 use Prim.Native.Nat.{ℕ, zero, suc}
 use Rattle.cycle.specs.Notation.{iterate}
 use Rattle.cycle.proofs.Iterate.{iterate-undone}
-use Rattle.tsc.specs.Step.{orbit}
+use Rattle.tsc.specs.Coverage.{stepBack}
+use Rattle.tsc.specs.Step.{step, orbit}
 use Rattle.tsc.specs.Word.{word}
-use Rattle.tsc.proofs.Step.{orbit-in-range}
+use Rattle.tsc.proofs.Step.{step-in-range, orbit-in-range}
 use Rattle.tsc.proofs.StepBack.{back-of-step}
 use Rattle.card_format.specs.Reading.{cardOf}
 use Rattle.card_format.proofs.Verdict.{accepted-card}
@@ -15,6 +16,17 @@ use Rattle.draws.specs.declared.Draw.the-variants.{Word}
 use Rattle.draws.specs.Calls.{refusalFor, stepped, steppedBack, drawing}
 use Rattle.draws.proofs.Opening.{passed, passes, unless-passed}
 use Rattle.draws.proofs.Called.{drawing-word}
+
+-- a step back after a step
+pub back-of-stepped : (bytes xs : List ℕ) → refusalFor bytes xs ≡ 0 → steppedBack bytes (stepped bytes xs) ≡ xs
+unfolding stepped steppedBack
+back-of-stepped bytes xs z =
+    let card = cardOf bytes in
+    let p = passed bytes xs z in
+    let ok = accepted-card bytes (p .0) in
+    ap (steppedBack bytes) (sym (unless-passed bytes xs (step card xs) z))
+    ∙ sym (unless-passed bytes (step card xs) (stepBack card (step card xs)) (passes bytes (step card xs) (p .0) (step-in-range card xs)))
+    ∙ back-of-step card (ok .formed) (ok .period) xs (p .1)
 
 module _ (bytes start : List ℕ) (z : refusalFor bytes start ≡ 0) where
   pub never-refused : (t : ℕ) → refusalFor bytes (orbit (cardOf bytes) start t) ≡ 0
@@ -35,14 +47,6 @@ module _ (bytes start : List ℕ) (z : refusalFor bytes start ≡ 0) where
       ap (drawing bytes) (draws-state t) ∙ sym (drawing-word bytes (orbit (cardOf bytes) start t) _ refl (never-refused t))
 
   pub draws-undone : (t : ℕ) → iterate (steppedBack bytes) t (iterate (stepped bytes) t start) ≡ start
-  unfolding iterate steppedBack
-  draws-undone = iterate-undone (stepped bytes) (steppedBack bytes) start back
-    where
-      back : (t : ℕ) → steppedBack bytes (stepped bytes (iterate (stepped bytes) t start)) ≡ iterate (stepped bytes) t start
-      back t =
-          let card = cardOf bytes in
-          let ys = orbit card start t in
-          let p = passed bytes start z in
-          let ok = accepted-card bytes (p .0) in
-          ap (steppedBack bytes) (draws-state (suc t)) ∙ sym (unless-passed bytes (orbit card start (suc t)) _ (never-refused (suc t)))
-          ∙ back-of-step card (ok .formed) (ok .period) ys (orbit-in-range card start (p .1) t) ∙ sym (draws-state t)
+  draws-undone =
+      iterate-undone (stepped bytes) (steppedBack bytes) start
+      (λ t. back-of-stepped bytes (iterate (stepped bytes) t start) (ap (refusalFor bytes) (draws-state t) ∙ never-refused t))

@@ -3,6 +3,7 @@ ghost use mathlib.Core.Path.{_≡_};
 ghost use Rattle.fills.specs.Fills.{fillRefusal, filled, filledState};
 use generator::call;
 use outputs::row;
+use spans::check;
 use state_words::lent;
 
 // So many words into the strip from the place on, as single draws would give them, and the state moved as they would move it: 0, or the first refusal of
@@ -16,7 +17,7 @@ pub fn fill(card: &[u8], state: &mut [u32], strip: &mut [u32], place: usize, cou
     if begun.refusal != 0 {
         return begun.refusal;
     }
-    let told = spans::span_refusal(strip.len(), place, count);
+    let told = check::span_refusal(strip.len(), place, count);
     if told != 0 {
         return told;
     }

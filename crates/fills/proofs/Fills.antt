@@ -32,14 +32,14 @@ module _ (bytes xs strip : List ℕ) (place count : ℕ) where
 
   module _ (room : place + count ≤ length strip) where
     -- where the span is in the strip, a fill is refused as a draw is
-    pub fill-told : fillRefusal bytes xs strip place count ≡ refusalFor bytes xs
+    fill-told : fillRefusal bytes xs strip place count ≡ refusalFor bytes xs
     fill-told = go (ℕ-discrete (refusalFor bytes xs) 0)
       where
         go : Dec (refusalFor bytes xs ≡ 0) → fillRefusal bytes xs strip place count ≡ refusalFor bytes xs
         go (yes z) = sym (refusal-span bytes xs strip place count z) ∙ span-fits (length strip) place count room ∙ sym z
         go (no n) = sym (refusal-call bytes xs strip place count n)
 
-    pub fill-draws-in : As count
+    fill-draws-in : As count
     fill-draws-in = go (ℕ-discrete (refusalFor bytes xs) 0)
       where
         go : Dec (refusalFor bytes xs ≡ 0) → As count
@@ -48,17 +48,13 @@ module _ (bytes xs strip : List ℕ) (place count : ℕ) where
             (sym (r .1 .0) ∙ sym (drawn-row bytes xs strip place z count room), sym (r .1 .1) ∙ sym (draws-state bytes xs z count))
         go (no n) = as-refused count n
 
-  -- a refusal leaves what no draw leaves
-  as-none : fillRefusal bytes xs strip place count ≢ 0 → As 0
-  unfolding drawnStrip iterate
-  as-none n = fill-refused bytes xs strip place count n
-
   -- STRIP AND STATE ARE AS SINGLE DRAWS LEAVE THEM, for every input: as many as are asked for, and none where the span ends past the strip
   pub fill-draws : As (drawsMade (length strip) place count)
+  unfolding drawnStrip iterate
   fill-draws = go (decLt (length strip) (place + count))
     where
       go : Dec (length strip < place + count) → As (drawsMade (length strip) place count)
-      go (yes l) = rw (lt-ltb (length strip) (place + count) l) (as-none (λ z. absurd (omega (arith, fill-passed bytes xs strip place count z .1))))
+      go (yes l) = rw (lt-ltb (length strip) (place + count) l) (fill-refused bytes xs strip place count (λ z. absurd (omega (arith, fill-passed bytes xs strip place count z .1))))
       go (no n) = rw (le-ltb (length strip) (place + count) (omega arith)) (fill-draws-in (omega arith))
 
 -- AS MANY STEPS BACK UNDO A FILL, for every input

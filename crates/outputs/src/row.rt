@@ -13,7 +13,7 @@ use tsc::Card;
 use tsc::State;
 
 // The words of the next states of the orbit, so many of them, over the first words lent, and the last of these states. The table's powers are worked out
-// once. The fill has found that there is room.
+// once. The fill calls it once nothing is refused, and so there is room.
 pub fn fill_words(card: Card, s: State, count: usize, words: &mut [u32]) -> State
     requires { ⌜ Accepted card × Holds card s × (count ≤ length (now words)) ⌝ }
     ensures { λ r. ⌜ r ≡ holding (orbit card (used card s) count) ⌝ }

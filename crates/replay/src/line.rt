@@ -5,6 +5,7 @@ use case_fields::line;
 use case_fields::list;
 use case_states::Move;
 use case_states::states;
+use case_strips::strips;
 
 // The calls that take a card's bytes.
 enum Call {
@@ -31,7 +32,7 @@ fn replay_bytes(line: &[u8], call: Call, bytes: &[u8], n: usize) {
         Call::Back => states::replay_moved(line, Move::Back, card),
         Call::Draw => states::replay_moved(line, Move::Draw, card),
         Call::Words => states::replay_words(line, card),
-        Call::Strip => case_strips::replay_strip(line, card),
+        Call::Strip => strips::replay_strip(line, card),
         Call::Pick => states::replay_pick(line, card),
     }
 }

@@ -1,8 +1,8 @@
 use mathlib.Core.Path.{sym}
 use native.Mathlib.Omega.{arith}
 use Rattle.spans.proofs.Span.{span-fits, span-outside}
-use Rattle.spans.proofs.span_refusal.Statement.{statement}
-use Rattle.spans.proofs.span_refusal.Tie as tie
+use Rattle.spans.proofs.check.span_refusal.Statement.{statement}
+use Rattle.spans.proofs.check.span_refusal.Tie as tie
 
 returns : tie.Need-returns
 returns c = let a = c .before .args in sym (span-outside (a .size) (a .place) (a .count) (omega arith))

@@ -4,8 +4,8 @@ use borrow.Author.Needs.{needs}
 use lib.ListN.{length}
 use Rattle.case_fields.specs.Lists.{room}
 use Rattle.case_answers.proofs.Front.{front, front-length}
-use Rattle.case_strips.proofs.print_fill.Statement.{statement}
-use Rattle.case_strips.proofs.print_fill.Tie as tie
+use Rattle.case_strips.proofs.strips.print_fill.Statement.{statement}
+use Rattle.case_strips.proofs.strips.print_fill.Tie as tie
 
 -- both arrays are as long as an array of numbers is
 sizes : (s : tie.Start) → (length (s .args .state .words) ≡ room) × (length (s .args .strip .words) ≡ room)
