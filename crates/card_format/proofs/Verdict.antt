@@ -22,7 +22,7 @@ use Rattle.card_format.specs.Verdict.{periodChecks, cardChecks, verdict,
 use Rattle.refusals.proofs.Refusals.{first-none, none-first, first-append, first-left, none-left, none-right}
 use Rattle.card_format.proofs.Sound.{sound-value, sound-card}
 
-neither : (a b : Bool) → (a || b) ≡ false → (a ≡ false) × (b ≡ false)
+pub neither : (a b : Bool) → (a || b) ≡ false → (a ≡ false) × (b ≡ false)
 neither true b h = absurd (true≢false h)
 neither false b h = (refl, h)
 

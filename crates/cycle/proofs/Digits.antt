@@ -2,7 +2,7 @@
 use mathlib.Core.Path.{_≡_, refl, sym, ap, ap₂, _∙_}
 use mathlib.Core.List.{List, [], _∷_}
 use Prim.Native.Nat.{ℕ, zero, suc, _+_, _-_, _*_, _/_, _%_, _^_, _≤_, _<_}
-use native.Mathlib.Nat.{mul-assoc, add-comm, le-refl, pow-zero, pow-succ', one-le-pow, mod-one, mod-eq-of-lt, add-mul-div-right, add-mul-mod-self-right}
+use native.Mathlib.Nat.{mul-zero, mul-suc, mul-assoc, add-comm, le-refl, pow-zero, pow-suc, pow-succ', one-le-pow, mod-one, mod-eq-of-lt, add-mul-div-right, add-mul-mod-self-right}
 use native.Mathlib.Decide.{ℕ-discrete}
 use native.Mathlib.Omega.{arith}
 use lib.Arith.{digits-div, digits-mod, digits-lt, mod-mul}
@@ -10,6 +10,11 @@ use lib.ListN.{length, getD, take}
 use lib.Pow.{pow-add}
 use Rattle.cycle.specs.Notation.{sum, tabulate}
 use Rattle.cycle.proofs.Sum.{sum-ext}
+
+-- B ^ n where the base is itself a power
+pub pow-mul : (b m n : ℕ) → b ^ (m * n) ≡ (b ^ m) ^ n
+pow-mul b m zero = ap (λ (a : ℕ). b ^ a) (mul-zero m) ∙ pow-zero b ∙ sym (pow-zero (b ^ m))
+pow-mul b m (suc n) = ap (λ (a : ℕ). b ^ a) (mul-suc m n) ∙ pow-add b (m * n) m ∙ ap (λ (a : ℕ). a * b ^ m) (pow-mul b m n) ∙ sym (pow-suc (b ^ m) n)
 
 -- ---- the number with the n digits d 0 .. d (n - 1)
 

@@ -3,6 +3,7 @@ pub mod Every
 pub mod Parity
 pub mod Sum
 pub mod Count
+pub mod First
 pub mod Pigeonhole
 pub mod Digits
 pub mod Bits
@@ -11,3 +12,4 @@ pub mod Cycle
 pub mod FirstReturn
 pub mod Inverse
 pub mod Skew
+pub mod Remainder

@@ -98,6 +98,12 @@ sum-permute n f h b s =
     ∙ sum-ext n (λ x. taken n f x * h x) h (λ x l.
     rw (all-one n (taken n f) (λ y j. taken-pos n f (s y j .0) y (s y j .1) (s y j .2)) all x l, one-mul))
 
+-- one of the numbers below n is v
+pub count-equal : (n v : ℕ) → v < n → count n (λ k. eqb k v) ≡ 1
+unfolding taken
+count-equal n v l =
+    all-one n (taken n (λ k. k)) (λ x j. taken-pos n (λ k. k) x x j refl) (le-of-eq (sum-taken n n (λ k. k) (λ k j. j))) v l
+
 -- ---- the pigeonhole principle
 
 one-of : (n : ℕ) (f : ℕ → ℕ) (x : ℕ) → 1 ≤ taken n f x → (k : ℕ) × (k < n) × (f k ≡ x)
@@ -154,3 +160,11 @@ surjective-of-injective n f b d x l =
         go : Dec (2 ≤ taken n f y) → taken n f y ≤ 1
         go (yes p) = absurd (d (two-of n f y p))
         go (no p) = omega arith
+
+-- so a sum along such an f is the sum over 0 .. n - 1
+pub sum-injective : (n : ℕ) (f h : ℕ → ℕ) → ((k : ℕ) → k < n → f k < n) → ((i j : ℕ) → i < n → j < n → f i ≡ f j → i ≡ j)
+    → sum n (λ k. h (f k)) ≡ sum n h
+sum-injective n f h b inj = sum-permute n f h b (surjective-of-injective n f b repeats)
+  where
+    repeats : Repeats n f → ⊥
+    repeats (i, j, lt, l, e) = let same = inj i j (omega arith) l e in omega arith

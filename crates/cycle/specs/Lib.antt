@@ -1,3 +1,4 @@
--- Notation, and what a single cycle is.
+-- Notation, what a single cycle is, and fair ranks.
 pub mod Notation
 pub mod Cycle
+pub mod Fair

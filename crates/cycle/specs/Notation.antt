@@ -1,4 +1,4 @@
--- Notation: a finite sum, a test of all numbers below n, how many of them meet one, a list by its entries or filled up with zeros, a function applied repeatedly, a bit.
+-- Notation: a finite sum, a test of all numbers below n, how many of them meet one and which is the first, a list by its entries or filled up with zeros, a function applied repeatedly, a bit.
 use mathlib.Core.Bool.{Bool, true, cond, _&&_}
 use mathlib.Core.List.{List, [], _∷_, _++_}
 use Prim.Native.Nat.{ℕ, zero, suc, _+_, _-_, _/_, _%_, _^_}
@@ -21,6 +21,11 @@ one b = cond b 1 0
 -- how many of 0, 1, .., n - 1 meet p
 unfoldable pub count : ℕ → (ℕ → Bool) → ℕ
 count n p = sum n (λ i. one (p i))
+
+-- the first of 0, 1, .. that meets p, or n where none below n does
+unfoldable pub first : ℕ → (ℕ → Bool) → ℕ
+first zero p = zero
+first (suc n) p = cond (p zero) zero (suc (first n (λ i. p (suc i))))
 
 -- the list f 0, f 1, .., f (n - 1)
 unfoldable pub tabulate : ℕ → (ℕ → ℕ) → List ℕ

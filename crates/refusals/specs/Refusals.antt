@@ -64,6 +64,9 @@ bufferTooSmall = numbered 16 tt  -- small page
 abbrev pub spanOutOfBounds : Refusal
 spanOutOfBounds = numbered 17 tt  -- span
 
+abbrev pub tooManyTies : Refusal
+tooManyTies = numbered 18 tt  -- too many equals
+
 -- a refusal and whether its condition holds
 pub record Check : Type 0 where
   pub refusal : Refusal

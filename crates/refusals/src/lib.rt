@@ -34,3 +34,5 @@ pub const DUPLICATE_SHOVEL: u8 = 15;
 pub const BUFFER_TOO_SMALL: u8 = 16;
 // span
 pub const SPAN_OUT_OF_BOUNDS: u8 = 17;
+// too many equals
+pub const TOO_MANY_TIES: u8 = 18;

@@ -1,5 +1,4 @@
 -- What is proved of ties.
-pub mod First
 pub mod Least
 pub mod Rank
 pub mod Order

@@ -2,19 +2,14 @@
 use mathlib.Core.Path.{_≡_}
 use mathlib.Core.Bool.{Bool, true, cond, not, _&&_}
 use mathlib.Core.List.{List}
-use Prim.Native.Nat.{ℕ, zero, suc, _<_}
+use Prim.Native.Nat.{ℕ, _<_}
 use lib.Dec.{eqb, leb, ltb}
 use lib.ListN.{length, getD}
-use Rattle.cycle.specs.Notation.{every, count}
+use Rattle.cycle.specs.Notation.{every, count, first}
 
 -- the most shovels of a pick
 abbrev pub mostShovels : ℕ
 mostShovels = 64
-
--- the first of 0, 1, .. that meets p, or n where none below n does
-unfoldable pub first : ℕ → (ℕ → Bool) → ℕ
-first zero p = zero
-first (suc n) p = cond (p zero) zero (suc (first n (λ i. p (suc i))))
 
 -- whether shovel i is one of the ties (document 01: the equals): no time is less than its own
 unfoldable pub isTie : List ℕ → ℕ → Bool

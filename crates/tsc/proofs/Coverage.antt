@@ -7,22 +7,23 @@ use mathlib.Core.Path.{_≡_, refl, sym, ap, ap₂, _∙_, subst}
 use mathlib.Core.Logic.{_↔_, _⊎_, inl, inr}
 use mathlib.Core.List.{List}
 use Prim.Native.Nat.{ℕ, zero, suc, pred, _+_, _-_, _*_, _%_, _^_, _<_}
-use native.Mathlib.Nat.{zero-add, suc-add, add-zero, zero-mul, mul-zero, mul-suc, mul-comm, add-comm, le-refl, mod-lt, pow-zero, pow-suc, pow-succ', one-le-pow, mod-eq-of-lt, mul-one, one-mul, mul-pos, suc-pred-eq-of-pos, lt-of-lt-of-le, pow-le-pow-right, le-suc, mod-one, div-one, suc-mul, eq-zero-or-pos, mul-mod-left, add-mod}
+use native.Mathlib.Nat.{zero-add, suc-add, add-zero, zero-mul, mul-zero, mul-comm, add-comm, le-refl, mod-lt, pow-zero, pow-suc, pow-succ', one-le-pow, mod-eq-of-lt, mul-one, one-mul, mul-pos, suc-pred-eq-of-pos, lt-of-lt-of-le, pow-le-pow-right, le-suc, mod-one, div-one, suc-mul, eq-zero-or-pos, mul-mod-left, add-mod}
 use native.Mathlib.Decide.{decLt}
 use native.Mathlib.Omega.{arith}
 use lib.Arith.{lt-one}
 use lib.Dec.{eqb}
-use lib.Pow.{pow-pos, pow-add, pow-mono}
+use lib.Pow.{pow-pos, pow-mono}
 use Rattle.cycle.specs.Notation.{sum, iterate}
 use Rattle.cycle.specs.Cycle.{SingleCycle}
 use Rattle.cycle.proofs.Parity.{bit-cases, bits-cases, odd-mul, even-mul, add-parity}
+use Rattle.cycle.proofs.Digits.{pow-mul}
 use Rattle.cycle.proofs.Iterate.{MapsBelow, iterate-add}
 use Rattle.cycle.proofs.Cycle.{Reaches, cycle-of-return, cycle-of-reaches, cycle-reaches, visits-once, cycle-from, sum-around}
 use Rattle.cycle.proofs.Skew.{skew, roundPower, skew-cycle, skew-even, skew-low, skew-below}
 use Rattle.tsc.specs.declared.Card.{Card}
 use Rattle.tsc.specs.Step.{entry, power, orbit}
 use Rattle.tsc.specs.Coverage.{IsState, states, Covers, WellFormed, FullPeriod}
-use Rattle.tsc.proofs.Number.{number, number-lt, number-injective, stateOf, stateOf-in-range, number-stateOf}
+use Rattle.tsc.proofs.Number.{number, number-below, number-injective, stateOf, stateOf-in-range, number-of}
 use Rattle.tsc.proofs.Parity.{selectorBit, selectorBit-lt, selectorBit-parity}
 use Rattle.tsc.proofs.Step.{orbit-in-range, powerBelow, stepNumber, number-step}
 
@@ -34,10 +35,6 @@ size card i = (2 ^ card .words) ^ i
 
 size-pos : (card : Card) (i : ℕ) → 0 < size card i
 size-pos card i = one-le-pow i (2 ^ card .words) (pow-pos (card .words))
-
-pow-mul : (m n : ℕ) → 2 ^ (m * n) ≡ (2 ^ m) ^ n
-pow-mul m zero = ap (λ (a : ℕ). 2 ^ a) (mul-zero m) ∙ sym (pow-zero (2 ^ m))
-pow-mul m (suc n) = ap (λ (a : ℕ). 2 ^ a) (mul-suc m n) ∙ pow-add 2 (m * n) m ∙ ap (λ (a : ℕ). a * 2 ^ m) (pow-mul m n) ∙ sym (pow-suc (2 ^ m) n)
 
 -- ---- the powers of the table that a selector picks, added up
 
@@ -93,9 +90,6 @@ module _ (card : Card) (wf : WellFormed card) where
 
   -- ---- an orbit of states is an orbit of their numbers
 
-  number-below : (xs : List ℕ) → IsState card xs → number m n xs < states card
-  number-below xs sx = rw (pow-mul m n) (number-lt m xs (sx .0) n)
-
   module _ (start : List ℕ) (st : IsState card start) where
     orbit-number : (t : ℕ) → number m n (orbit card start t) ≡ iterate (stepNumber card n) t (number m n start)
     unfolding iterate
@@ -108,7 +102,7 @@ module _ (card : Card) (wf : WellFormed card) where
     cycle-covers c =
         record {
           once = λ xs sx.
-              let r = c .reaches (number m n xs) (number-below xs sx) in (
+              let r = c .reaches (number m n xs) (number-below m n xs sx) in (
                 r .0,
                 r .1,
                 number-injective m n (orbit card start (r .0)) xs (orbit-in-range card start st (r .0)) sx (orbit-number (r .0) ∙ r .2),
@@ -127,7 +121,7 @@ module _ (card : Card) (wf : WellFormed card) where
         cycle-of-return (states card) (stepNumber card n) (number m n start) (pow-pos (m * n))
         (λ x l.
         let r = c .once (stateOf m n x) (stateOf-in-range m n x) in
-        (r .0, sym (orbit-number (r .0)) ∙ ap (number m n) (r .2) ∙ number-stateOf m n x (subst (λ (a : ℕ). x < a) (pow-mul m n) l)))
+        (r .0, sym (orbit-number (r .0)) ∙ ap (number m n) (r .2) ∙ number-of m n x l))
         (sym (orbit-number (states card)) ∙ ap (number m n) (c .returns))
 
   -- ---- the power of the table that one round of the i low columns comes to
@@ -181,8 +175,8 @@ module _ (card : Card) (wf : WellFormed card) where
     period-covers start st =
         cycle-covers start st
         (cycle-from (states card) (stepNumber card n) 0 (pow-pos (m * n))
-        (subst (λ (a : ℕ). SingleCycle a (stepNumber card n) 0) (sym (pow-mul m n)) (cycles n))
-        (number m n start) (number-below start st))
+        (subst (λ (a : ℕ). SingleCycle a (stepNumber card n) 0) (sym (pow-mul 2 m n)) (cycles n))
+        (number m n start) (number-below m n start st))
 
   -- ---- from coverage to the premises: each part of the low columns is a single cycle
 
@@ -302,7 +296,7 @@ module _ (card : Card) (wf : WellFormed card) where
       let dn : n ≡ (n - 2) + 2 = omega (arith, wf .width) in
       let c2 : SingleCycle (size card 2) (stepNumber card 2) 0 =
       lowest (n - 2) 2
-      (subst (λ (a : ℕ). SingleCycle (size card a) (stepNumber card a) 0) dn (subst (λ (a : ℕ). SingleCycle a (stepNumber card n) 0) (pow-mul m n) c)) in
+      (subst (λ (a : ℕ). SingleCycle (size card a) (stepNumber card a) 0) dn (subst (λ (a : ℕ). SingleCycle a (stepNumber card n) 0) (pow-mul 2 m n) c)) in
       let c1 : SingleCycle (size card 1) (stepNumber card 1) 0 = lower 1 c2 in
       let g : SingleCycle (2 ^ m) (entry card) 0 = table-cycle c1 in
       let p = parities (powers-must-be-odd (g .returns) 0 cycle-none c1) (powers-must-be-odd (g .returns) 1 c1 c2) in

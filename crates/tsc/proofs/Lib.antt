@@ -9,4 +9,4 @@ pub mod Coverage
 pub mod StepBack
 pub mod LowWords
 pub mod Word
-pub mod Onto
+pub mod Balanced

@@ -1,12 +1,18 @@
--- A state as one number: its columns are the digits in base 2^m, column 0 lowest.
-use mathlib.Core.Path.{_≡_, _∙_, subst}
+-- A state as one number: its columns are the digits in base 2^m, column 0 lowest. Counting states is counting their numbers.
+use mathlib.Core.Path.{_≡_, sym, ap, _∙_, subst}
+use mathlib.Core.Bool.{Bool}
 use mathlib.Core.List.{List}
 use Prim.Native.Nat.{ℕ, suc, _+_, _*_, _/_, _%_, _^_, _<_}
 use native.Mathlib.Nat.{mod-lt, mod-eq-of-lt}
 use lib.ListN.{length}
 use lib.Pow.{pow-pos}
-use Rattle.cycle.proofs.Digits.{fromDigits, Digits, fromDigits-ext, fromDigits-suc, fromDigits-lt, fromDigits-div, fromDigits-mod, fromDigits-of, fromDigits-injective}
+use Rattle.cycle.specs.Notation.{one, count}
+use Rattle.cycle.proofs.Count.{count-ext}
+use Rattle.cycle.proofs.Pigeonhole.{sum-injective}
+use Rattle.cycle.proofs.Digits.{pow-mul, fromDigits, Digits, fromDigits-ext, fromDigits-suc, fromDigits-lt, fromDigits-div, fromDigits-mod, fromDigits-of, fromDigits-injective}
+use Rattle.tsc.specs.declared.Card.{Card}
 use Rattle.tsc.specs.Columns.{InRange, column, fromColumns}
+use Rattle.tsc.specs.Coverage.{states, StandsOnce, ListsStates}
 use Rattle.tsc.proofs.Columns.{column-lt, column-fromColumns, fromColumns-in-range, columns-ext}
 
 -- the number of the i low columns
@@ -57,3 +63,46 @@ number-stateOf m n z l =
     fromDigits-ext (2 ^ m) n (λ i. column i (stateOf m n z)) (λ i. z / (2 ^ m) ^ i % 2 ^ m) (λ i k.
     column-fromColumns m n (λ i. z / (2 ^ m) ^ i % 2 ^ m) i k (mod-lt (z / (2 ^ m) ^ i) (pow-pos m)))
     ∙ fromDigits-of (2 ^ m) n z (pow-pos m) ∙ mod-eq-of-lt l
+
+-- ---- the numbers below N = 2^(m n) list the states
+
+module _ (m n : ℕ) where
+  pub number-below : (xs : List ℕ) → InRange m n xs → number m n xs < 2 ^ (m * n)
+  number-below xs rx = rw (pow-mul 2 m n) (number-lt m xs (rx .0) n)
+
+  pub number-of : (z : ℕ) → z < 2 ^ (m * n) → number m n (stateOf m n z) ≡ z
+  number-of z l = number-stateOf m n z (rw (pow-mul 2 m n) at l)
+
+  pub stateOf-injective : (y z : ℕ) → y < 2 ^ (m * n) → z < 2 ^ (m * n) → stateOf m n y ≡ stateOf m n z → y ≡ z
+  stateOf-injective y z ly lz e = sym (number-of y ly) ∙ ap (number m n) e ∙ number-of z lz
+
+pub numbers-list : (card : Card) → ListsStates card (stateOf (card .words) (card .width))
+numbers-list card xs sx =
+    let m : ℕ = card .words in
+    let n : ℕ = card .width in
+    let z : ℕ = number m n xs in
+    let below = number-below m n xs sx in (
+      z,
+      below,
+      number-injective m n (stateOf m n z) xs (stateOf-in-range m n z) sx (number-of m n z below),
+      λ u l e. sym (number-of m n u l) ∙ ap (number m n) e,
+    )
+
+-- however the states are listed, as many of them meet a test
+pub count-listed : (card : Card) (s : ℕ → List ℕ) → ListsStates card s → (q : List ℕ → Bool)
+    → count (states card) (λ t. q (s t)) ≡ count (states card) (λ z. q (stateOf (card .words) (card .width) z))
+unfolding count
+count-listed card s lists q =
+    sym (sum-injective (states card) (λ z. place z .0) (λ t. one (q (s t))) (λ z l. place z .1) (λ y z ly lz e.
+    stateOf-injective m n y z ly lz (sym (place y .2) ∙ ap s e ∙ place z .2)))
+    ∙ count-ext (states card) (λ z. q (s (place z .0))) (λ z. q (stateOf m n z)) (λ z l. ap q (place z .2))
+  where
+    m : ℕ
+    m = card .words
+
+    n : ℕ
+    n = card .width
+
+    -- where the state of number z stands
+    place : (z : ℕ) → StandsOnce (stateOf m n z) s (states card)
+    place z = lists (stateOf m n z) (stateOf-in-range m n z)

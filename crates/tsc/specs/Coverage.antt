@@ -24,9 +24,13 @@ stepBack card xs = orbit card xs (states card - 1)
 abbrev pub StandsOnce : List ℕ → (ℕ → List ℕ) → ℕ → Type 0
 StandsOnce xs f N = (t : ℕ) × (t < N) × (f t ≡ xs) × ((u : ℕ) → u < N → f u ≡ xs → u ≡ t)
 
--- each of the N states stands exactly once among numbers 0 to N - 1 of the orbit, and number N is number 0 again
+-- each of the N states stands exactly once among numbers 0 to N - 1 of a sequence
+abbrev pub ListsStates : Card → (ℕ → List ℕ) → Type 0
+ListsStates card f = (xs : List ℕ) → IsState card xs → StandsOnce xs f (states card)
+
+-- the orbit lists the states, and number N is number 0 again
 pub record Covers (card : Card) (start : List ℕ) : Type 0 where
-  pub once : (xs : List ℕ) → IsState card xs → StandsOnce xs (orbit card start) (states card)
+  pub once : ListsStates card (orbit card start)
   pub returns : orbit card start (states card) ≡ orbit card start 0
 
 -- the part of sound form that coverage rests on: at least 2 words of at least 2 bits, table entries below 2^m

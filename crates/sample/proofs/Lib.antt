@@ -1,0 +1,2 @@
+-- Laws of ranks drawn by value.
+pub mod Passed

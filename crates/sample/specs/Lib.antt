@@ -1,0 +1,2 @@
+-- What is drawn by value.
+pub mod Drawn
