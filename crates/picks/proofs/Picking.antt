@@ -1,12 +1,12 @@
 -- What the checks of a pick come to, and its answer and state words then.
-use mathlib.Core.Path.{_≡_, sym, ap, ap₂, _∙_}
+use mathlib.Core.Path.{_≡_, refl, sym, ap, ap₂, _∙_}
 use mathlib.Core.Logic.{_≢_}
-use mathlib.Core.List.{List}
-use Prim.Native.Nat.{ℕ, _≤_, _<_}
+use mathlib.Core.List.{List, _++_}
+use Prim.Native.Nat.{ℕ, _^_, _≤_, _<_}
 use native.Mathlib.Omega.{arith}
 use borrow.Author.Tests.{ne-eqb}
 use Rattle.tsc.specs.declared.Card.{Card}
-use Rattle.refusals.specs.Refusals.{firstOf}
+use Rattle.refusals.specs.Refusals.{Check, firstOf}
 use Rattle.card_format.specs.Reading.{cardOf}
 use Rattle.refusals.proofs.Refusals.{first-left, first-right, first-both}
 use Rattle.draws.specs.declared.Opened.{Opened}
@@ -16,63 +16,96 @@ use Rattle.ties.specs.Ties.{mostShovels, ties, chosen}
 use Rattle.ties.proofs.Least.{ties-some, ties-le}
 use Rattle.tie_list.specs.Checks.{listChecks}
 use Rattle.tie_list.proofs.Allowed.{Allowed, list-allowed}
+use Rattle.samples.specs.Samples.{taken, drawnRank, drawnState, tieChecks}
+use Rattle.samples.proofs.Many.{ties-within}
 use Rattle.picks.specs.declared.Pick.the-variants.{Shovel, Refused}
-use Rattle.picks.specs.Picks.{pickRefusal, drawnRank, drawnState, picking, picked}
+use Rattle.picks.specs.Picks.{pickRefusal, picking, picked}
 
 module _ (bytes xs shovels times : List ℕ) where
+  -- 18, and all that a pick looks at behind 11
+  abbrev pub manyChecks : List Check
+  manyChecks = tieChecks (cardOf bytes .width) (ties times)
+
+  abbrev later : List Check
+  later = listChecks shovels times ++ manyChecks
+
+  -- the card or the state is refused, or else the list, or else the count of ties
   pub refusal-call : refusalFor bytes xs ≢ 0 → refusalFor bytes xs ≡ pickRefusal bytes xs shovels times
   unfolding refusalFor pickRefusal
-  refusal-call ne = sym (first-left (callChecks bytes xs) (listChecks shovels times) ne)
+  refusal-call ne = sym (first-left (callChecks bytes xs) later ne)
 
-  pub refusal-list : refusalFor bytes xs ≡ 0 → firstOf (listChecks shovels times) ≡ pickRefusal bytes xs shovels times
+  pub refusal-later : refusalFor bytes xs ≡ 0 → firstOf later ≡ pickRefusal bytes xs shovels times
   unfolding refusalFor pickRefusal
-  refusal-list z = sym (first-right (callChecks bytes xs) (listChecks shovels times) z)
+  refusal-later z = sym (first-right (callChecks bytes xs) later z)
 
-  -- no refusal: the call's checks and the list's are passed
-  pub pick-passed : pickRefusal bytes xs shovels times ≡ 0 → (refusalFor bytes xs ≡ 0) × Allowed shovels times
+  refusal-list : refusalFor bytes xs ≡ 0 → firstOf (listChecks shovels times) ≢ 0 → firstOf (listChecks shovels times) ≡ pickRefusal bytes xs shovels times
+  refusal-list z ne = sym (first-left (listChecks shovels times) manyChecks ne) ∙ refusal-later z
+
+  refusal-many : refusalFor bytes xs ≡ 0 → firstOf (listChecks shovels times) ≡ 0 → firstOf manyChecks ≡ pickRefusal bytes xs shovels times
+  refusal-many z y = sym (first-right (listChecks shovels times) manyChecks y) ∙ refusal-later z
+
+  -- no refusal: all of them are passed
+  pub pick-passed : pickRefusal bytes xs shovels times ≡ 0 → (refusalFor bytes xs ≡ 0) × Allowed shovels times × (ties times ≤ 2 ^ cardOf bytes .width)
   unfolding refusalFor pickRefusal
-  pick-passed z = let b = first-both (callChecks bytes xs) (listChecks shovels times) z in (b .0, list-allowed shovels times (b .1))
+  pick-passed z =
+      let b = first-both (callChecks bytes xs) later z in
+      let l = first-both (listChecks shovels times) manyChecks (b .1) in
+      (b .0, list-allowed shovels times (l .0), ties-within (cardOf bytes .width) (ties times) (l .1))
 
   pub picking-refused : (r : ℕ) → r ≢ 0 → r ≡ pickRefusal bytes xs shovels times
       → (Refused r ≡ picking bytes xs shovels times) × (xs ≡ picked bytes xs shovels times)
   unfolding picking picked
   picking-refused r ne e = rw (sym e) (simp (ne-eqb r 0 ne), simp (ne-eqb r 0 ne))
 
-  pub picking-chosen : pickRefusal bytes xs shovels times ≡ 0 → (s k : ℕ) (ys : List ℕ)
-      → s ≡ chosen shovels times (drawnRank (cardOf bytes) xs (ties times)) → k ≡ ties times → ys ≡ drawnState (cardOf bytes) xs (ties times)
-      → (Shovel s k ≡ picking bytes xs shovels times) × (ys ≡ picked bytes xs shovels times)
+  pub picking-chosen : pickRefusal bytes xs shovels times ≡ 0 → let card = cardOf bytes in let k = ties times in
+      (Shovel (chosen shovels times (drawnRank card xs k)) k (taken card xs k) ≡ picking bytes xs shovels times)
+      × (drawnState card xs k ≡ picked bytes xs shovels times)
   unfolding picking picked
-  picking-chosen z s k ys a b c = rw z (ap₂ Shovel a b, c)
+  picking-chosen z = rw z (refl, refl)
 
-  -- refused by the card or the state, and by the list
+  -- refused by the card or the state, by the list, and by the count of ties
   pub pick-refused-call : (o : Opened) → o ≡ opening bytes xs → o .refusal ≢ 0
       → (Refused (o .refusal) ≡ picking bytes xs shovels times) × (xs ≡ picked bytes xs shovels times)
   pick-refused-call o e ne = let b = begun-refused bytes xs o e ne in picking-refused (o .refusal) ne (b .0 ∙ refusal-call (b .1))
 
   pub pick-refused-list : {o : Opened} → Clear bytes xs o → (r : ℕ) → r ≡ firstOf (listChecks shovels times) → r ≢ 0
       → (Refused r ≡ picking bytes xs shovels times) × (xs ≡ picked bytes xs shovels times)
-  pick-refused-list k r e ne = picking-refused r ne (e ∙ refusal-list (k .none))
+  pick-refused-list k r e ne = picking-refused r ne (e ∙ refusal-list (k .none) (λ z. ne (e ∙ z)))
+
+  -- the count of ties as it is looked at
+  pub many-told : {o : Opened} → Clear bytes xs o → firstOf (listChecks shovels times) ≡ 0 → {n k : ℕ} → n ≡ o .card .width → k ≡ ties times
+      → firstOf (tieChecks n k) ≡ pickRefusal bytes xs shovels times
+  many-told c z en ek =
+      let width = en ∙ ap (λ (card : Card). card .width) (c .card-is) in
+      ap₂ (λ (n k : ℕ). firstOf (tieChecks n k)) width ek ∙ refusal-many (c .none) z
+
+  pub pick-refused-many : {o : Opened} → Clear bytes xs o → firstOf (listChecks shovels times) ≡ 0 → {n k : ℕ} → n ≡ o .card .width → k ≡ ties times
+      → (r : ℕ) → r ≡ firstOf (tieChecks n k) → r ≢ 0 → (Refused r ≡ picking bytes xs shovels times) × (xs ≡ picked bytes xs shovels times)
+  pick-refused-many c z en ek r e ne = picking-refused r ne (e ∙ many-told c z en ek)
 
 -- what a pick goes on with once nothing is refused
 pub record Granted (bytes xs shovels times : List ℕ) (o : Opened) : Type 0 where
   pub none : pickRefusal bytes xs shovels times ≡ 0
   pub clear : Clear bytes xs o
-  pub allowed : Allowed shovels times
 
-pub granted : (bytes xs shovels times : List ℕ) (o : Opened) → Clear bytes xs o → firstOf (listChecks shovels times) ≡ 0 → Granted bytes xs shovels times o
-granted bytes xs shovels times o k z =
-    record { none = sym (refusal-list bytes xs shovels times (k .none)) ∙ z; clear = k; allowed = list-allowed shovels times z }
+pub granted : {bytes xs shovels times : List ℕ} {o : Opened} → Clear bytes xs o → firstOf (listChecks shovels times) ≡ 0
+    → {n k : ℕ} → n ≡ o .card .width → k ≡ ties times → firstOf (tieChecks n k) ≡ 0 → Granted bytes xs shovels times o
+granted {bytes} {xs} {shovels} {times} c z en ek y =
+    record { none = sym (many-told bytes xs shovels times c z en ek) ∙ y; clear = c }
 
--- then there is a tie at least, and there are no more than shovels
+-- a list that is not refused has a tie at least, and no more than shovels
 pub ties-few : {shovels times : List ℕ} → Allowed shovels times → (0 < ties times) × (ties times ≤ mostShovels)
 ties-few {shovels} {times} ok = (ties-some times (ok .some), omega (arith, ties-le times, ok .few))
 
--- and what it promises then, of k ties, the rank r drawn among them, the shovel s of that rank and the words ys that are left
-pub pick-made : {bytes xs shovels times : List ℕ} {o : Opened} → Granted bytes xs shovels times o → {k r s : ℕ} {ys : List ℕ} → k ≡ ties times
-    → (r ≡ drawnRank (o .card) xs k) × (ys ≡ drawnState (o .card) xs k) → s ≡ chosen shovels times r
-    → (Shovel s k ≡ picking bytes xs shovels times) × (ys ≡ picked bytes xs shovels times)
-pick-made {bytes} {xs} {shovels} {times} g {k} {r} {s} {ys} ek drawn es =
+-- what it promises then, of k ties, the rank r drawn among them by t words, the shovel s of that rank and the words ys that are left
+pub pick-made : {bytes xs shovels times : List ℕ} {o : Opened} → Granted bytes xs shovels times o → {k r s t : ℕ} {ys : List ℕ} → k ≡ ties times
+    → (r ≡ drawnRank (o .card) xs k) × (t ≡ taken (o .card) xs k) × (ys ≡ drawnState (o .card) xs k) → s ≡ chosen shovels times r
+    → (Shovel s k t ≡ picking bytes xs shovels times) × (ys ≡ picked bytes xs shovels times)
+pick-made {bytes} {xs} {shovels} {times} g {k} {r} {s} {t} {ys} ek drawn es =
     let card = g .clear .card-is in
-    let rank = drawn .0 ∙ ap₂ (λ (card : Card) (k : ℕ). drawnRank card xs k) card ek in
-    let words = drawn .1 ∙ ap₂ (λ (card : Card) (k : ℕ). drawnState card xs k) card ek in
-    picking-chosen bytes xs shovels times (g .none) s k ys (es ∙ ap (chosen shovels times) rank) ek words
+    let made = picking-chosen bytes xs shovels times (g .none) in
+    let number : s ≡ chosen shovels times (drawnRank (cardOf bytes) xs (ties times)) = es ∙ ap (chosen shovels times) (drawn .0 ∙ ap₂ (λ (card : Card) (k : ℕ). drawnRank card xs k) card ek) in
+    let words : t ≡ taken (cardOf bytes) xs (ties times) = drawn .1 ∙ ap₂ (λ (card : Card) (k : ℕ). taken card xs k) card ek in (
+      (λ i. Shovel (number i) (ek i) (words i)) ∙ made .0,
+      drawn .2 ∙ ap₂ (λ (card : Card) (k : ℕ). drawnState card xs k) card ek ∙ made .1,
+    )

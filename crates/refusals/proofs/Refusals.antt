@@ -1,5 +1,5 @@
 -- Which refusal is told: 0 exactly where no condition holds, and the first list's before the second's.
-use mathlib.Core.Path.{_≡_, refl, _∙_}
+use mathlib.Core.Path.{_≡_, refl, ap, _∙_}
 use mathlib.Core.Logic.{_≢_}
 use mathlib.Core.Bool.{Bool, true, false, cond}
 use mathlib.Core.List.{List, [], _∷_, _++_}
@@ -36,6 +36,12 @@ first-left (c ∷ cs) ds ne = go (c .applies) ne (first-left cs ds)
         → cond b (c .refusal .number) (firstOf (cs ++ ds)) ≡ cond b (c .refusal .number) (firstOf cs)
     go true q ih = refl
     go false q ih = ih q
+
+-- what is told of the second list is all of it that tells
+pub first-ext : (cs ds es : List Check) → firstOf ds ≡ firstOf es → firstOf (cs ++ ds) ≡ firstOf (cs ++ es)
+unfolding firstOf
+first-ext [] ds es e = e
+first-ext (c ∷ cs) ds es e = ap (cond (c .applies) (c .refusal .number)) (first-ext cs ds es e)
 
 pub none-left : (cs ds : List Check) → NoneApplies (cs ++ ds) → NoneApplies cs
 unfolding NoneApplies
