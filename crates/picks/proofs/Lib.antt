@@ -2,3 +2,4 @@
 pub mod Picking
 pub mod Choice
 pub mod Shift
+pub mod Fair
