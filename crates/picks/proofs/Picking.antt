@@ -99,13 +99,13 @@ ties-few {shovels} {times} ok = (ties-some times (ok .some), omega (arith, ties-
 
 -- what it promises then, of k ties, the rank r drawn among them by t words, the shovel s of that rank and the words ys that are left
 pub pick-made : {bytes xs shovels times : List ℕ} {o : Opened} → Granted bytes xs shovels times o → {k r s t : ℕ} {ys : List ℕ} → k ≡ ties times
-    → (r ≡ drawnRank (o .card) xs k) × (t ≡ taken (o .card) xs k) × (ys ≡ drawnState (o .card) xs k) → s ≡ chosen shovels times r
+    → ((r ≡ drawnRank (o .card) xs k) × (t ≡ taken (o .card) xs k)) × (ys ≡ drawnState (o .card) xs k) → s ≡ chosen shovels times r
     → (Shovel s k t ≡ picking bytes xs shovels times) × (ys ≡ picked bytes xs shovels times)
 pick-made {bytes} {xs} {shovels} {times} g {k} {r} {s} {t} {ys} ek drawn es =
     let card = g .clear .card-is in
     let made = picking-chosen bytes xs shovels times (g .none) in
-    let number : s ≡ chosen shovels times (drawnRank (cardOf bytes) xs (ties times)) = es ∙ ap (chosen shovels times) (drawn .0 ∙ ap₂ (λ (card : Card) (k : ℕ). drawnRank card xs k) card ek) in
-    let words : t ≡ taken (cardOf bytes) xs (ties times) = drawn .1 ∙ ap₂ (λ (card : Card) (k : ℕ). taken card xs k) card ek in (
+    let number : s ≡ chosen shovels times (drawnRank (cardOf bytes) xs (ties times)) = es ∙ ap (chosen shovels times) (drawn .0 .0 ∙ ap₂ (λ (card : Card) (k : ℕ). drawnRank card xs k) card ek) in
+    let words : t ≡ taken (cardOf bytes) xs (ties times) = drawn .0 .1 ∙ ap₂ (λ (card : Card) (k : ℕ). taken card xs k) card ek in (
       (λ i. Shovel (number i) (ek i) (words i)) ∙ made .0,
-      drawn .2 ∙ ap₂ (λ (card : Card) (k : ℕ). drawnState card xs k) card ek ∙ made .1,
+      drawn .1 ∙ ap₂ (λ (card : Card) (k : ℕ). drawnState card xs k) card ek ∙ made .1,
     )

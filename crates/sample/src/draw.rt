@@ -9,7 +9,7 @@ ghost use Rattle.card_format.specs.Verdict.{Accepted};
 ghost use Rattle.stepping.specs.State.{used, Holds};
 ghost use Rattle.samples.specs.Samples.{mostTried};
 ghost use Rattle.sample.specs.Drawn.{sample};
-use super::check;
+use super::many;
 use outputs::next;
 use stepping::step;
 use tsc::Card;
@@ -31,7 +31,7 @@ fn below_limit(n: u32, word: u32, k: u32) -> bool
     ensures { λ r. ⌜ r ≡ ltb word (largestMultiple (2 ^ n) k) ⌝ }
 {
     let start = word - word % k;
-    start as u64 + k as u64 <= check::word_count(n)
+    start as u64 + k as u64 <= many::word_count(n)
 }
 
 // Whether a word decides, so many having been tried with it: it is below L, or the last that is tried.

@@ -3,17 +3,18 @@ use mathlib.Core.Path.{_≡_, refl, sym, ap, _∙_}
 use mathlib.Core.Logic.{_↔_, _≢_}
 use mathlib.Core.Bool.{Bool, true, false, _||_}
 use mathlib.Core.List.{List}
-use Prim.Native.Nat.{ℕ, suc, _-_, _≤_, _<_}
+use Prim.Native.Nat.{ℕ, suc, _-_, _%_, _≤_, _<_}
+use native.Mathlib.Nat.{mod-one}
 use native.Mathlib.Decide.{ℕ-discrete}
 use native.Mathlib.Omega.{arith}
 use borrow.Author.Tests.{eq-eqb, ne-eqb, ltb-true, ltb-false}
 use lib.Dec.{eqb, ltb}
-use Rattle.cycle.specs.Notation.{first}
+use Rattle.cycle.specs.Notation.{iterate, first}
 use Rattle.cycle.proofs.First.{first-le, first-at, before-first, first-is, first-none}
 use Rattle.tsc.specs.declared.Card.{Card}
 use Rattle.tsc.specs.Step.{orbit}
 use Rattle.tsc.specs.Word.{word}
-use Rattle.samples.specs.Samples.{mostTried, limit, tried, taken}
+use Rattle.samples.specs.Samples.{mostTried, limit, tried, taken, drawnRank, drawnState}
 
 module _ (card : Card) (xs : List ℕ) (k : ℕ) where
   -- whether word number t + 1 is below L
@@ -57,6 +58,11 @@ module _ (card : Card) (xs : List ℕ) (k : ℕ) where
   pub taken-tried : k ≢ 1 → taken card xs k ≡ tried card xs k
   unfolding taken
   taken-tried n = rw (ne-eqb k 1 n) refl
+
+  -- one tie alone has rank 0, and the state stays as it is
+  pub alone : k ≡ 1 → (drawnRank card xs k ≡ 0) × (drawnState card xs k ≡ xs)
+  unfolding iterate
+  alone e = (ap (λ (k : ℕ). word card (drawnState card xs k) % k) e ∙ mod-one _, ap (orbit card xs) (taken-none e))
 
   -- no word is taken for one tie alone, and only then
   pub taken-none-iff : (taken card xs k ≡ 0) ↔ (k ≡ 1)

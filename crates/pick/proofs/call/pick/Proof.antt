@@ -1,10 +1,13 @@
-use mathlib.Core.Path.{sym, _∙_}
+use mathlib.Core.Path.{_≡_, refl, sym, _∙_}
 use Prim.Native.Nat.{_<_, _≤_}
 use native.Mathlib.Omega.{arith}
+use Rattle.refusals.specs.Refusals.{firstOf}
 use Rattle.draws.proofs.Opening.{Clear, begun}
 use Rattle.draws.proofs.Called.{ready, of-values}
 use Rattle.ties.specs.Ties.{mostShovels}
-use Rattle.picks.proofs.Picking.{Granted, pick-refused-call, pick-refused-list, granted, ties-few, pick-made}
+use Rattle.tie_list.specs.Checks.{listChecks}
+use Rattle.tie_list.proofs.Allowed.{Allowed, list-allowed}
+use Rattle.picks.proofs.Picking.{Granted, pick-refused-call, pick-refused-list, pick-refused-many, granted, ties-few, pick-made}
 use Rattle.pick.proofs.call.pick.Statement.{statement}
 use Rattle.pick.proofs.call.pick.Tie as tie
 
@@ -19,14 +22,24 @@ clear : (c : tie.Else1) → let o = c .before .before in
 clear c = begun _ _ _ (c .before .before .«open» .ensures) (c .if1 .left)
 
 -- past the second the list is not
-passed : (c : tie.Else2) → let o = c .before .before .before .before in
-    let a = start o .args in
-    Granted (a .card .now) (a .state .now) (a .shovels .now) (a .times .now) (o .«open» .result)
-passed c = granted _ _ _ _ _ (clear (c .before .before)) (sym (c .before .list-refusal .ensures) ∙ c .if2 .left)
+passed : (c : tie.Else2) → let a = start (c .before .before .before .before) .args in firstOf (listChecks (a .shovels .now) (a .times .now)) ≡ 0
+passed c = sym (c .before .list-refusal .ensures) ∙ c .if2 .left
+
+allowed : (c : tie.Else2) → let a = start (c .before .before .before .before) .args in Allowed (a .shovels .now) (a .times .now)
+allowed c = list-allowed _ _ (passed c)
 
 -- then there is a tie at least, and there are no more than shovels
 tied : (c : tie.After-ties-of) → (0 < c .ties-of .result) × (c .ties-of .result ≤ mostShovels)
-tied c = rw (c .ties-of .ensures) (ties-few (passed (c .before .before) .allowed))
+tied c = rw (c .ties-of .ensures) (ties-few (allowed (c .before .before)))
+
+-- past the third nothing is refused
+free : (c : tie.Else3) → let o = c .before .before .before .before .before .before .before .before .before .before in
+    let a = start o .args in
+    Granted (a .card .now) (a .state .now) (a .shovels .now) (a .times .now) (o .«open» .result)
+free c =
+    let t = c .before .before .before .before in
+    let l = t .before .before in
+    granted (clear (l .before .before)) (passed l) refl (t .ties-of .ensures) (sym (c .before .ties-refusal .ensures) ∙ c .if3 .left)
 
 open-requires : tie.Need-open-requires
 open-requires c κs = omega arith
@@ -50,39 +63,57 @@ returns-2 : tie.Need-returns-2
 returns-2 c = pick-refused-list _ _ _ _ (clear (c .before .before)) _ (c .before .list-refusal .ensures) (c .if2 .taken)
 
 least-time-requires : tie.Need-least-time-requires
-least-time-requires c κs = passed c .allowed .some
+least-time-requires c κs = allowed c .some
 
 ties-of-requires : tie.Need-ties-of-requires
 ties-of-requires c κs = c .least-time .ensures
 
-cast-drawn-rank : tie.Need-cast-drawn-rank
-cast-drawn-rank c = omega (arith, tied (c .before .before) .1)
+cast-ties-refusal : tie.Need-cast-ties-refusal
+cast-ties-refusal c = omega arith
 
-drawn-rank-requires : tie.Need-drawn-rank-requires
-drawn-rank-requires c κs =
-    let k = passed (c .before .before .before .before .before) .clear in
-    (ready k .0, ready k .1, sym (of-values k (λ c w. w)), tied (c .before .before .before) .0)
+cast-ties-refusal-2 : tie.Need-cast-ties-refusal-2
+cast-ties-refusal-2 c = omega (arith, tied (c .before .before) .1)
 
-cast-chosen-by : tie.Need-cast-chosen-by
-cast-chosen-by c = omega arith
-
-chosen-by-requires : tie.Need-chosen-by-requires
-chosen-by-requires c κs =
-    let drawn = c .before .before in
-    let ties = drawn .before .before .before .before in
-    record { paired = passed (ties .before .before) .allowed .paired; least = ties .before .least-time .ensures }
-
-cast-t20 : tie.Need-cast-t20
-cast-t20 c = let drawn = c .before .before .before in omega (arith, tied (drawn .before .before .before .before) .1)
+ties-refusal-requires : tie.Need-ties-refusal-requires
+ties-refusal-requires c κs = let l = c .before .before .before .before in ready (clear (l .before .before)) .0 .narrow
 
 same-length-3 : tie.Need-same-length-3
 same-length-3 c = omega arith
 
 returns-3 : tie.Need-returns-3
 returns-3 c =
-    let drawn = c .before .before .before in
-    let ties = drawn .before .before .before .before in
-    pick-made (passed (ties .before .before)) (ties .ties-of .ensures) (drawn .drawn-rank .ensures) (c .chosen-by .ensures)
+    let t = c .before .before .before .before in
+    let l = t .before .before in
+    pick-refused-many _ _ _ _ (clear (l .before .before)) (passed l) refl (t .ties-of .ensures) _ (c .before .ties-refusal .ensures) (c .if3 .taken)
+
+cast-drawn-rank : tie.Need-cast-drawn-rank
+cast-drawn-rank c = omega (arith, tied (c .before .before .before .before .before) .1)
+
+drawn-rank-requires : tie.Need-drawn-rank-requires
+drawn-rank-requires c κs =
+    let k = free (c .before .before) .clear in
+    (ready k .0, ready k .1, sym (of-values k (λ c w. w)), tied (c .before .before .before .before .before .before) .0)
+
+cast-chosen-by : tie.Need-cast-chosen-by
+cast-chosen-by c = omega arith
+
+chosen-by-requires : tie.Need-chosen-by-requires
+chosen-by-requires c κs =
+    let ties = c .before .before .before .before .before .before .before .before .before .before in
+    record { paired = allowed (ties .before .before) .paired; least = ties .before .least-time .ensures }
+
+cast-t22 : tie.Need-cast-t22
+cast-t22 c = let ties = c .before .before .before .before .before .before .before .before .before .before .before in omega (arith, tied ties .1)
+
+same-length-4 : tie.Need-same-length-4
+same-length-4 c = omega arith
+
+returns-4 : tie.Need-returns-4
+returns-4 c =
+    let drawn = c .before .before .before .before in
+    let f = drawn .before .before .before in
+    let ties = f .before .before .before .before in
+    pick-made (free f) (ties .ties-of .ensures) (drawn .drawn-rank .ensures) (c .chosen-by .ensures)
 
 pub pick-spec : {M : Type 1} → statement M
 pick-spec =
@@ -96,10 +127,15 @@ pick-spec =
     returns-2
     least-time-requires
     ties-of-requires
+    cast-ties-refusal
+    cast-ties-refusal-2
+    ties-refusal-requires
+    same-length-3
+    returns-3
     cast-drawn-rank
     drawn-rank-requires
     cast-chosen-by
     chosen-by-requires
-    cast-t20
-    same-length-3
-    returns-3)
+    cast-t22
+    same-length-4
+    returns-4)

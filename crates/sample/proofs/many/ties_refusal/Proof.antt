@@ -1,8 +1,8 @@
 use mathlib.Core.Path.{sym}
 use native.Mathlib.Omega.{arith}
 use Rattle.samples.proofs.Many.{ties-fit, ties-over}
-use Rattle.sample.proofs.check.ties_refusal.Statement.{statement}
-use Rattle.sample.proofs.check.ties_refusal.Tie as tie
+use Rattle.sample.proofs.many.ties_refusal.Statement.{statement}
+use Rattle.sample.proofs.many.ties_refusal.Tie as tie
 
 word-count-requires : tie.Need-word-count-requires
 word-count-requires c κs = c .pre

@@ -1,7 +1,7 @@
 use native.Mathlib.Omega.{arith}
 use Rattle.card_format.proofs.Fields.{one-shifted}
-use Rattle.sample.proofs.check.word_count.Statement.{statement}
-use Rattle.sample.proofs.check.word_count.Tie as tie
+use Rattle.sample.proofs.many.word_count.Statement.{statement}
+use Rattle.sample.proofs.many.word_count.Tie as tie
 
 shl-result : tie.Need-shl-result
 shl-result c = omega arith
