@@ -54,11 +54,12 @@ module _ (bytes xs shovels times : List ℕ) where
   unfolding picking
   pick-told = told (λ (p : Pick). choice p .refusal) (pickRefusal bytes xs shovels times) _ _ refl refl
 
-  pub pick-refused : choice (picking bytes xs shovels times) .refusal ≢ 0
-      → (choice (picking bytes xs shovels times) .shovel ≡ 0) × (choice (picking bytes xs shovels times) .ties ≡ 0) × (picked bytes xs shovels times ≡ xs)
+  pub pick-refused : let c = choice (picking bytes xs shovels times) in
+      c .refusal ≢ 0 → (c .shovel ≡ 0) × (c .ties ≡ 0) × (c .taken ≡ 0) × (picked bytes xs shovels times ≡ xs)
   pick-refused ne =
       let p = picking-refused bytes xs shovels times _ (λ z. ne (pick-told ∙ z)) refl in
-      (ap (λ (p : Pick). choice p .shovel) (sym (p .0)), ap (λ (p : Pick). choice p .ties) (sym (p .0)), sym (p .1))
+      let c = sym (ap choice (p .0)) in
+      (λ i. c i .shovel, λ i. c i .ties, λ i. c i .taken, sym (p .1))
 
 module _ (bytes : List ℕ) where
   pub read-told : readCard bytes .refusal ≡ firstOf (formChecks bytes)

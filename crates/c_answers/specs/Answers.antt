@@ -29,8 +29,8 @@ drawn (draw.Refused r) = record { word = 0; refusal = r }
 
 -- a pick's answer
 abbrev pub choice : Pick → Choice
-choice (pick.Shovel s k) = record { shovel = s; ties = k; refusal = 0 }
-choice (pick.Refused r) = record { shovel = 0; ties = 0; refusal = r }
+choice (pick.Shovel s k t) = record { shovel = s; ties = k; taken = t; refusal = 0 }
+choice (pick.Refused r) = record { shovel = 0; ties = 0; taken = 0; refusal = r }
 
 -- the writer's answer
 abbrev pub writtenLength : Written → WrittenLength

@@ -8,11 +8,12 @@ pub struct DrawnWord {
     pub refusal: u8,
 }
 
-// What a pick answers, tiedraw_choice: 0, the shovel and how many ties there were; or the refusal and zeros.
+// What a pick answers, tiedraw_choice: 0, the shovel, how many ties there were and how many words were taken; or the refusal and zeros.
 #[repr(C)]
 pub struct Choice {
     pub shovel: u16,
     pub ties: u8,
+    pub taken: u8,
     pub refusal: u8,
 }
 

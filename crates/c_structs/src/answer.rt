@@ -32,14 +32,16 @@ pub fn choice_of(answer: Pick) -> Choice
     ensures { λ r. ⌜ r ≡ choice answer ⌝ }
 {
     match answer {
-        Pick::Shovel(number, ties) => Choice {
+        Pick::Shovel(number, ties, taken) => Choice {
             shovel: number,
             ties: ties,
+            taken: taken,
             refusal: 0,
         },
         Pick::Refused(number) => Choice {
             shovel: 0,
             ties: 0,
+            taken: 0,
             refusal: number,
         },
     }

@@ -77,11 +77,13 @@ fn print_picked(picked: Pick, lent: Numbers, words: [u32; ROOM])
     requires { ⌜ lent .count ≤ room ⌝ }
 {
     match picked {
-        Pick::Shovel(shovel, ties) => {
+        Pick::Shovel(shovel, ties, taken) => {
             io::write_all(1, b"shovel ");
             io::print_decimal(1, shovel as u64);
             io::write_all(1, b" ties ");
             answer::print_number(ties);
+            io::write_all(1, b"taken ");
+            answer::print_number(taken);
             answer::print_state(0, lent, words);
         }
         Pick::Refused(number) => answer::print_state(number, lent, words),

@@ -91,8 +91,8 @@ pub fn step_back(card: &[u8], state: &mut [u32]) -> u8
     0
 }
 
-// A step of a state by value, over the lent words, and the word of the state that it comes to. Draw and pick call it once nothing is refused.
-pub fn advance(card: Card, s: State, state: &mut [u32]) -> u32
+// A step of a state by value, over the lent words, and the word of the state that it comes to. The draw calls it once nothing is refused.
+fn advance(card: Card, s: State, state: &mut [u32]) -> u32
     requires { ⌜ Accepted card × Holds card s × (length (now state) ≡ card .words) ⌝ }
     ensures { λ r. ⌜ r ≡ word card (step card (used card s)) ⌝ }
     ensures { λ _. ⌜ now (state .exit) ≡ step card (used card s) ⌝ }
