@@ -164,7 +164,7 @@ mod tests {
             ("draw", state.clone()),
             ("words", state),
             ("strip", (1..=11).chain([17]).collect()),
-            ("pick", (1..=15).collect()),
+            ("pick", (1..=15).chain([18]).collect()),
             ("write", vec![2, 6, 7, 8, 9, 16]),
         ] {
             let word = if call == "check" {

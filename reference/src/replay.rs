@@ -266,8 +266,8 @@ fn strip_answer(card: &[u8], state: &[u32], strip: &[u32], place: usize, count: 
 
 fn pick_answer(card: &[u8], state: &[u32], shovels: &[u16], times: &[u32]) -> String {
     on_state(state, |lent| {
-        let (shovel, ties) = call_pick(card, lent, shovels, times)?;
-        Ok(format!("shovel {shovel} ties {ties} "))
+        let picked = call_pick(card, lent, shovels, times)?;
+        Ok(format!("shovel {} ties {} ", picked.shovel, picked.ties))
     })
 }
 
