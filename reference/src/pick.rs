@@ -46,21 +46,26 @@ fn equals(shovels: &[u16], times: &[u32]) -> Vec<u16> {
     equals
 }
 
-/// The rank among k equals and the number of words taken for it. The first word below L, the
-/// largest multiple of k not above 2^n, serves, or else the sixteenth. One equal takes no word.
+/// L: the largest multiple of k not above 2^n, which can be 2^32.
+pub fn limit(width: u8, k: usize) -> u64 {
+    let k = k as u64;
+    (1u64 << width) / k * k
+}
+
+/// The rank among k equals and the number of words taken for it. The first word below L serves, or
+/// else the sixteenth. One equal takes no word.
 fn fair_rank(card: &[u8], state: &mut [u32], width: u8, k: usize) -> Result<(usize, usize), u8> {
     if k == 1 {
         return Ok((0, 0));
     }
-    let k = k as u64;
-    let limit = (1u64 << width) / k * k; // L, which can be 2^32
-    let mut word = limit;
+    let limit = limit(width, k);
+    let mut word = limit; // none drawn yet
     let mut taken = 0;
     while word >= limit && taken < MOST_TAKEN {
         word = u64::from(call_draw(card, state)?);
         taken += 1;
     }
-    Ok(((word % k) as usize, taken))
+    Ok(((word % k as u64) as usize, taken))
 }
 
 /// The chosen shovel, the number of equals and the number of words taken, or a refusal number with

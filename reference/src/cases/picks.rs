@@ -96,7 +96,7 @@ fn ties(maker: &mut Maker) {
 
 /// Shovels with their times in random order, `ties` of them with the least time; all of them with
 /// the largest time there is if `ties` is more than the length.
-fn random_list(maker: &mut Maker, length: usize, ties: usize) -> Vec<(u16, u32)> {
+pub fn random_list(maker: &mut Maker, length: usize, ties: usize) -> Vec<(u16, u32)> {
     let (base, stride) = random_shovels(maker);
     let (mut least, spread) = random_times(maker);
     if ties > length {
@@ -142,7 +142,7 @@ fn random_times(maker: &mut Maker) -> (u32, u32) {
 
 /// The pick, then the same list in another order from the same state: reversed, or from the middle.
 /// The state goes on, but where there are too many equals.
-fn two_orders(maker: &mut Maker, card: &str, state: &mut [u32], list: Vec<(u16, u32)>) {
+pub fn two_orders(maker: &mut Maker, card: &str, state: &mut [u32], list: Vec<(u16, u32)>) {
     let (mut shovels, mut times): (Vec<u16>, Vec<u32>) = list.into_iter().unzip();
     let start = words(state);
     let answer = call_pick(&bytes(card), state, &shovels, &times);
@@ -159,7 +159,7 @@ fn two_orders(maker: &mut Maker, card: &str, state: &mut [u32], list: Vec<(u16, 
     pick(maker, card, &start, &shovels, &times);
 }
 
-fn pick(maker: &mut Maker, card: &str, state: &str, shovels: &[u16], times: &[u32]) {
+pub fn pick(maker: &mut Maker, card: &str, state: &str, shovels: &[u16], times: &[u32]) {
     let (shovels, times) = (commas(shovels), commas(times));
     maker.line(format!("pick {card} {state} {shovels} {times}"));
 }
