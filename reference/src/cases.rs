@@ -1,12 +1,13 @@
 //! Seeded cases for `replay`, always the same ones, in sections that each open with a comment.
 //!
 //! The walks (`step`, `back`, `draw`, `words`), the picks, the cards (`check`, `read`), the writer
-//! (`write`), the form of a line and the strips (`strip`) have a module each, in the order in which
-//! they came, so that earlier cases stay as they are. States that go on from case to case come from
-//! this crate's own calls.
+//! (`write`), the form of a line, the strips (`strip`) and the fair ranks of picks have a module
+//! each, in the order in which they came, so that earlier cases stay as they are. States that go on
+//! from case to case come from this crate's own calls.
 
 mod cards;
 mod picks;
+mod ranks;
 mod strips;
 mod syntax;
 mod walks;
@@ -125,12 +126,15 @@ pub fn cases() -> Vec<u8> {
     writes::make(&mut maker);
     syntax::make(&mut maker);
     strips::make(&mut maker);
+    ranks::make(&mut maker);
     maker.lines
 }
 
 #[cfg(test)]
 mod tests {
     use super::*;
+    use crate::accept;
+    use crate::pick::limit;
     use crate::replay::{answer, words};
 
     /// The cases with their answers, without the comments.
@@ -164,7 +168,7 @@ mod tests {
             ("draw", state.clone()),
             ("words", state),
             ("strip", (1..=11).chain([17]).collect()),
-            ("pick", (1..=15).collect()),
+            ("pick", (1..=15).chain([18]).collect()),
             ("write", vec![2, 6, 7, 8, 9, 16]),
         ] {
             let word = if call == "check" {
@@ -184,7 +188,7 @@ mod tests {
         assert!(rows.iter().all(|(_, answer)| !answer.contains("CHANGED")));
     }
 
-    /// As many as the programs had that these cases replace; strips are new.
+    /// As many as the programs had that these cases replace, and more picks; strips are new.
     #[test]
     fn enough_of_each() {
         let rows = answered();
@@ -211,10 +215,43 @@ mod tests {
         assert!(words >= 22_880);
         assert!(count("back", "state") >= 1_912);
         assert!(count("step", "state") >= 300 && count("draw", "word") >= 300);
-        assert!(of_call(&rows, "pick").len() >= 4_496);
+        assert!(of_call(&rows, "pick").len() >= 5_400);
         assert!(count("strip", "strip") >= 300 && count("strip", "refused 17") >= 100);
         assert!(rows.iter().filter(|row| row.1 == "syntax").count() >= 1_000);
-        assert!(cases().len() < 2_350_000);
+        assert!(cases().len() < 2_500_000);
+    }
+
+    /// The words that a pick took, by the case `words`: all but the last are passed over, the last
+    /// serves or is the sixteenth, and the state is as they leave it. Each number of words comes up,
+    /// and so do L as a word passed over and L - 1 as one that serves.
+    #[test]
+    fn picks_take_the_words() {
+        let mut counts = [0; 17];
+        let (mut at_limit, mut below_limit) = (0, 0);
+        for (line, picked) in of_call(&answered(), "pick") {
+            let case: Vec<&str> = line.split(' ').collect();
+            let picked: Vec<&str> = picked.split(' ').collect();
+            let [_, _, _, ties, _, taken, _, after] = picked[..] else {
+                continue; // refused
+            };
+            let drawing = format!("words {} {} {taken}", case[1], case[2]);
+            let drawn = answer(drawing.as_bytes()).unwrap();
+            let drawn: Vec<&str> = drawn.split(' ').collect();
+            assert_eq!(after, drawn[3], "{line}");
+
+            let word = |digits| u64::from_str_radix(digits, 16).ok(); // none for `-`
+            let words: Vec<u64> = drawn[1].split(',').filter_map(word).collect();
+            let width = accept(&bytes(case[1])).unwrap().width;
+            let limit = limit(width, ties.parse().unwrap());
+            let passed = words.iter().filter(|&&word| word >= limit).count();
+            let taken: usize = if ties == "1" { 0 } else { 16.min(passed + 1) };
+            assert_eq!(words.len(), taken, "{line}");
+            counts[taken] += 1;
+            at_limit += usize::from(words.contains(&limit));
+            below_limit += usize::from(words.last() == Some(&(limit - 1)));
+        }
+        assert!(counts.iter().all(|&count| count >= 8) && counts[16] >= 32);
+        assert!(at_limit >= 60 && below_limit >= 60);
     }
 
     /// The step of each state that a step back answers is the state that was given.

@@ -12,7 +12,7 @@
 //! | `draw CARD STATE` | `word W state w,..` |
 //! | `words CARD STATE COUNT` | `words w,.. state w,..` |
 //! | `strip CARD STATE STRIP PLACE COUNT` | `strip w,.. state w,..`, the whole strip |
-//! | `pick CARD STATE SHOVELS TIMES` | `shovel S ties K state w,..` |
+//! | `pick CARD STATE SHOVELS TIMES` | `shovel S ties K taken T state w,..` |
 //! | `write m n T a b C filter sum PAGELEN` | `length L page HEX` |
 //!
 //! All but `check` may answer `refused V` instead, with ` CHANGED` behind it if the lent state,
@@ -26,7 +26,7 @@
 //! digits may have either case, numbers leading zeros.
 
 use crate::fill::call_fill;
-use crate::pick::call_pick;
+use crate::pick::{call_pick, Picked};
 use crate::{
     accept_call, call_draw, call_step, call_step_back, call_write, check, read, Card, TABLE_ENTRIES,
 };
@@ -266,8 +266,12 @@ fn strip_answer(card: &[u8], state: &[u32], strip: &[u32], place: usize, count: 
 
 fn pick_answer(card: &[u8], state: &[u32], shovels: &[u16], times: &[u32]) -> String {
     on_state(state, |lent| {
-        let (shovel, ties) = call_pick(card, lent, shovels, times)?;
-        Ok(format!("shovel {shovel} ties {ties} "))
+        let Picked {
+            shovel,
+            ties,
+            taken,
+        } = call_pick(card, lent, shovels, times)?;
+        Ok(format!("shovel {shovel} ties {ties} taken {taken} "))
     })
 }
 
@@ -324,9 +328,9 @@ check 0220 = verdict 3
 check 2702020102030002000000 = verdict 8
 check 2702020102030004000000 = verdict 6
 check 050201020303 = verdict 7
-pick 2702020102030001000000 0,0 7,4 300,300 = shovel 4 ties 2 state 00000001,00000002
-pick 2702020102030001000000 2,3 7,4 300,300 = shovel 7 ties 2 state 00000001,00000001
-pick 2702020102030001000000 0,0 4,7 300,299 = shovel 7 ties 1 state 00000000,00000000
+pick 2702020102030001000000 0,0 7,4 300,300 = shovel 4 ties 2 taken 1 state 00000001,00000002
+pick 2702020102030001000000 2,3 7,4 300,300 = shovel 7 ties 2 taken 1 state 00000001,00000001
+pick 2702020102030001000000 0,0 4,7 300,299 = shovel 7 ties 1 taken 0 state 00000000,00000000
 check 2702020102030001000000 = verdict 0
 draw 2702020102030001000000 0,0 = word 00000000 state 00000001,00000002
 words 2702020102030001000000 0,0 4 = words 00000000,00000000,00000003,00000002 state 00000002,00000000",
@@ -375,6 +379,18 @@ strip 0802 1,2,3 a,b 3 0 = refused 9
 strip 00 1,2,3 a,b 3 0 = refused 10
 strip 021d 0,0,0,20000000 a,b 3 0 = refused 11
 strip 021d 0,0,0,20000000 a,b 0 0 = refused 11",
+        );
+    }
+
+    /// Document 02, Two: from 2, 3 the words are 3 and 2, and for three equals 3 is passed over.
+    #[test]
+    fn words_taken() {
+        assert_answers(
+            "\
+pick 2702020102030001000000 2,3 7,4,9 300,300,300 = shovel 9 ties 3 taken 2 state 00000002,00000000
+pick 2702020102030001000000 2,3 7,4,9,1 300,300,300,300 = shovel 9 ties 4 taken 1 state 00000001,00000001
+pick 2702020102030001000000 2,3 7,4,9,1,2 300,300,300,300,300 = refused 18
+pick 2702020102030001000000 2,3 7,4,9,1,7 300,300,300,300,300 = refused 15",
         );
     }
 

@@ -1,4 +1,4 @@
-//! Picks: ties of every size, and the refusals 1 to 15.
+//! Picks: ties of every size, and the refusals 1 to 15 and 18.
 
 use super::{bytes, Maker, FULL, PROGRAM, REFUSED, TSC1, TSC2};
 use crate::accept;
@@ -96,7 +96,7 @@ fn ties(maker: &mut Maker) {
 
 /// Shovels with their times in random order, `ties` of them with the least time; all of them with
 /// the largest time there is if `ties` is more than the length.
-fn random_list(maker: &mut Maker, length: usize, ties: usize) -> Vec<(u16, u32)> {
+pub fn random_list(maker: &mut Maker, length: usize, ties: usize) -> Vec<(u16, u32)> {
     let (base, stride) = random_shovels(maker);
     let (mut least, spread) = random_times(maker);
     if ties > length {
@@ -141,10 +141,12 @@ fn random_times(maker: &mut Maker) -> (u32, u32) {
 }
 
 /// The pick, then the same list in another order from the same state: reversed, or from the middle.
-fn two_orders(maker: &mut Maker, card: &str, state: &mut [u32], list: Vec<(u16, u32)>) {
+/// The state goes on, but where there are too many equals.
+pub fn two_orders(maker: &mut Maker, card: &str, state: &mut [u32], list: Vec<(u16, u32)>) {
     let (mut shovels, mut times): (Vec<u16>, Vec<u32>) = list.into_iter().unzip();
     let start = words(state);
-    call_pick(&bytes(card), state, &shovels, &times).expect("an accepted call");
+    let answer = call_pick(&bytes(card), state, &shovels, &times);
+    assert!(answer.is_ok() || answer == Err(18), "good but for 18");
     pick(maker, card, &start, &shovels, &times);
     if maker.below(2) == 0 {
         shovels.reverse();
@@ -157,7 +159,7 @@ fn two_orders(maker: &mut Maker, card: &str, state: &mut [u32], list: Vec<(u16, 
     pick(maker, card, &start, &shovels, &times);
 }
 
-fn pick(maker: &mut Maker, card: &str, state: &str, shovels: &[u16], times: &[u32]) {
+pub fn pick(maker: &mut Maker, card: &str, state: &str, shovels: &[u16], times: &[u32]) {
     let (shovels, times) = (commas(shovels), commas(times));
     maker.line(format!("pick {card} {state} {shovels} {times}"));
 }
@@ -196,7 +198,8 @@ mod tests {
     use super::*;
     use crate::replay::answers;
 
-    /// Every length with every number of equals, and the same answer in both orders.
+    /// Every length with every number of equals, and the same answer in both orders: 18 where the
+    /// card's words can't rank so many.
     #[test]
     fn every_length_and_tie() {
         let mut maker = Maker::new();
@@ -204,8 +207,12 @@ mod tests {
         let answers = answers(&maker.lines);
         let answers: Vec<&str> = answers.lines().collect();
         let counts = (1..=64usize).flat_map(|length| (1..=length).chain([length]));
-        for (pair, k) in answers.chunks(2).zip(counts) {
-            assert!(pair[0].contains(&format!(" ties {k} ")));
+        let cards = CARDS.iter().cycle();
+        for ((pair, k), card) in answers.chunks(2).zip(counts).zip(cards) {
+            let width = accept(&bytes(card)).unwrap().width;
+            let too_many = k as u64 > 1 << width;
+            assert_eq!(pair[0] == "refused 18", too_many);
+            assert_eq!(pair[0].contains(&format!(" ties {k} ")), !too_many);
             assert_eq!(pair[0], pair[1]);
         }
         assert_eq!(answers.len(), 2 * (64 * 65 / 2 + 64));
