@@ -12,7 +12,7 @@
  *
  * Given that, whatever bytes and numbers are handed over, a call returns with an answer, or with the refusal number
  * of the first check that applies. A card's fields are checked in turn, each by 1, 2, 3, and 4 at the table's place;
- * then come 5 to 17 in order. A refusal changes nothing: state, strip and page are as they were lent, and the other
+ * then come 5 to 18 in order. A refusal changes nothing: state, strip and page are as they were lent, and the other
  * fields of the answer are 0.
  *
  * Calls keep nothing, allocate nothing and use no global data, so that any number of threads may call at once, each
@@ -32,15 +32,16 @@ extern "C" {
 /* The version of this header, and as one number. A client was compiled for the library that is loaded where
    tiedraw_version() / 1000 is TIEDRAW_VERSION_NUMBER / 1000; the shared library's name ends in those two numbers. */
 #define TIEDRAW_VERSION_MAJOR 0
-#define TIEDRAW_VERSION_MINOR 2
-#define TIEDRAW_VERSION_PATCH 1
+#define TIEDRAW_VERSION_MINOR 3
+#define TIEDRAW_VERSION_PATCH 0
 #define TIEDRAW_VERSION_NUMBER (TIEDRAW_VERSION_MAJOR * 1000000 + TIEDRAW_VERSION_MINOR * 1000 + TIEDRAW_VERSION_PATCH)
 
-/* The most words of a state, entries of a table, bytes of an accepted card, and shovels of a pick. */
+/* The most words of a state, entries of a table, bytes of an accepted card, shovels of a pick, and words taken for it. */
 #define TIEDRAW_MOST_WORDS 4
 #define TIEDRAW_TABLE_SIZE (1 << TIEDRAW_MOST_WORDS)
 #define TIEDRAW_MOST_CARD_BYTES 26
 #define TIEDRAW_MOST_SHOVELS 64
+#define TIEDRAW_MOST_TAKEN 16
 
 /*
  * A card is a map byte and then the fields whose bit is 1, from bit 0 up. m, n and C are the first, second and sixth.
@@ -74,7 +75,8 @@ enum tiedraw_refusal {
     TIEDRAW_TOO_MANY_SHOVELS = 14,   /* crowd: more than 64 shovels */
     TIEDRAW_DUPLICATE_SHOVEL = 15,   /* twice: a shovel number stands twice */
     TIEDRAW_BUFFER_TOO_SMALL = 16,   /* small page: the page has fewer bytes than the card needs */
-    TIEDRAW_SPAN_OUT_OF_BOUNDS = 17  /* span: the place is past the strip's end, or the count does not fit behind it */
+    TIEDRAW_SPAN_OUT_OF_BOUNDS = 17, /* span: the place is past the strip's end, or the count does not fit behind it */
+    TIEDRAW_TOO_MANY_TIES = 18       /* too many equals: more shovels have the least time than there are words, 2^n */
 };
 
 /* The eight values of a card. Table entries past 2^words are 0. */
@@ -86,7 +88,7 @@ typedef struct tiedraw_card {
 
 typedef struct { tiedraw_card card; uint8_t refusal; } tiedraw_reading;
 typedef struct { uint32_t word; uint8_t refusal; } tiedraw_word;
-typedef struct { uint16_t shovel; uint8_t ties; uint8_t refusal; } tiedraw_choice;
+typedef struct { uint16_t shovel; uint8_t ties; uint8_t taken; uint8_t refusal; } tiedraw_choice;
 typedef struct { size_t length; uint8_t refusal; } tiedraw_written;
 
 /* The version of the library, as TIEDRAW_VERSION_NUMBER is of the header. */
@@ -114,9 +116,11 @@ tiedraw_word tiedraw_draw(const uint8_t *card, size_t card_len, uint32_t *state,
 uint8_t tiedraw_fill(const uint8_t *card, size_t card_len, uint32_t *state, size_t words, uint32_t *strip,
                      size_t strip_len, size_t place, size_t count);
 
-/* The shovel with the least time. Where `ties` of them have it, and that is more than one, a step is made, and the
-   word modulo `ties` is the rank of the one chosen, rank 0 being the lowest number: so the order of the list makes
-   no difference. With one alone the state is not moved. Or refusal 1 to 15. */
+/* The shovel with the least time. Where `ties` of them have it, and that is more than one, words are drawn until one
+   is below the largest multiple of `ties` that is not above 2^n, 16 at most: `taken` is how many, and the last one
+   modulo `ties` is the rank of the one chosen, rank 0 being the lowest number. So the order of the list makes no
+   difference, and the words that decide at once give each rank equally often. With one alone no word is taken, and
+   the state is not moved. Or refusal 1 to 15 or 18. */
 tiedraw_choice tiedraw_pick(const uint8_t *card, size_t card_len, uint32_t *state, size_t words,
                             const uint16_t *shovels, size_t shovel_count, const uint32_t *times, size_t time_count);
 

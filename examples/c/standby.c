@@ -52,7 +52,8 @@ static void look_at_version_and_card(void) {
            reading.card.width, reading.card.constant);
 }
 
-/* The words of the next lots by one call, from a copy of the state: the four shovels other than 30 tie for six of the trucks. */
+/* The words of the next lots by one call, from a copy of the state: the four shovels other than 30 tie for six of the trucks, and
+   four divides 2^32, so that no word is passed over. */
 static void look_ahead(const uint32_t *state) {
     uint32_t copy[WORDS], strip[LOTS];
     memcpy(copy, state, sizeof copy);
@@ -63,7 +64,7 @@ static void look_ahead(const uint32_t *state) {
     printf("\n");
 }
 
-/* A bad card, no card, and a strip without room: each refused, and the state stays. */
+/* A bad card, no card, a strip without room, and more ties than a narrow card has words: each refused, and the state stays. */
 static void try_bad_input(uint32_t *state) {
     uint32_t start[WORDS], strip[LOTS];
     memcpy(start, state, sizeof start);
@@ -72,9 +73,17 @@ static void try_bad_input(uint32_t *state) {
     uint8_t span = tiedraw_fill(card, sizeof card, state, WORDS, strip, LOTS, 3, 4);
     stop_unless(refused.refusal == TIEDRAW_POWER_PARITY && span == TIEDRAW_SPAN_OUT_OF_BOUNDS, "bad input was not refused");
     stop_unless(memcmp(state, start, sizeof start) == 0, "a refusal moved the state");
+
+    const uint8_t two_bits[] = {0x27, 2, 2, 1, 2, 3, 0, 1, 0, 0, 0};
+    const uint16_t shovels[SHOVELS] = {4, 7, 12, 21, 30};
+    const uint32_t times[SHOVELS] = {300, 300, 300, 300, 300};
+    uint32_t narrow[2] = {0};
+    tiedraw_choice tied = tiedraw_pick(two_bits, sizeof two_bits, narrow, 2, shovels, SHOVELS, times, SHOVELS);
+    stop_unless(tied.refusal == TIEDRAW_TOO_MANY_TIES && narrow[0] == 0 && narrow[1] == 0, "five ties and four words were not refused");
     printf("a card whose odd power is even: refusal %u, and the state is as it was\n", refused.refusal);
     printf("no card at all: refusal %u\n", tiedraw_draw(NULL, 0, state, WORDS).refusal);
     printf("four words from place 3 of a strip of six: refusal %u\n", span);
+    printf("five ties with words of two bits: refusal %u\n", tied.refusal);
 }
 
 int main(void) {
@@ -92,19 +101,20 @@ int main(void) {
     memcpy(standby_state, state, sizeof state);
     look_ahead(state);
 
-    int lots = 0;
+    int words = 0;
     for (uint32_t truck = 1; truck <= TRUCKS; truck++) {
         tiedraw_choice server = pick(state, shovels, truck);
         tiedraw_choice standby = pick(standby_state, standby_shovels, truck);
-        printf("truck %" PRIu32 ": shovel %2u of %u, standby server: shovel %2u\n", truck, server.shovel, server.ties, standby.shovel);
+        printf("truck %" PRIu32 ": shovel %2u of %u, words %u, standby server: shovel %2u\n", truck, server.shovel, server.ties, server.taken,
+               standby.shovel);
         stop_unless(server.shovel == standby.shovel && memcmp(state, standby_state, sizeof state) == 0, "the servers differ");
-        lots += server.ties > 1;
+        words += server.taken;
     }
 
-    for (int i = 0; i < lots; i++)
+    for (int i = 0; i < words; i++)
         stop_unless(tiedraw_step_back(card, sizeof card, state, WORDS) == 0, "a step back was refused");
     stop_unless(memcmp(state, start, sizeof state) == 0, "the steps back lead elsewhere");
-    printf("%d steps back: the shift's first state\n", lots);
+    printf("%d steps back: the shift's first state\n", words);
     try_bad_input(state);
     return 0;
 }

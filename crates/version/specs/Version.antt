@@ -5,10 +5,10 @@ abbrev pub versionMajor : ℕ
 versionMajor = 0
 
 abbrev pub versionMinor : ℕ
-versionMinor = 2
+versionMinor = 3
 
 abbrev pub versionPatch : ℕ
-versionPatch = 1
+versionPatch = 0
 
 abbrev pub versionNumber : ℕ
 versionNumber = versionMajor * 1000000 + versionMinor * 1000 + versionPatch
