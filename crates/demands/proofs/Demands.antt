@@ -2,10 +2,12 @@
 use mathlib.Core.Path.{_≡_, refl, sym, ap, _∙_}
 use mathlib.Core.Bool.{Bool, true, false, cond}
 use mathlib.Core.List.{List, _++_}
-use Prim.Native.Nat.{ℕ, _+_}
+use Prim.Native.Nat.{ℕ, _+_, _^_}
+use native.Mathlib.Omega.{arith}
 use borrow.Author.Tests.{ne-eqb, le-ltb}
 use lib.Dec.{eqb}
 use lib.ListN.{length, take, drop}
+use Rattle.cycle.proofs.Remainder.{multiple-is, multiple-largest, most-kept, ranks-fair}
 use Rattle.refusals.specs.Refusals.{Check, firstOf, NoneApplies}
 use Rattle.refusals.proofs.Refusals.{first-none, none-first, none-left, none-append}
 use Rattle.tsc.specs.Columns.{column}
@@ -14,6 +16,8 @@ use Rattle.tsc.specs.Word.{orbitWords}
 use Rattle.tsc.specs.Coverage.{stepBack}
 use Rattle.tsc.proofs.Step.{column-step}
 use Rattle.tsc.proofs.StepBack.{back-of-step}
+use Rattle.tsc.proofs.Coverage.{coverage}
+use Rattle.tsc.proofs.Balanced.{word-balanced}
 use Rattle.card_format.specs.Reading.{cardOf, formChecks, noCard, reading}
 use Rattle.card_format.specs.Verdict.{cardChecks, verdict, Accepted}
 use Rattle.card_format.specs.Writing.{writing, pageAfter, rewriteChecks, rewriting, pageRewritten}
@@ -25,10 +29,12 @@ use Rattle.draws.proofs.Called.{only-before}
 use Rattle.draws.proofs.Draws.{back-of-stepped, draws-state, draws-word}
 use Rattle.fills.specs.Fills.{fillRefusal, filled, filledState}
 use Rattle.fills.proofs.Fills.{fill-draws, fill-undone, fill-none, fill-append}
+use Rattle.samples.proofs.Tried.{taken-none-iff, taken-few, taken-over, taken-kept}
 use Rattle.picks.specs.Picks.{pickRefusal, picking, picked}
 use Rattle.picks.proofs.Choice.{pick-chooses, pick-order}
 use Rattle.picks.proofs.Shift.{standby-alike}
-use Rattle.demands.specs.Demands.{ByTable, nothing, AnsweredOrRefused, Ready, Published, Undone, SameBytes, SameLots, AcceptedIffCovers, FilledAsDrawn, Demands}
+use Rattle.picks.proofs.Fair.{picks-fair}
+use Rattle.demands.specs.Demands.{ByTable, nothing, AnsweredOrRefused, Ready, Published, Undone, SameBytes, SameLots, AcceptedIffCovers, FilledAsDrawn, FairRanks, Demands}
 
 -- ---- demand 1
 
@@ -136,8 +142,28 @@ accepted-iff-covers = verdict-covers
 pub filled-as-drawn : FilledAsDrawn
 filled-as-drawn = record { draws = fill-draws; undone = fill-undone; none = fill-none; append = fill-append }
 
+-- ---- document 02, Two
+
+pub fair-ranks : FairRanks
+unfolding pickRefusal
+fair-ranks =
+    record {
+      multiple = λ card k pos. let M : ℕ = 2 ^ card .width in (multiple-is M k, multiple-largest M k pos .1);
+      most = λ card k pos. most-kept (2 ^ card .width) k pos;
+      none = taken-none-iff;
+      few = taken-few;
+      over = taken-over;
+      kept = taken-kept;
+      ranks = λ card k r l. ranks-fair (2 ^ card .width) k (omega arith) r l;
+      words = λ bytes xs h.
+          let card = cardOf bytes in
+          let a = ok bytes xs h in
+          word-balanced card (a .formed .words) (omega (arith, a .formed .width)) (orbit card xs) (coverage card (a .formed) xs (h .state) .1 (a .period) .once);
+      loads = λ bytes xs shovels times n. picks-fair bytes xs shovels times (first-none _ n);
+    }
+
 -- ---- the whole
 
 pub demands : Demands
 demands =
-    record { one = answered-or-refused; twoA = published; twoB = undone; twoC = same-bytes; twoD = same-lots; three = accepted-iff-covers; requestOne = filled-as-drawn }
+    record { one = answered-or-refused; twoA = published; twoB = undone; twoC = same-bytes; twoD = same-lots; three = accepted-iff-covers; requestOne = filled-as-drawn; requestTwo = fair-ranks }

@@ -1,18 +1,21 @@
 -- THE CLAIM: the user's three demands in the user's order, each part a statement, and what the requests of document 02 add. proofs/Demands.antt proves them all.
 -- What a call answers, and what it leaves in the words or the page lent to it, is by its contract what the definitions named here say, for every input.
 use mathlib.Core.Path.{_≡_}
-use mathlib.Core.Logic.{_≢_}
+use mathlib.Core.Logic.{_↔_, _≢_}
+use mathlib.Core.Bool.{true}
 use mathlib.Core.List.{List, _++_}
-use Prim.Native.Nat.{ℕ, suc, _+_, _≤_, _<_}
+use Prim.Native.Nat.{ℕ, suc, _+_, _-_, _*_, _/_, _^_, _≤_, _<_}
+use lib.Dec.{eqb}
 use lib.ListN.{length, getD, take, drop}
 use Rattle.refusals.specs.Refusals.{Check, firstOf, NoneApplies}
-use Rattle.cycle.specs.Notation.{iterate, bit}
+use Rattle.cycle.specs.Notation.{count, iterate, bit}
+use Rattle.cycle.specs.Fair.{givesRank}
 use Rattle.tsc.specs.declared.Card.{Card}
 use Rattle.tsc.specs.Columns.{column}
 use Rattle.tsc.specs.Selector.{selector}
 use Rattle.tsc.specs.Step.{entry, power, step, orbit}
 use Rattle.tsc.specs.Word.{word, orbitWords}
-use Rattle.tsc.specs.Coverage.{IsState, stepBack}
+use Rattle.tsc.specs.Coverage.{IsState, states, stepBack}
 use Rattle.card_format.specs.declared.Written.the-variants as Written
 use Rattle.card_format.specs.Fields.{Bytes}
 use Rattle.card_format.specs.Reading.{cardOf, formChecks, refusedReading, reading}
@@ -22,11 +25,13 @@ use Rattle.draws.specs.declared.Draw.the-variants as Draw
 use Rattle.draws.specs.Calls.{callChecks, refusalFor, stepped, steppedBack, drawing, OnlyBefore}
 use Rattle.fills.specs.Fills.{fillChecks, fillRefusal, filled, filledState}
 use Rattle.fills.specs.Draws.{drawnStrip, drawsMade}
-use Rattle.ties.specs.Ties.{ties, chosen, TieAt}
+use Rattle.ties.specs.Ties.{isTie, ties, chosen, TieAt}
 use Rattle.ties.specs.Order.{SameShovels}
+use Rattle.samples.specs.Samples.{mostTried, limit, taken, drawnRank, drawnState}
 use Rattle.picks.specs.declared.Pick.the-variants as Pick
-use Rattle.picks.specs.Picks.{pickChecks, drawnRank, drawnState, picking, picked}
+use Rattle.picks.specs.Picks.{pickChecks, picking, picked}
 use Rattle.picks.specs.Shift.{Request, answers, stateAfter, Alike}
+use Rattle.picks.specs.Fair.{sentByFirst}
 
 -- ---- demand 1: whatever card, state, page or shovel list is handed over, the call ends with an answer or the paper's refusal number, and a refusal leaves
 -- state and page as lent. (That every call ends is part of its proof.)
@@ -57,9 +62,9 @@ pub record AnsweredOrRefused : Type 0 where
       ByTable {L = List ℕ × List ℕ} (λ r. r) (fillChecks bytes xs strip place count) (strip, xs)
       (0, (take place strip ++ orbitWords card xs count ++ drop (place + count) strip, orbit card xs count))
       (fillRefusal bytes xs strip place count, (filled bytes xs strip place count, filledState bytes xs strip place count))
-  pub ofPick : (bytes xs shovels times : List ℕ) → let k = ties times in
+  pub ofPick : (bytes xs shovels times : List ℕ) → let card = cardOf bytes in let k = ties times in
       ByTable Pick.Refused (pickChecks bytes xs shovels times) xs
-      (Pick.Shovel (chosen shovels times (drawnRank (cardOf bytes) xs k)) k, drawnState (cardOf bytes) xs k)
+      (Pick.Shovel (chosen shovels times (drawnRank card xs k)) k (taken card xs k), drawnState card xs k)
       (picking bytes xs shovels times, picked bytes xs shovels times)
 
 -- ---- demand 2: each step and word equals the published definition, step back undoes step and step undoes step back for accepted cards, an accepted card
@@ -95,8 +100,8 @@ pub record SameBytes : Type 0 where
 
 -- 2d. The chosen shovel is the tie of the drawn rank; the same shovels and times in another order make no difference, for one pick and over a shift
 pub record SameLots : Type 0 where
-  pub ranked : (bytes xs shovels times : List ℕ) → NoneApplies (pickChecks bytes xs shovels times) → let k = ties times in
-      (i : ℕ) × TieAt shovels times (drawnRank (cardOf bytes) xs k) i × (picking bytes xs shovels times ≡ Pick.Shovel (getD shovels i 0) k)
+  pub ranked : (bytes xs shovels times : List ℕ) → NoneApplies (pickChecks bytes xs shovels times) → let card = cardOf bytes in let k = ties times in
+      (i : ℕ) × TieAt shovels times (drawnRank card xs k) i × (picking bytes xs shovels times ≡ Pick.Shovel (getD shovels i 0) k (taken card xs k))
   pub onePick : (bytes xs shovels times shovels₂ times₂ : List ℕ) → SameShovels shovels times shovels₂ times₂
       → (picking bytes xs shovels₂ times₂ ≡ picking bytes xs shovels times) × (picked bytes xs shovels₂ times₂ ≡ picked bytes xs shovels times)
   pub shift : (bytes xs : List ℕ) (requests requests₂ : List Request) → Alike requests requests₂
@@ -126,6 +131,29 @@ pub record FilledAsDrawn : Type 0 where
       × (filled bytes ys ws (place + j) k ≡ filled bytes xs strip place (j + k))
       × (filledState bytes ys ws (place + j) k ≡ filledState bytes xs strip place (j + k))
 
+-- ---- document 02, Two: a word of L or more is passed over and another is drawn, at most 16 in all; the number taken is 0 when k is 1. That the lower numbers
+-- get no more loads is counted over all states, for the first words of picks; the sixteenth word, which is not passed over, has no part in it
+
+pub record FairRanks : Type 0 where
+  -- L is a multiple of k, the largest that is not above 2^n, and more than half of the words are below it
+  pub multiple : (card : Card) (k : ℕ) → 0 < k → let M = 2 ^ card .width in (limit card k ≡ M / k * k) × (M < limit card k + k)
+  pub most : (card : Card) (k : ℕ) → 0 < k → k ≤ 2 ^ card .width → 2 ^ card .width < 2 * limit card k
+  -- no word is taken for one alone, and only then; else all but the last are passed over, and the last is below L, or the sixteenth
+  pub none : (card : Card) (xs : List ℕ) (k : ℕ) → (taken card xs k ≡ 0) ↔ (k ≡ 1)
+  pub few : (card : Card) (xs : List ℕ) (k : ℕ) → taken card xs k ≤ mostTried
+  pub over : (card : Card) (xs : List ℕ) (k t : ℕ) → suc t < taken card xs k → limit card k ≤ word card (orbit card xs (suc t))
+  pub kept : (card : Card) (xs : List ℕ) (k : ℕ) → k ≢ 1 → taken card xs k < mostTried → word card (orbit card xs (taken card xs k)) < limit card k
+  -- of the numbers of n bits, each rank is given by equally many
+  pub ranks : (card : Card) (k r : ℕ) → r < k → count (2 ^ card .width) (givesRank (2 ^ card .width) k r) ≡ limit card k / k
+  -- and each of them is the word of equally many states, along the orbit from any state
+  pub words : (bytes xs : List ℕ) → Ready bytes xs → (w : ℕ) → w < 2 ^ cardOf bytes .width → let card = cardOf bytes in
+      count (states card) (λ t. eqb (word card (orbit card xs t)) w) ≡ 2 ^ ((card .words - 1) * card .width)
+  -- so that over the whole orbit the first words send equally many trucks to each of the tied shovels
+  pub loads : (bytes xs shovels times : List ℕ) → NoneApplies (pickChecks bytes xs shovels times) → ties times ≢ 1
+      → (i : ℕ) → i < length times → isTie times i ≡ true → let card = cardOf bytes in let k = ties times in
+      count (states card) (λ t. sentByFirst (getD shovels i 0) (picking bytes (orbit card xs t) shovels times))
+      ≡ limit card k / k * 2 ^ ((card .words - 1) * card .width)
+
 -- ---- the whole
 
 pub record Demands : Type 0 where
@@ -136,3 +164,4 @@ pub record Demands : Type 0 where
   pub twoD : SameLots
   pub three : AcceptedIffCovers
   pub requestOne : FilledAsDrawn
+  pub requestTwo : FairRanks

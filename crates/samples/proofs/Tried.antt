@@ -22,21 +22,21 @@ module _ (card : Card) (xs : List ℕ) (k : ℕ) where
   kept t = ltb (word card (orbit card xs (suc t))) (limit card k)
 
   -- 1 to 16 words are tried
-  pub tried-some : 1 ≤ tried card xs k
+  tried-some : 1 ≤ tried card xs k
   unfolding tried
   tried-some = omega arith
 
-  pub tried-few : tried card xs k ≤ mostTried
+  tried-few : tried card xs k ≤ mostTried
   unfolding tried
   tried-few = omega (arith, first-le (mostTried - 1) kept)
 
   -- all but the last of them are passed over
-  pub passed-over : (t : ℕ) → suc t < tried card xs k → limit card k ≤ word card (orbit card xs (suc t))
+  passed-over : (t : ℕ) → suc t < tried card xs k → limit card k ≤ word card (orbit card xs (suc t))
   unfolding tried
   passed-over t l = ltb-false (word card (orbit card xs (suc t))) (limit card k) (before-first (mostTried - 1) kept t (omega arith))
 
   -- and that one is below L, or the sixteenth
-  pub decided : tried card xs k < mostTried → word card (orbit card xs (tried card xs k)) < limit card k
+  decided : tried card xs k < mostTried → word card (orbit card xs (tried card xs k)) < limit card k
   unfolding tried
   decided l = ltb-true (word card (orbit card xs (tried card xs k))) (limit card k) (first-at (mostTried - 1) kept (omega arith))
 
@@ -78,3 +78,14 @@ module _ (card : Card) (xs : List ℕ) (k : ℕ) where
       go : Dec (k ≡ 1) → taken card xs k ≤ mostTried
       go (yes e) = omega (arith, taken-none e)
       go (no n) = omega (arith, taken-tried n, tried-few)
+
+  -- which words they are
+  pub taken-over : (t : ℕ) → suc t < taken card xs k → limit card k ≤ word card (orbit card xs (suc t))
+  taken-over t l = go (ℕ-discrete k 1)
+    where
+      go : Dec (k ≡ 1) → limit card k ≤ word card (orbit card xs (suc t))
+      go (yes e) = absurd (omega (arith, taken-none e))
+      go (no n) = passed-over t (omega (arith, taken-tried n))
+
+  pub taken-kept : k ≢ 1 → taken card xs k < mostTried → word card (orbit card xs (taken card xs k)) < limit card k
+  taken-kept n l = rw (taken-tried n) (decided (omega (arith, taken-tried n)))
