@@ -29,10 +29,7 @@ fn drawn_rank(card: Card, s: State, k: u32, state: &mut [u32]) -> Drawn
     ensures { λ _. ⌜ now (state .exit) ≡ drawnState card (now (state .entry)) k ⌝ }
 {
     if k == 1 {
-        return Drawn {
-            rank: 0,
-            taken: 0,
-        };
+        return Drawn { rank: 0, taken: 0 };
     }
     let drawn = draw::draw_rank(card, s, k);
     lent::store(drawn.state, state);
