@@ -32,6 +32,7 @@ use Rattle.fills.proofs.Fills.{fill-draws, fill-undone, fill-none, fill-append}
 use Rattle.samples.proofs.Tried.{taken-none-iff, taken-few, taken-over, taken-kept}
 use Rattle.picks.specs.Picks.{pickRefusal, picking, picked}
 use Rattle.picks.proofs.Choice.{pick-chooses, pick-order}
+use Rattle.picks.proofs.Steps.{pick-steps, pick-undone}
 use Rattle.picks.proofs.Shift.{standby-alike}
 use Rattle.picks.proofs.Fair.{picks-fair}
 use Rattle.demands.specs.Demands.{ByTable, nothing, AnsweredOrRefused, Ready, Published, Undone, SameBytes, SameLots, AcceptedIffCovers, FilledAsDrawn, FairRanks, Demands}
@@ -154,6 +155,8 @@ fair-ranks =
       few = taken-few;
       over = taken-over;
       kept = taken-kept;
+      steps = pick-steps;
+      undone = pick-undone;
       ranks = λ card k r l. ranks-fair (2 ^ card .width) k (omega arith) r l;
       words = λ bytes xs h.
           let card = cardOf bytes in

@@ -29,7 +29,7 @@ use Rattle.ties.specs.Ties.{isTie, ties, chosen, TieAt}
 use Rattle.ties.specs.Order.{SameShovels}
 use Rattle.samples.specs.Samples.{mostTried, limit, taken, drawnRank, drawnState}
 use Rattle.picks.specs.declared.Pick.the-variants as Pick
-use Rattle.picks.specs.Picks.{pickChecks, picking, picked}
+use Rattle.picks.specs.Picks.{pickChecks, picking, wordsTaken, picked}
 use Rattle.picks.specs.Shift.{Request, answers, stateAfter, Alike}
 use Rattle.picks.specs.Fair.{sentByFirst}
 
@@ -131,18 +131,23 @@ pub record FilledAsDrawn : Type 0 where
       × (filled bytes ys ws (place + j) k ≡ filled bytes xs strip place (j + k))
       × (filledState bytes ys ws (place + j) k ≡ filledState bytes xs strip place (j + k))
 
--- ---- document 02, Two: a word of L or more is passed over and another is drawn, at most 16 in all; the number taken is 0 when k is 1. That the lower numbers
--- get no more loads is counted over all states, for the first words of picks; the sixteenth word, which is not passed over, has no part in it
+-- ---- document 02, Two: a word of L or more is passed over and another is drawn, at most 16 in all; the answer gains the number taken (0 when k is 1), and the
+-- state has made that many steps. That no shovel of k equal ones gets more loads than another is counted over all states, for the first words of picks
 
 pub record FairRanks : Type 0 where
   -- L is a multiple of k, the largest that is not above 2^n, and more than half of the words are below it
   pub multiple : (card : Card) (k : ℕ) → 0 < k → let M = 2 ^ card .width in (limit card k ≡ M / k * k) × (M < limit card k + k)
   pub most : (card : Card) (k : ℕ) → 0 < k → k ≤ 2 ^ card .width → 2 ^ card .width < 2 * limit card k
-  -- no word is taken for one alone, and only then; else all but the last are passed over, and the last is below L, or the sixteenth
+  -- no word is taken for one alone, and only then; else all but the last are passed over, and the last is below L or the sixteenth
   pub none : (card : Card) (xs : List ℕ) (k : ℕ) → (taken card xs k ≡ 0) ↔ (k ≡ 1)
   pub few : (card : Card) (xs : List ℕ) (k : ℕ) → taken card xs k ≤ mostTried
   pub over : (card : Card) (xs : List ℕ) (k t : ℕ) → suc t < taken card xs k → limit card k ≤ word card (orbit card xs (suc t))
   pub kept : (card : Card) (xs : List ℕ) (k : ℕ) → k ≢ 1 → taken card xs k < mostTried → word card (orbit card xs (taken card xs k)) < limit card k
+  -- the state has made as many steps as the pick tells, for every input, and so many steps back undo it
+  pub steps : (bytes xs shovels times : List ℕ) → let t = wordsTaken (picking bytes xs shovels times) in
+      picked bytes xs shovels times ≡ iterate (stepped bytes) t xs
+  pub undone : (bytes xs shovels times : List ℕ) → let t = wordsTaken (picking bytes xs shovels times) in
+      iterate (steppedBack bytes) t (picked bytes xs shovels times) ≡ xs
   -- of the numbers of n bits, each rank is given by equally many
   pub ranks : (card : Card) (k r : ℕ) → r < k → count (2 ^ card .width) (givesRank (2 ^ card .width) k r) ≡ limit card k / k
   -- and each of them is the word of equally many states, along the orbit from any state

@@ -1,10 +1,12 @@
 -- Draws one after the other. From a start that a draw does not refuse: no later draw is refused, t draws leave state number t of the orbit, and the next
--- answers the word of state number t + 1; as many steps back undo them. So a module that steps truly once and then stands is ruled out, from every state.
+-- answers the word of state number t + 1. As many steps back undo them, refused ones too. So a module that steps truly once and then stands is ruled out, from every state.
 use mathlib.Core.Path.{_≡_, refl, sym, ap, _∙_}
+use mathlib.Core.Logic.{_≢_}
 use mathlib.Core.List.{List}
 use Prim.Native.Nat.{ℕ, zero, suc}
+use native.Mathlib.Decide.{ℕ-discrete}
 use Rattle.cycle.specs.Notation.{iterate}
-use Rattle.cycle.proofs.Iterate.{iterate-undone}
+use Rattle.cycle.proofs.Iterate.{iterate-undone, iterate-fixed}
 use Rattle.tsc.specs.Coverage.{stepBack}
 use Rattle.tsc.specs.Step.{step, orbit}
 use Rattle.tsc.specs.Word.{word}
@@ -14,7 +16,7 @@ use Rattle.card_format.specs.Reading.{cardOf}
 use Rattle.card_format.proofs.Verdict.{accepted-card}
 use Rattle.draws.specs.declared.Draw.the-variants.{Word}
 use Rattle.draws.specs.Calls.{refusalFor, stepped, steppedBack, drawing}
-use Rattle.draws.proofs.Opening.{passed, passes, unless-passed}
+use Rattle.draws.proofs.Opening.{passed, passes, unless-refused, unless-passed}
 use Rattle.draws.proofs.Called.{drawing-word}
 
 -- a step back after a step
@@ -46,7 +48,22 @@ module _ (bytes start : List ℕ) (z : refusalFor bytes start ≡ 0) where
   draws-word t =
       ap (drawing bytes) (draws-state t) ∙ sym (drawing-word bytes (orbit (cardOf bytes) start t) _ refl (never-refused t))
 
-  pub draws-undone : (t : ℕ) → iterate (steppedBack bytes) t (iterate (stepped bytes) t start) ≡ start
-  draws-undone =
+  passed-undone : (t : ℕ) → iterate (steppedBack bytes) t (iterate (stepped bytes) t start) ≡ start
+  passed-undone =
       iterate-undone (stepped bytes) (steppedBack bytes) start
       (λ t. back-of-stepped bytes (iterate (stepped bytes) t start) (ap (refusalFor bytes) (draws-state t) ∙ never-refused t))
+
+-- refused ones leave the state
+pub refused-state : (bytes xs : List ℕ) → refusalFor bytes xs ≢ 0 → (t : ℕ) → iterate (stepped bytes) t xs ≡ xs
+unfolding stepped
+refused-state bytes xs ne = iterate-fixed (stepped bytes) xs (sym (unless-refused bytes xs _ ne))
+
+-- so for every input as many steps back undo draws
+pub draws-undone : (bytes xs : List ℕ) (t : ℕ) → iterate (steppedBack bytes) t (iterate (stepped bytes) t xs) ≡ xs
+unfolding steppedBack
+draws-undone bytes xs t = go (ℕ-discrete (refusalFor bytes xs) 0)
+  where
+    go : Dec (refusalFor bytes xs ≡ 0) → iterate (steppedBack bytes) t (iterate (stepped bytes) t xs) ≡ xs
+    go (yes z) = passed-undone bytes xs z t
+    go (no n) =
+        ap (iterate (steppedBack bytes) t) (refused-state bytes xs n t) ∙ iterate-fixed (steppedBack bytes) xs (sym (unless-refused bytes xs _ n)) t

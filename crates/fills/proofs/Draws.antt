@@ -10,16 +10,15 @@ use native.Mathlib.Omega.{arith}
 use lib.ListN.{length, take, drop, length-set}
 use lib.Seq.{paste, paste-zero, paste-suc, take-all}
 use Rattle.cycle.specs.Notation.{iterate}
-use Rattle.cycle.proofs.Iterate.{iterate-add, iterate-fixed}
+use Rattle.cycle.proofs.Iterate.{iterate-add}
 use Rattle.tsc.specs.Word.{orbitWords}
 use Rattle.tsc.proofs.Word.{length-orbitWords, orbitWords-at}
 use Rattle.card_format.specs.Reading.{cardOf}
 use Rattle.draws.specs.declared.Draw.{Draw}
 use Rattle.draws.specs.declared.Draw.the-variants.{Word, Refused}
-use Rattle.draws.specs.Calls.{refusalFor, stepped, steppedBack, drawing}
-use Rattle.draws.proofs.Opening.{unless-refused}
+use Rattle.draws.specs.Calls.{refusalFor, stepped, drawing}
 use Rattle.draws.proofs.Called.{drawing-refused}
-use Rattle.draws.proofs.Draws.{never-refused, draws-state, draws-word, draws-undone}
+use Rattle.draws.proofs.Draws.{never-refused, draws-state, draws-word, refused-state}
 use Rattle.fills.specs.Draws.{withDraw, drawnStrip}
 
 length-withDraw : (strip : List ℕ) (place : ℕ) (d : Draw) → length (withDraw strip place d) ≡ length strip
@@ -28,10 +27,6 @@ length-withDraw strip place (Refused r) = refl
 
 pub drawn-state-append : (bytes xs : List ℕ) (j k : ℕ) → iterate (stepped bytes) (j + k) xs ≡ iterate (stepped bytes) k (iterate (stepped bytes) j xs)
 drawn-state-append bytes xs j k = ap (λ (t : ℕ). iterate (stepped bytes) t xs) (add-comm j k) ∙ iterate-add (stepped bytes) k j xs
-
-pub refused-state : (bytes xs : List ℕ) → refusalFor bytes xs ≢ 0 → (t : ℕ) → iterate (stepped bytes) t xs ≡ xs
-unfolding stepped
-refused-state bytes xs ne = iterate-fixed (stepped bytes) xs (sym (unless-refused bytes xs _ ne))
 
 module _ (bytes xs strip : List ℕ) (place : ℕ) where
   pub length-drawnStrip : (t : ℕ) → length (drawnStrip bytes xs strip place t) ≡ length strip
@@ -75,16 +70,6 @@ module _ (bytes xs strip : List ℕ) (place : ℕ) where
     drawn-row =
         drawn-paste count (omega arith)
         ∙ ap (λ (r : List ℕ). take place strip ++ r ++ drop (place + count) strip) (take-all count row (le-of-eq (length-orbitWords (cardOf bytes) xs count)))
-
--- so many steps back undo draws, refused ones too
-pub drawn-undone : (bytes xs : List ℕ) (t : ℕ) → iterate (steppedBack bytes) t (iterate (stepped bytes) t xs) ≡ xs
-unfolding steppedBack
-drawn-undone bytes xs t = go (ℕ-discrete (refusalFor bytes xs) 0)
-  where
-    go : Dec (refusalFor bytes xs ≡ 0) → iterate (steppedBack bytes) t (iterate (stepped bytes) t xs) ≡ xs
-    go (yes z) = draws-undone bytes xs z t
-    go (no n) =
-        ap (iterate (steppedBack bytes) t) (refused-state bytes xs n t) ∙ iterate-fixed (steppedBack bytes) xs (sym (unless-refused bytes xs _ n)) t
 
 -- draws change nothing of whether a draw is refused
 pub drawn-told : (bytes xs : List ℕ) (t : ℕ) → refusalFor bytes (iterate (stepped bytes) t xs) ≡ refusalFor bytes xs

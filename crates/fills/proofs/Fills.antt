@@ -12,12 +12,12 @@ use lib.Dec.{ltb}
 use lib.ListN.{length}
 use Rattle.cycle.specs.Notation.{iterate}
 use Rattle.draws.specs.Calls.{refusalFor, stepped, steppedBack}
-use Rattle.draws.proofs.Draws.{draws-state}
+use Rattle.draws.proofs.Draws.{draws-state, refused-state, draws-undone}
 use Rattle.spans.proofs.Span.{span-fits}
 use Rattle.fills.specs.Fills.{fillRefusal, filled, filledState}
 use Rattle.fills.specs.Draws.{drawnStrip, drawsMade}
 use Rattle.fills.proofs.Filling.{refusal-call, refusal-span, fill-passed, fill-refused, promised-passed}
-use Rattle.fills.proofs.Draws.{length-drawnStrip, drawn-append, drawn-state-append, refused-state, refused-strip, drawn-row, drawn-undone, drawn-told}
+use Rattle.fills.proofs.Draws.{length-drawnStrip, drawn-append, drawn-state-append, refused-strip, drawn-row, drawn-told}
 
 module _ (bytes xs strip : List ℕ) (place count : ℕ) where
   -- what a fill leaves is what so many draws leave
@@ -62,7 +62,7 @@ pub fill-undone : (bytes xs strip : List ℕ) (place count : ℕ)
     → iterate (steppedBack bytes) (drawsMade (length strip) place count) (filledState bytes xs strip place count) ≡ xs
 fill-undone bytes xs strip place count =
     let t = drawsMade (length strip) place count in
-    ap (iterate (steppedBack bytes) t) (fill-draws bytes xs strip place count .1) ∙ drawn-undone bytes xs t
+    ap (iterate (steppedBack bytes) t) (fill-draws bytes xs strip place count .1) ∙ draws-undone bytes xs t
 
 -- A COUNT OF 0 CHANGES NOTHING, refused or not
 pub fill-none : (bytes xs strip : List ℕ) (place : ℕ) → (filled bytes xs strip place 0 ≡ strip) × (filledState bytes xs strip place 0 ≡ xs)

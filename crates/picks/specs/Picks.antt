@@ -28,6 +28,11 @@ picking bytes xs shovels times =
     let r = pickRefusal bytes xs shovels times in
     cond (eqb r 0) (Shovel (chosen shovels times (drawnRank card xs k)) k (taken card xs k)) (Refused r)
 
+-- how many words a pick tells that it took; none where it is refused
+abbrev pub wordsTaken : Pick → ℕ
+wordsTaken (Shovel s k t) = t
+wordsTaken (Refused r) = 0
+
 -- the state words after a pick; as lent where it refuses
 unfoldable pub picked : List ℕ → List ℕ → List ℕ → List ℕ → List ℕ
 picked bytes xs shovels times = cond (eqb (pickRefusal bytes xs shovels times) 0) (drawnState (cardOf bytes) xs (ties times)) xs
