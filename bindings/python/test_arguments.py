@@ -99,11 +99,11 @@ class Rows(unittest.TestCase):
     def test_lists_of_a_pick_may_be_iterables(self):
         times = {7: 300, 4: 300}
         answer = tiedraw.pick(iter(PROGRAM), iter([2, 3]), iter(times), times.values())
-        self.assertEqual(answer, ((7, 2), (1, 1)))
+        self.assertEqual(answer, ((7, 2, 1), (1, 1)))
 
     def test_whole_numbers_of_other_kinds(self):
         desk = tiedraw.Generator(PROGRAM, [Index(2), Index(3)])
-        self.assertEqual(desk.pick({Index(7): Index(300), Index(4): Index(300)}), (7, 2))
+        self.assertEqual(desk.pick({Index(7): Index(300), Index(4): Index(300)}), (7, 2, 1))
         self.assertEqual(tiedraw.write(Values(width=Index(29))), bytes.fromhex("02 1d"))
 
 

@@ -48,8 +48,12 @@ class Command(unittest.TestCase):
         self.assertEqual(self.printed("draw", "00", "0,0,0,EDB77BDE", "--count", "0"), ["state " + "00000000," * 3 + "edb77bde"])
 
     def test_pick(self):
-        answer = ["shovel 7", "ties 2", "state 00000001,00000001"]
-        self.assertEqual(self.printed("pick", PROGRAM, "2,3", "7=300", "4=300"), answer)
+        for times, answer in {
+            ("7=300", "4=300"): ["shovel 7", "ties 2", "taken 1", "state 00000001,00000001"],
+            ("5=60", "8=60", "9=60"): ["shovel 9", "ties 3", "taken 2", "state 00000002,00000000"],
+            ("7=300", "4=299"): ["shovel 4", "ties 1", "taken 0", "state 00000002,00000003"],
+        }.items():
+            self.assertEqual(self.printed("pick", PROGRAM, "2,3", *times), answer)
 
     def test_new_cards_can_be_given_back(self):
         for size in [(), ("--words", "2", "--width", "7"), ("--filter", "2", "--seed", "south pit")]:
@@ -79,6 +83,7 @@ class Command(unittest.TestCase):
         self.fails(1, "refusal 10 (word count): ", "draw", PROGRAM, "")
         self.fails(1, "refusal 13 (no shovel): ", "pick", PROGRAM, "0,0")
         self.fails(1, "refusal 15 (twice): ", "pick", PROGRAM, "0,0", "7=1", "7=2")
+        self.fails(1, "refusal 18 (too many equals): ", "pick", PROGRAM, "0,0", "1=60", "2=60", "3=60", "4=60", "5=60")
 
     def test_wrong_usage(self):
         for message, *arguments in [

@@ -3,13 +3,13 @@
 import array
 import ctypes
 import mmap
-import pathlib
 import pickle
 import sys
 import threading
 import unittest
 
 import tiedraw
+from papers import cases, numbers
 from tiedraw import Generator, Refusal, Refused
 
 try:
@@ -17,7 +17,6 @@ try:
 except ModuleNotFoundError:  # the package needs none
     numpy = None
 
-ROOT = pathlib.Path(__file__).resolve().parents[2]
 PROGRAM = bytes.fromhex("27 02 02 01 02 03 00 01 00 00 00")
 LENT = 0xA5A5A5A5
 WIDEST = ctypes.c_size_t(-1).value
@@ -41,18 +40,9 @@ class Filling(unittest.TestCase):
 
 def papers():
     """The cases of a strip in the papers: card, state, strip, place and count, and the answer."""
-
-    def words(text):
-        return [] if text == "-" else [int(word, 16) for word in text.split(",")]
-
-    for line in (ROOT / "cases/papers.txt").read_text(encoding="utf-8").splitlines():
-        if line.startswith("strip ") and not line.endswith(" => syntax"):
-            case, answer = line.split(" => ")
-            _, card, state, lent, place, count = case.split(" ")
-            card = bytes.fromhex("" if card == "-" else card)
-            verdict, *told = answer.split(" ")
-            told = int(told[0]) if verdict == "refused" else (words(told[0]), words(told[2]))
-            yield (card, words(state), words(lent), int(place), int(count)), told
+    for card, state, (lent, place, count), told in cases("strip"):
+        answer = told if isinstance(told, int) else (numbers(told["strip"], 16), numbers(told["state"], 16))
+        yield (card, state, numbers(lent, 16), int(place), int(count)), answer
 
 
 class Papers(unittest.TestCase):

@@ -1,16 +1,16 @@
 """What docs/OPERATING.md shows as measured: accepted cards whose lots are bad, and new ones whose lots are not bad in that way."""
 
-import collections
 import random
 import unittest
 
-from tiedraw import Generator, check, new_card
+from tiedraw import Generator, Refusal, Refused, check, new_card
 
 SHORT = bytes.fromhex("b0 00 01 00 00 00 00")
 NARROW = bytes.fromhex("27 02 02 01 02 03 00 01 00 00 00")
 
 
 def lots(card, start, ties, count):
+    """Of 2 or 4 ties, for which no word is passed over."""
     return [word % ties for word in Generator(card, start).words(count)]
 
 
@@ -30,10 +30,11 @@ class Measured(unittest.TestCase):
         starts = [[chance.getrandbits(32) for _ in range(4)] for _ in range(100)]
         self.assertGreater(sum(repeats(lots(SHORT, start, 2, 4_000), 16) for start in starts), 85)
 
-    def test_two_of_six_shovels_never_go(self):
+    def test_six_shovels_are_too_many_for_words_of_two_bits(self):
         desk = Generator(NARROW, [0, 0])
-        went = collections.Counter(desk.pick({shovel: 300 for shovel in range(11, 17)}).shovel for _ in range(1_600))
-        self.assertEqual(went, {11: 400, 12: 400, 13: 400, 14: 400})
+        with self.assertRaises(Refused) as caught:
+            desk.pick({shovel: 300 for shovel in range(11, 17)})
+        self.assertEqual((caught.exception.refusal, desk.state), (Refusal.TOO_MANY_TIES, (0, 0)))
 
     def test_new_cards_do_not_repeat_so(self):
         for seed in range(20):

@@ -61,21 +61,24 @@ class Versions(unittest.TestCase):
 
 
 class Bounds(unittest.TestCase):
+    names = ["MOST_WORDS", "MOST_SHOVELS", "MOST_CARD_BYTES", "MOST_TAKEN"]
+
     def same(self, number, found):
         self.assertEqual(found, [str(number)])
 
     def test_the_header(self):
-        for name in ["MOST_WORDS", "MOST_SHOVELS", "MOST_CARD_BYTES"]:
+        for name in self.names:
             self.same(getattr(tiedraw, name), re.findall(rf"#define TIEDRAW_{name} (\d+)\n", text("include/tiedraw.h")))
 
     def test_the_definitions(self):
         self.same(tiedraw.MOST_WORDS, re.findall(r"\nmostWords = (\d+)\n", text("crates/tsc/specs/Constants.antt")))
         self.same(tiedraw.MOST_SHOVELS, re.findall(r"\nmostShovels = (\d+)\n", text("crates/ties/specs/Ties.antt")))
         self.same(tiedraw.MOST_CARD_BYTES, re.findall(r"\nmostCardBytes = (\d+)\n", text("crates/card_format/specs/Fields.antt")))
+        self.same(tiedraw.MOST_TAKEN, re.findall(r"\nmostTried = (\d+)\n", text("crates/samples/specs/Samples.antt")))
 
     def test_rust(self):
-        for name in ["MOST_WORDS", "MOST_SHOVELS", "MOST_CARD_BYTES"]:
-            self.same(getattr(tiedraw, name), re.findall(rf"pub const {name}: usize = (\d+);", rust()))
+        for name in self.names:
+            self.same(getattr(tiedraw, name), re.findall(rf"pub const {name}: \w+ = (\d+);", rust()))
 
 
 class Cards(unittest.TestCase):

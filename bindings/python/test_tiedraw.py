@@ -41,9 +41,9 @@ class Document(unittest.TestCase):
             for kind in [dict, list, iter, set, lambda pairs: dict(pairs).items()]:
                 for state, shovel, after in [((0, 0), 4, (1, 2)), ((2, 3), 7, (1, 1))]:
                     desk = tiedraw.Generator(PROGRAM, state)
-                    self.assertEqual(desk.pick(kind([(number, 300) for number in numbers])), (shovel, 2))
+                    self.assertEqual(desk.pick(kind([(number, 300) for number in numbers])), (shovel, 2, 1))
                     self.assertEqual(desk.state, after)
-        self.assertEqual(tiedraw.pick(PROGRAM, [0, 0], [4, 7], [300, 299]), ((7, 1), (0, 0)))
+        self.assertEqual(tiedraw.pick(PROGRAM, [0, 0], [4, 7], [300, 299]), ((7, 1, 0), (0, 0)))
 
     def test_what_is_unsound_is_refused_and_changes_nothing(self):
         self.refused(Refusal.TRUNCATED, tiedraw.check, b"")
@@ -56,6 +56,7 @@ class Document(unittest.TestCase):
         self.refused(Refusal.NO_SHOVEL, desk.pick, [])
         self.refused(Refusal.TOO_MANY_SHOVELS, desk.pick, {shovel: 1 for shovel in range(tiedraw.MOST_SHOVELS + 1)})
         self.refused(Refusal.DUPLICATE_SHOVEL, desk.pick, [(7, 300), (4, 200), (7, 300)])
+        self.refused(Refusal.TOO_MANY_TIES, desk.pick, {shovel: 300 for shovel in range(5)})
         self.assertEqual(desk.state, (2, 3))
 
     def test_values_become_a_card(self):

@@ -9,11 +9,16 @@ ROOT = HERE.parents[1]
 INK, FAINT = "#22303c", "#8a99a8"
 
 
-def svg(name, width, height, body):
-    """Writes a picture on a white ground."""
+def svg(width, height, body):
+    """A picture on a white ground."""
     head = f'<svg xmlns="http://www.w3.org/2000/svg" viewBox="0 0 {width} {height}" width="{width}" height="{height}" font-family="DejaVu Sans, Verdana, sans-serif">'
     ground = f'<rect width="{width}" height="{height}" fill="white"/>'
-    (HERE / name).write_text("\n".join([head, ground, *body, "</svg>", ""]))
+    return "\n".join([head, ground, *body, "</svg>", ""])
+
+
+def save(draw):
+    """Writes the picture that a function draws into the file of its name."""
+    (HERE / f"{draw.__name__}.svg").write_text(draw())
 
 
 def text(x, y, words, size=13, fill=INK, anchor="middle", more=""):
@@ -156,7 +161,7 @@ def layers():
         left, top = GAP + i % 2 * 270, 12 + i // 2 * 24
         body.append(f'<rect x="{left}" y="{top}" width="16" height="16" rx="3" fill="{fill}" stroke="{edge}"/>')
         body.append(text(left + 24, top + 13, words, 12, anchor="start"))
-    svg("layers.svg", width, height, body)
+    return svg(width, height, body)
 
 
 # ---- The orbit. The step by document 002 (12) and (13), for two words of two bits, powers 1 and 2, and the sum term.
@@ -219,8 +224,9 @@ def orbit():
     for i, cycle in enumerate(bad):
         body += ring(cycle, 575 + 215 * i, 275, 80, "#fbe9e7", "#c0564a")
         body.append(text(575 + 215 * i, 280, f"{len(cycle)} states", 13))
-    svg("orbit.svg", 920, 490, body)
+    return svg(920, 490, body)
 
 
-layers()
-orbit()
+if __name__ == "__main__":
+    save(layers)
+    save(orbit)

@@ -2,7 +2,7 @@
 
     import tiedraw
     desk = tiedraw.Generator(bytes.fromhex("27 02 02 01 02 03 00 01 00 00 00"), [0, 0])
-    desk.pick({7: 300, 4: 300})     # Choice(shovel=4, ties=2)
+    desk.pick({7: 300, 4: 300})     # Choice(shovel=4, ties=2, taken=1)
     desk.state                      # (1, 2)
     desk.words(3)                   # array('I', [0, 3, 2])
 
@@ -21,7 +21,7 @@ the package stands in, or on the system.
 
 from ._calls import check, draw, fill, pick, read, step, step_back, write
 from ._generator import Generator
-from ._library import MOST_CARD_BYTES, MOST_SHOVELS, MOST_WORDS, library_version
+from ._library import MOST_CARD_BYTES, MOST_SHOVELS, MOST_TAKEN, MOST_WORDS, library_version
 from ._new_card import new_card
 from ._refusal import Refusal, Refused
 from ._values import Choice, Values
@@ -30,6 +30,7 @@ from ._version import __version__
 __all__ = [
     "MOST_CARD_BYTES",
     "MOST_SHOVELS",
+    "MOST_TAKEN",
     "MOST_WORDS",
     "Choice",
     "Generator",

@@ -43,6 +43,7 @@ def _pick(options: argparse.Namespace) -> Iterator[str]:
     choice = desk.pick(options.times)
     yield f"shovel {choice.shovel}"
     yield f"ties {choice.ties}"
+    yield f"taken {choice.taken}"
     yield f"state {state_text(desk.state)}"
 
 
@@ -88,7 +89,7 @@ def _parser() -> argparse.ArgumentParser:
     command(_read, "prints the eight values of a card, or it is refused by 1 to 6", "CARD")
     draw = command(_draw, "prints the word of each draw, then the state after the last", "CARD", "STATE")
     draw.add_argument("--count", metavar="N", type=_parsed(number), default=1, help="so many draws (default 1)")
-    pick = command(_pick, "prints the shovel, the number of ties and the state after the pick", "CARD", "STATE")
+    pick = command(_pick, "prints the shovel, the number of ties and of words taken, and the state after the pick", "CARD", "STATE")
     pick.add_argument("times", metavar="SHOVEL=SECONDS", nargs="*", type=_parsed(shovel_time), help="a shovel and its time")
     _new_options(command(_new, "prints a new card in hex, and its values as comments: a file for @FILE"))
     return parser

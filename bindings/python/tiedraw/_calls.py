@@ -61,10 +61,10 @@ def fill(
 
 
 def pick(card: Numbers, state: Numbers, shovels: Numbers, times: Numbers) -> tuple[Choice, tuple[int, ...]]:
-    """The chosen shovel and the number of ties, and the state after the pick."""
+    """The chosen shovel, the number of ties and of words taken, and the state after the pick."""
     lists = (*row(c_uint16, "shovels", shovels), *seconds_row(times))
     answer, after = _on_state(_library.pick, card, state, *lists)
-    return Choice(answer.shovel, answer.ties), after
+    return Choice(answer.shovel, answer.ties, answer.taken), after
 
 
 def _arguments(name: str, value: Any) -> tuple[Any, ...]:

@@ -94,7 +94,11 @@ class Generator:
         return drawn
 
     def pick(self, times: Times) -> Choice:
-        """The shovel of least time, from {shovel: time} or pairs (shovel, time); ties are broken by a draw.
+        """The shovel of least time, from {shovel: time} or pairs (shovel, time); ties are broken by a fair draw.
+
+        Words are drawn until one is below the largest multiple of the number of ties that is not above 2^width, 16 at
+        most. The last one modulo that number says which of them it is, counted from the lowest shovel number. More than
+        2^width ties are refused by 18, and nothing has changed.
 
         An error names a time by what is written to get it: times[7] of a mapping, times[0][1] of pairs. A number that
         stands twice among pairs is refused by 15.
@@ -105,7 +109,7 @@ class Generator:
         with self._lock:
             answer: Chosen = self._pick(*lists)
         unless_refused(answer.refusal)
-        return Choice(answer.shovel, answer.ties)
+        return Choice(answer.shovel, answer.ties, answer.taken)
 
     def __eq__(self, other: object) -> bool:
         if not isinstance(other, Generator):

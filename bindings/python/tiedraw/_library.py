@@ -14,6 +14,7 @@ LIBRARY, VERSION = load()
 MOST_WORDS = 4
 MOST_SHOVELS = 64
 MOST_CARD_BYTES = 26
+MOST_TAKEN = 16
 
 
 class Card(ctypes.Structure):
@@ -50,9 +51,10 @@ class Word(ctypes.Structure):
 
 
 class Chosen(ctypes.Structure):
-    _fields_ = [("shovel", c_uint16), ("ties", c_uint8), ("refusal", c_uint8)]
+    _fields_ = [("shovel", c_uint16), ("ties", c_uint8), ("taken", c_uint8), ("refusal", c_uint8)]
     shovel: int
     ties: int
+    taken: int
     refusal: int
 
 

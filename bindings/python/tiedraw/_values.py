@@ -6,10 +6,15 @@ from typing import NamedTuple, Sequence
 
 
 class Choice(NamedTuple):
-    """What a pick answers: the shovel's number, and how many shovels had the least time."""
+    """What a pick answers: the shovel's number, how many shovels had the least time, and how many words were taken.
+
+    No word is taken where one shovel alone had it, else 1 to 16. The state has made as many steps, so that as many steps
+    back take the pick back.
+    """
 
     shovel: int
     ties: int
+    taken: int
 
 
 class Values(NamedTuple):

@@ -1,0 +1,18 @@
+"""The papers' cases, of cases/papers.txt, for the tests."""
+
+import pathlib
+
+FILE = pathlib.Path(__file__).resolve().parents[2] / "cases/papers.txt"
+
+
+def numbers(text, base=10):
+    return [] if text == "-" else [int(number, base) for number in text.split(",")]
+
+
+def cases(call):
+    """Of each case of a call on a state: card, state, the fields behind them; and the answer, its fields by name or the refusal."""
+    for line in FILE.read_text(encoding="utf-8").splitlines():
+        if line.startswith(f"{call} ") and not line.endswith(" => syntax"):
+            (_, card, state, *more), answer = (part.split(" ") for part in line.split(" => "))
+            told = dict(zip(answer[::2], answer[1::2]))
+            yield bytes.fromhex(card.strip("-")), numbers(state, 16), more, int(told.get("refused", 0)) or told
