@@ -29,7 +29,7 @@ module _ (M c : ℕ) where
 -- ---- evenly spread values
 
 -- a test of the remainder by k, on q times k numbers
-pub count-remainders : (q k : ℕ) (p : ℕ → Bool) → count (q * k) (λ z. p (z % k)) ≡ q * count k p
+count-remainders : (q k : ℕ) (p : ℕ → Bool) → count (q * k) (λ z. p (z % k)) ≡ q * count k p
 unfolding count
 count-remainders q k p =
     sum-blocks q k (λ z. one (p (z % k)))

@@ -23,7 +23,7 @@ use Rattle.picks.specs.Picks.{pickRefusal, picking, picked}
 
 module _ (bytes xs shovels times : List ℕ) where
   -- 18, and all that a pick looks at behind 11
-  abbrev pub manyChecks : List Check
+  abbrev manyChecks : List Check
   manyChecks = tieChecks (cardOf bytes .width) (ties times)
 
   abbrev later : List Check
@@ -73,7 +73,7 @@ module _ (bytes xs shovels times : List ℕ) where
   pick-refused-list k r e ne = picking-refused r ne (e ∙ refusal-list (k .none) (λ z. ne (e ∙ z)))
 
   -- the count of ties as it is looked at
-  pub many-told : {o : Opened} → Clear bytes xs o → firstOf (listChecks shovels times) ≡ 0 → {n k : ℕ} → n ≡ o .card .width → k ≡ ties times
+  many-told : {o : Opened} → Clear bytes xs o → firstOf (listChecks shovels times) ≡ 0 → {n k : ℕ} → n ≡ o .card .width → k ≡ ties times
       → firstOf (tieChecks n k) ≡ pickRefusal bytes xs shovels times
   many-told c z en ek =
       let width = en ∙ ap (λ (card : Card). card .width) (c .card-is) in

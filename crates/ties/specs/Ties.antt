@@ -1,6 +1,6 @@
 -- The shovels with the least time and their ranks (document 01, Step, word and pick). Entry i of a list is shovel i's number, or its time.
 use mathlib.Core.Path.{_≡_}
-use mathlib.Core.Bool.{Bool, true, cond, not, _&&_}
+use mathlib.Core.Bool.{Bool, true, not, _&&_}
 use mathlib.Core.List.{List}
 use Prim.Native.Nat.{ℕ, _<_}
 use lib.Dec.{eqb, leb, ltb}

@@ -123,7 +123,7 @@ module _ (card : Card) (two : 2 ≤ card .words) (pos : 0 < card .width) where
       rest z = others-in-range (state z) (stateOf-in-range m n z)
 
   module _ (s : ℕ → List ℕ) (lists : ListsStates card s) where
-    pub words-spread : (p : ℕ → Bool) → count (states card) (λ t. p (word card (s t))) ≡ 2 ^ ((card .words - 1) * card .width) * count (2 ^ card .width) p
+    words-spread : (p : ℕ → Bool) → count (states card) (λ t. p (word card (s t))) ≡ 2 ^ ((card .words - 1) * card .width) * count (2 ^ card .width) p
     words-spread p = count-listed card s lists (λ xs. p (word card xs)) ∙ numbers-spread p
 
     pub word-balanced : (v : ℕ) → v < 2 ^ card .width → count (states card) (λ t. eqb (word card (s t)) v) ≡ 2 ^ ((card .words - 1) * card .width)
@@ -149,7 +149,7 @@ module _ (card : Card) (wf : WellFormed card) (two : 2 ≤ card .words) (ok : Fu
       )
 
   module _ (s : ℕ → List ℕ) (lists : ListsStates card s) where
-    pub draws-spread : (p : ℕ → Bool)
+    draws-spread : (p : ℕ → Bool)
         → count (states card) (λ t. p (word card (step card (s t)))) ≡ 2 ^ ((card .words - 1) * card .width) * count (2 ^ card .width) p
     draws-spread p =
         count-listed card s lists (λ xs. p (word card (step card xs))) ∙ words-spread card two wide next steps-list p
