@@ -1,4 +1,4 @@
-// A rank drawn from a state by value. The pick calls this once nothing is refused, with two ties or more.
+// A rank drawn from a state by value. The pick calls this once nothing is refused, where there are two ties or more.
 ghost use mathlib.Core.Path.{_≡_};
 ghost use mathlib.Core.Bool.{_||_};
 ghost use Prim.Native.Nat.{_^_, _<_, _≤_};

@@ -1,6 +1,6 @@
-// What is refused of a count of ties: refusal 18.
+// What is refused of a count of ties: refusal 18. Callers have n from a checked card.
 ghost use mathlib.Core.Path.{_≡_};
-ghost use Prim.Native.Nat.{_^_, _<_, _≤_};
+ghost use Prim.Native.Nat.{_^_, _≤_};
 ghost use Rattle.tsc.specs.Constants.{widestWidth};
 ghost use Rattle.refusals.specs.Refusals.{firstOf};
 ghost use Rattle.samples.specs.Samples.{tieChecks};
