@@ -3,6 +3,7 @@
 use crate::hex;
 use crate::inputs::Input;
 use reference::fill::call_fill;
+use reference::pick::call_pick;
 use reference::{call_write, Card, TABLE_ENTRIES};
 use std::hint::black_box;
 use std::iter::once;
@@ -116,8 +117,8 @@ fn library(call: usize, input: &Input) -> Observed {
             let (shovels, times) = (&input.shovels, &input.times);
             let (s, k, t, l) = (shared(shovels), shovels.len(), shared(times), times.len());
             let answer = unsafe { ffi::tiedraw_pick(card, n, state, m, s, k, t, l) };
-            let numbers = [answer.shovel.into(), answer.ties.into()];
-            (row(numbers), answer.refusal)
+            let numbers = [answer.shovel, answer.ties.into(), answer.taken.into()];
+            (row(numbers.map(u64::from)), answer.refusal)
         }
     };
     let ((values, refusal), lent, around) = lend(&input.state, GUARD, on_state);
@@ -195,8 +196,8 @@ fn second_program(call: usize, input: &Input) -> Observed {
         "step" => Err(reference::call_step(card, &mut state)),
         "step_back" => Err(reference::call_step_back(card, &mut state)),
         "draw" => reference::call_draw(card, &mut state).map(|word| row([word.into()])),
-        "pick" => reference::pick::call_pick(card, &mut state, &input.shovels, &input.times)
-            .map(|(shovel, ties)| row([shovel.into(), ties as u64])),
+        "pick" => call_pick(card, &mut state, &input.shovels, &input.times)
+            .map(|p| row([p.shovel.into(), p.ties as u64, p.taken as u64])),
         "fill" => return second_fill(input),
         _ => return second_write(&input.values, &input.page),
     };

@@ -16,7 +16,7 @@ const CARDS: usize = 3000;
 const MOST_BITS: u8 = 12;
 
 /// the last refusal's number
-const REFUSALS: usize = 17;
+const REFUSALS: usize = 18;
 
 /// The refusals that each call has, 0 for none: all of them must come up.
 const TELLS: [&[usize]; CALLS.len()] = [
@@ -25,7 +25,7 @@ const TELLS: [&[usize]; CALLS.len()] = [
     &[0, 1, 2, 3, 4, 5, 6, 7, 8, 9, 10, 11],
     &[0, 1, 2, 3, 4, 5, 6, 7, 8, 9, 10, 11],
     &[0, 1, 2, 3, 4, 5, 6, 7, 8, 9, 10, 11, 17],
-    &[0, 1, 2, 3, 4, 5, 6, 7, 8, 9, 10, 11, 12, 13, 14, 15],
+    &[0, 1, 2, 3, 4, 5, 6, 7, 8, 9, 10, 11, 12, 13, 14, 15, 18],
     &[0, 2, 6, 7, 8, 9, 16],
     &[0, 1, 2, 3, 4, 5, 6],
 ];
