@@ -3,10 +3,11 @@
 use crate::hex;
 use crate::inputs::Input;
 use reference::fill::call_fill;
+use reference::pick::{call_pick, limit};
 use reference::{call_write, Card, TABLE_ENTRIES};
 use std::hint::black_box;
 use std::iter::once;
-use tiedraw::ffi;
+use tiedraw::{ffi, MOST_TAKEN};
 
 pub const CALLS: [&str; 8] = [
     "check",
@@ -116,8 +117,8 @@ fn library(call: usize, input: &Input) -> Observed {
             let (shovels, times) = (&input.shovels, &input.times);
             let (s, k, t, l) = (shared(shovels), shovels.len(), shared(times), times.len());
             let answer = unsafe { ffi::tiedraw_pick(card, n, state, m, s, k, t, l) };
-            let numbers = [answer.shovel.into(), answer.ties.into()];
-            (row(numbers), answer.refusal)
+            let numbers = [answer.shovel, answer.ties.into(), answer.taken.into()];
+            (row(numbers.map(u64::from)), answer.refusal)
         }
     };
     let ((values, refusal), lent, around) = lend(&input.state, GUARD, on_state);
@@ -195,8 +196,8 @@ fn second_program(call: usize, input: &Input) -> Observed {
         "step" => Err(reference::call_step(card, &mut state)),
         "step_back" => Err(reference::call_step_back(card, &mut state)),
         "draw" => reference::call_draw(card, &mut state).map(|word| row([word.into()])),
-        "pick" => reference::pick::call_pick(card, &mut state, &input.shovels, &input.times)
-            .map(|(shovel, ties)| row([shovel.into(), ties as u64])),
+        "pick" => call_pick(card, &mut state, &input.shovels, &input.times)
+            .map(|p| row([p.shovel.into(), p.ties as u64, p.taken as u64])),
         "fill" => return second_fill(input),
         _ => return second_write(&input.values, &input.page),
     };
@@ -233,10 +234,23 @@ fn second_write(values: &Card, page: &[u8]) -> Observed {
 #[derive(Default)]
 pub struct Told {
     pub refusals: [u8; CALLS.len()],
-    /// shovels that the pick had at the least time
-    pub ties: u64,
+    /// where the pick is counted, as `pick_column` says
+    pub pick: Option<usize>,
     /// words that the fill wrote
     pub filled: usize,
+}
+
+/// Where a pick is counted: at 0 without ties, else at one more than the words passed over; nowhere if it was refused.
+fn pick_column(input: &Input, after: &Observed) -> Option<usize> {
+    if after.refusal != 0 {
+        return None;
+    }
+    let [_, ties, taken, ..] = after.values.map(|value| value as usize);
+    let last_too = || {
+        let card = reference::accept(&input.card).expect("the card of a pick");
+        u64::from(reference::word(&card, &after.lent)) >= limit(card.width, ties)
+    };
+    Some(taken + usize::from(taken == MOST_TAKEN && last_too()))
 }
 
 /// Whether what was lent to a call is as it was.
@@ -262,7 +276,7 @@ pub fn compare(input: &Input) -> Result<Told, String> {
         }
         told.refusals[call] = left.refusal;
         match *name {
-            "pick" => told.ties = left.values[1],
+            "pick" => told.pick = pick_column(input, &left),
             "fill" if left.refusal == 0 => told.filled = input.span.1,
             _ => {}
         }

@@ -1,7 +1,7 @@
 //! Random inputs: cards valid and damaged, states and lists of right and wrong size, strips and spans, values and pages for the writer.
 
 use crate::random::Random;
-use reference::{encode, mask, Card, TSC1_CONSTANT, TSC1_TABLE};
+use reference::{check, encode, mask, step_back, word, Card, TSC1_CONSTANT, TSC1_TABLE};
 
 /// One input: each of the library's calls takes some of it.
 #[derive(Clone, Debug, PartialEq)]
@@ -28,7 +28,7 @@ impl Input {
             .map(|_| random.word() as u32)
             .collect();
         let span = span(strip.len(), random);
-        let (shovels, times) = lists(random);
+        let (shovels, times) = lists(read.width, random);
         let values = writer_values(sound, random);
         let page = page_for(&values, random);
         Input {
@@ -85,10 +85,26 @@ pub fn sound_form(words: u8, width: u8, random: &mut Random) -> Card {
     card
 }
 
+/// Values of sound form, of 32 bits, any width or a narrow one; or those of a slow card.
 fn sound_values(random: &mut Random) -> Card {
     let words = random.within(2, 4) as u8;
-    let width = [32, random.within(2, 32)][random.below(2)] as u8;
-    sound_form(words, width, random)
+    match random.below(6) {
+        0..=2 => sound_form(words, 32, random),
+        3 => sound_form(words, random.within(2, 32) as u8, random),
+        4 => sound_form(words, random.within(2, 6) as u8, random),
+        _ => slow_values(words, random),
+    }
+}
+
+/// Values of a card whose higher columns mostly stand still: large words come in long runs, and a pick passes over many of them.
+fn slow_values(words: u8, random: &mut Random) -> Card {
+    Card {
+        even_power: 0,
+        constant: 1,
+        filter: 1,
+        sum_term: 0,
+        ..accepted_values(words, 6, random)
+    }
 }
 
 /// A card's bytes: as they are, damaged by one byte, cut short, with bytes behind, random, or with a field given that is absent.
@@ -146,8 +162,11 @@ fn idle_card(sound: &Card, random: &mut Random) -> Vec<u8> {
     idle
 }
 
-/// State words: mostly a state of the card's size; else of another size, or with high bits.
+/// State words: mostly a state of the card's size, also one whose next word is large; else of another size, or with high bits.
 fn state_words(card: &Card, random: &mut Random) -> Vec<u32> {
+    if card.words == 4 && random.once_in(6) && check(&encode(card)) == 0 {
+        return before_large_word(card, random);
+    }
     let right = usize::from(card.words);
     let size = match random.below(24) {
         0 | 1 => random.below(7),
@@ -166,6 +185,17 @@ fn state_words(card: &Card, random: &mut Random) -> Vec<u32> {
         state[random.below(size)] = mask(card.width).wrapping_add(1);
     }
     state
+}
+
+/// A state of an accepted card of four words whose next word is one of the 64 largest, so that wide cards have words passed over too. Either filter adds the last state word.
+fn before_large_word(card: &Card, random: &mut Random) -> Vec<u32> {
+    let largest = mask(card.width);
+    let mut after: Vec<u32> = (0..4).map(|_| random.word() as u32 & largest).collect();
+    let bits = random.below(7);
+    let wanted = largest.wrapping_sub(random.below(1 << bits) as u32);
+    after[3] = 0;
+    after[3] = wanted.wrapping_sub(word(card, &after)) & largest;
+    step_back(card, &after)
 }
 
 /// Place and count: half of them fit; the others don't, by little or by far, also where a number cut to 8, 16 or 32 bits, one with a sign, or the sum modulo 2^64 would.
@@ -203,29 +233,53 @@ fn shovel_count(random: &mut Random) -> usize {
     }
 }
 
-/// Shovels and times: times of few values or of any; repeated numbers; lists of different lengths.
-fn lists(random: &mut Random) -> (Vec<u16>, Vec<u32>) {
-    let count = shovel_count(random);
+/// Times of few values or of any.
+fn any_times(random: &mut Random) -> Vec<u32> {
+    let values = [1, 2, 4, usize::MAX][random.below(4)];
+    let base = [0, u32::MAX, random.word() as u32][random.below(3)];
+    let time = |random: &mut Random| base.wrapping_add((random.word() as usize % values) as u32);
+    (0..shovel_count(random)).map(|_| time(random)).collect()
+}
+
+/// Times of which many are the least: a little over half of the words that there are, so that almost half of them are passed over; about as many; or any number. Up to three are not the least.
+fn tied_times(width: u8, random: &mut Random) -> Vec<u32> {
+    let words = 1 << width.min(6);
+    let ties = match random.below(4) {
+        0 | 1 => words / 2 + random.within(1, 3),
+        2 => words + random.below(3) - 1,
+        _ => random.within(1, 64),
+    };
+    let least = [0, random.word() as u32 >> 1, u32::MAX - 1][random.below(3)];
+    let mut times = vec![least; ties];
+    times.resize_with(ties + random.below(4), || {
+        least + 1 + random.word() as u32 % (u32::MAX - least)
+    });
+    random.shuffle(&mut times);
+    times
+}
+
+/// Shovels and times: repeated numbers; lists of different lengths.
+fn lists(width: u8, random: &mut Random) -> (Vec<u16>, Vec<u32>) {
+    let mut times = match random.below(2) {
+        0 => any_times(random),
+        _ => tied_times(width, random),
+    };
+    let count = times.len();
     let first = random.word() as u16;
     let stride = random.word() as u16 | 1; // odd, so that no number stands twice up to 65,536
     let mut shovels: Vec<u16> = (0..count)
         .map(|i| first.wrapping_add((i as u16).wrapping_mul(stride)))
         .collect();
-    for place in (1..count).rev() {
-        shovels.swap(place, random.below(place + 1));
-    }
+    random.shuffle(&mut shovels);
     if count > 1 && random.once_in(12) {
         shovels[random.below(count)] = shovels[random.below(count)];
     }
-    let values = [1, 2, 4, usize::MAX][random.below(4)];
-    let base = [0, u32::MAX, random.word() as u32][random.below(3)];
-    let time = |random: &mut Random| base.wrapping_add((random.word() as usize % values) as u32);
-    let mut times: Vec<u32> = (0..count).map(|_| time(random)).collect();
+    let more = random.word() as u32;
     match random.below(48) {
-        0 => times.push(base),
+        0 => times.push(more),
         1 => _ = times.pop(),
         2 => times.clear(),
-        3 => times.resize(count + 256, base),
+        3 => times.resize(count + 256, more),
         _ => {}
     }
     (shovels, times)

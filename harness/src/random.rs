@@ -34,4 +34,11 @@ impl Random {
     pub fn once_in(&mut self, times: usize) -> bool {
         self.below(times) == 0
     }
+
+    /// Puts a list into any order.
+    pub fn shuffle<T>(&mut self, list: &mut [T]) {
+        for place in (1..list.len()).rev() {
+            list.swap(place, self.below(place + 1));
+        }
+    }
 }

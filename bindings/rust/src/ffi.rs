@@ -31,6 +31,7 @@ pub struct Word {
 pub struct Choice {
     pub shovel: u16,
     pub ties: u8,
+    pub taken: u8,
     pub refusal: u8,
 }
 

@@ -11,7 +11,8 @@
 //! let card = Card::new(&[0x27, 2, 2, 1, 2, 3, 0, 1, 0, 0, 0])?;
 //! let mut server = Generator::new(card, &[0, 0])?;
 //! let choice = server.pick(&[Shovel { number: 7, time: 300 }, Shovel { number: 4, time: 300 }])?;
-//! assert_eq!((choice.shovel, choice.ties, server.state()), (4, 2, &[1, 2][..]));
+//! assert_eq!((choice.shovel, choice.ties, choice.taken), (4, 2, 1));
+//! assert_eq!(server.state(), [1, 2]);
 //! # Ok::<(), tiedraw::Refusal>(())
 //! ```
 
@@ -30,8 +31,10 @@ pub const MOST_WORDS: usize = 4;
 pub const TABLE_SIZE: usize = 1 << MOST_WORDS;
 /// No accepted card has more bytes.
 pub const MOST_CARD_BYTES: usize = 26;
-/// A pick takes no more shovels.
+/// No pick is among more shovels.
 pub const MOST_SHOVELS: usize = 64;
+/// No pick takes more words.
+pub const MOST_TAKEN: usize = 16;
 
 /// The card of TSC-1: every field absent.
 const TSC1: &[u8] = &[0];
@@ -43,6 +46,8 @@ pub struct Choice {
     pub shovel: u16,
     /// how many had the least time
     pub ties: u8,
+    /// how many words were taken, 0 where one alone had the least time; as many steps back take the pick back
+    pub taken: u8,
 }
 
 /// The eight values of a card; by default TSC-1's.
@@ -163,7 +168,9 @@ pub fn fill(
     })
 }
 
-/// The shovel of least time; ties are broken by a draw.
+/// The shovel of least time, or refusal 1 to 15 or 18. Where several have it, words are drawn until one is below the
+/// largest multiple of their count that is not above 2^width, [`MOST_TAKEN`] at most; the last one modulo the count is
+/// the rank of the one chosen, rank 0 being the lowest number. So the order of the lists makes no difference.
 pub fn pick(
     card: &[u8],
     state: &mut [u32],
@@ -186,6 +193,7 @@ pub fn pick(
     let choice = Choice {
         shovel: answer.shovel,
         ties: answer.ties,
+        taken: answer.taken,
     };
     Refusal::result(answer.refusal).map(|()| choice)
 }
@@ -334,7 +342,21 @@ impl Generator {
             .expect("a state of an accepted card, and the slice's own span");
     }
 
-    /// The shovel of least time, or refusal 13 to 15. Several at that time are ties, and a draw decides.
+    /// The shovel of least time, or refusal 13 to 15 or 18. Several at that time are ties, and the words drawn decide,
+    /// as [`pick()`] says.
+    ///
+    /// ```
+    /// use tiedraw::{Card, Generator, Shovel};
+    /// let card = Card::new(&[0x27, 2, 2, 1, 2, 3, 0, 1, 0, 0, 0])?;
+    /// let mut server = Generator::new(card, &[2, 3])?;
+    /// let before = server.clone();
+    /// // the words are 3, which is passed over for three ties, and 2
+    /// let choice = server.pick(&[7, 4, 9].map(|number| Shovel { number, time: 300 }))?;
+    /// assert_eq!((choice.shovel, choice.ties, choice.taken), (9, 3, 2));
+    /// (0..choice.taken).for_each(|_| server.step_back());
+    /// assert_eq!(server, before);
+    /// # Ok::<(), tiedraw::Refusal>(())
+    /// ```
     pub fn pick(&mut self, shovels: &[Shovel]) -> Result<Choice, Refusal> {
         let numbers: Vec<u16> = shovels.iter().map(|shovel| shovel.number).collect();
         let times: Vec<u32> = shovels.iter().map(|shovel| shovel.time).collect();

@@ -40,6 +40,7 @@ refusals! {
     (DuplicateShovel, "twice", "a shovel number stands twice"),
     (BufferTooSmall, "small page", "the page has fewer bytes than the card needs"),
     (SpanOutOfBounds, "span", "the place is past the strip's end, or the count does not fit behind it"),
+    (TooManyTies, "too many equals", "more shovels have the least time than there are words, 2^n"),
 }
 
 impl Refusal {

@@ -14,6 +14,14 @@ fn shovels(pairs: &[(u16, u32)]) -> Vec<Shovel> {
         .collect()
 }
 
+fn choice(shovel: u16, ties: u8, taken: u8) -> Choice {
+    Choice {
+        shovel,
+        ties,
+        taken,
+    }
+}
+
 #[test]
 fn the_program_draws_as_printed() {
     let mut server = server(&[0, 0]);
@@ -33,16 +41,14 @@ fn a_tie_goes_by_rank_and_not_by_place() {
     for list in [[(7, 300), (4, 300)], [(4, 300), (7, 300)]] {
         for (state, shovel, after) in [([0, 0], 4, [1, 2]), ([2, 3], 7, [1, 1])] {
             let mut server = server(&state);
-            assert_eq!(server.pick(&shovels(&list)), Ok(Choice { shovel, ties: 2 }));
+            assert_eq!(server.pick(&shovels(&list)), Ok(choice(shovel, 2, 1)));
             assert_eq!(server.state(), after);
         }
     }
     let mut server = server(&[0, 0]);
     let alone = server.pick(&shovels(&[(4, 300), (7, 299)]));
-    assert_eq!(
-        (alone, server.state()),
-        (Ok(Choice { shovel: 7, ties: 1 }), &[0, 0][..])
-    );
+    assert_eq!(alone, Ok(choice(7, 1, 0)));
+    assert_eq!(server.state(), [0, 0]);
 }
 
 #[test]

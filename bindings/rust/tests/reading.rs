@@ -106,11 +106,12 @@ fn every_number_is_a_refusal_but_0() {
     assert_eq!(Refusal::from_number(1), Some(Refusal::Truncated));
     assert_eq!(Refusal::from_number(16), Some(Refusal::BufferTooSmall));
     assert_eq!(Refusal::from_number(17), Some(Refusal::SpanOutOfBounds));
+    assert_eq!(Refusal::from_number(18), Some(Refusal::TooManyTies));
     for number in 1..=255 {
         let refusal = Refusal::from_number(number).unwrap();
         assert_eq!(refusal.number(), number);
         let unknown = matches!(refusal, Refusal::Unknown(_));
-        assert_eq!(unknown, number > 17);
+        assert_eq!(unknown, number > 18);
         assert_eq!(refusal.trade_word() == "unknown", unknown);
     }
     let unknown = Refusal::from_number(29).unwrap();

@@ -19,6 +19,8 @@ const P2: &[u8] = &[
 ];
 /// TSC-1 with odd power 255 and even power 254
 const WORST_POWERS: &[u8] = &[0x18, 255, 254];
+/// TSC-1 with words of 6 bits and as many bits of its constant
+const NARROW: &[u8] = &[0x22, 6, 0x21, 0, 0, 0];
 
 /// What is measured: a call, or a word of a fill; how often in all, and how.
 struct Subject {
@@ -95,14 +97,14 @@ fn step_back(name: &str, card: &'static [u8]) -> Subject {
     })
 }
 
-fn pick(name: &str, count: u16, ties: u16) -> Subject {
+fn pick(name: &str, card: &'static [u8], count: u16, ties: u16) -> Subject {
     let mut state = [1, 2, 3, 4];
     let shovels: Vec<u16> = (0..count).rev().collect();
     let times: Vec<u32> = (0..count)
         .map(|i| if i < ties { 300 } else { 400 })
         .collect();
     subject(name, CALLS, move || {
-        black_box(tiedraw::pick(P1, &mut state, black_box(&shovels), &times).unwrap());
+        black_box(tiedraw::pick(card, &mut state, black_box(&shovels), &times).unwrap());
     })
 }
 
@@ -211,10 +213,12 @@ fn subjects() -> Vec<Subject> {
         step("step, P2", P2),
         step_back("step_back: read, check and step back, P1", P1),
         step_back("step_back, P2", P2),
-        pick("pick: one shovel of 5 is nearest, P1", 5, 1),
-        pick("pick: 2 of 5 shovels tie, P1", 5, 2),
-        pick("pick: one shovel of 64 is nearest, P1", 64, 1),
-        pick("pick: 64 of 64 shovels tie, P1", 64, 64),
+        pick("pick: one shovel of 5 is nearest, P1", P1, 5, 1),
+        pick("pick: 2 of 5 shovels tie, P1", P1, 5, 2),
+        pick("pick: 6 of 6 shovels tie, P1", P1, 6, 6),
+        pick("pick: one shovel of 64 is nearest, P1", P1, 64, 1),
+        pick("pick: 64 of 64 shovels tie, P1", P1, 64, 64),
+        pick("pick: 33 of 33 shovels tie, 6 bits", NARROW, 33, 33),
         second_program("second program, worst powers", WORST_POWERS, CALLS / 10),
     ]
 }

@@ -7,6 +7,7 @@ use harness::random::Random;
 use std::panic::catch_unwind;
 use std::process::exit;
 use std::sync::atomic::{AtomicUsize, Ordering};
+use tiedraw::MOST_TAKEN;
 
 /// inputs, or cards, of one random stream
 const BLOCK: usize = 1000;
@@ -16,7 +17,7 @@ const CARDS: usize = 3000;
 const MOST_BITS: u8 = 12;
 
 /// the last refusal's number
-const REFUSALS: usize = 17;
+const REFUSALS: usize = 18;
 
 /// The refusals that each call has, 0 for none: all of them must come up.
 const TELLS: [&[usize]; CALLS.len()] = [
@@ -25,34 +26,53 @@ const TELLS: [&[usize]; CALLS.len()] = [
     &[0, 1, 2, 3, 4, 5, 6, 7, 8, 9, 10, 11],
     &[0, 1, 2, 3, 4, 5, 6, 7, 8, 9, 10, 11],
     &[0, 1, 2, 3, 4, 5, 6, 7, 8, 9, 10, 11, 17],
-    &[0, 1, 2, 3, 4, 5, 6, 7, 8, 9, 10, 11, 12, 13, 14, 15],
+    &[0, 1, 2, 3, 4, 5, 6, 7, 8, 9, 10, 11, 12, 13, 14, 15, 18],
     &[0, 2, 6, 7, 8, 9, 16],
     &[0, 1, 2, 3, 4, 5, 6],
 ];
 
-/// How often each call told each refusal, how many picks had ties, and how many words were filled in.
+/// How often each call told each refusal, how many picks passed over how many words, and how many words were filled in.
 #[derive(Default)]
 struct Tally {
     told: [[usize; REFUSALS + 1]; CALLS.len()],
-    ties: usize,
+    /// without ties, then with 0 to MOST_TAKEN words passed over
+    picks: [usize; MOST_TAKEN + 2],
     filled: usize,
+}
+
+/// Adds counts to sums, one by one.
+fn add_up(sums: &mut [usize], counts: &[usize]) {
+    for (sum, count) in sums.iter_mut().zip(counts) {
+        *sum += count;
+    }
 }
 
 impl Tally {
     fn add(&mut self, other: &Tally) {
-        for (sums, counts) in self.told.iter_mut().zip(other.told) {
-            for (sum, count) in sums.iter_mut().zip(counts) {
-                *sum += count;
-            }
+        for (sums, counts) in self.told.iter_mut().zip(&other.told) {
+            add_up(sums, counts);
         }
-        self.ties += other.ties;
+        add_up(&mut self.picks, &other.picks);
         self.filled += other.filled;
     }
 
-    /// A call and a refusal of its that never came up.
-    fn missing(&self) -> Option<(&str, usize)> {
+    /// What never came up: a refusal of a call, or a number of words passed over.
+    fn missing(&self) -> Option<String> {
         let never = |call: usize| TELLS[call].iter().find(move |&&r| self.told[call][r] == 0);
-        (0..CALLS.len()).find_map(|call| never(call).map(|&refusal| (CALLS[call], refusal)))
+        let untold =
+            |call| never(call).map(|refusal| format!("{} never told {refusal}", CALLS[call]));
+        let empty = self.picks.iter().position(|&picks| picks == 0);
+        let no_pick = empty.map(|column| match column {
+            0 => "every pick had ties".to_string(),
+            _ => format!("no pick passed over {} words", column - 1),
+        });
+        (0..CALLS.len()).find_map(untold).or(no_pick)
+    }
+
+    /// How many words all picks passed over.
+    fn passed_over(&self) -> usize {
+        let with_ties = self.picks[1..].iter().enumerate();
+        with_ties.map(|(words, picks)| words * picks).sum()
     }
 }
 
@@ -98,10 +118,18 @@ fn compare_block(seed: u64, block: usize) -> Result<Tally, String> {
         for (call, refusal) in told.refusals.into_iter().enumerate() {
             tally.told[call][usize::from(refusal)] += 1;
         }
-        tally.ties += usize::from(told.ties > 1);
+        if let Some(column) = told.pick {
+            tally.picks[column] += 1;
+        }
         tally.filled += told.filled;
     }
     Ok(tally)
+}
+
+/// Counts in columns of one width.
+fn columns(counts: &[usize]) -> String {
+    let counts: Vec<String> = counts.iter().map(|count| format!("{count:>6}")).collect();
+    counts.join(" ")
 }
 
 fn compare_inputs(seed: u64, inputs: usize) {
@@ -111,19 +139,22 @@ fn compare_inputs(seed: u64, inputs: usize) {
         total.add(&tally);
     }
     println!(
-        "{} inputs, each through {} calls: no difference; {} picks with ties, {} words filled in",
+        "{} inputs, each through {} calls: no difference; {} words filled in",
         blocks * BLOCK,
         CALLS.len(),
-        total.ties,
         total.filled
     );
     println!("answers, then refusals 1 to {REFUSALS}:");
-    for (name, sums) in CALLS.iter().zip(total.told) {
-        let counts: Vec<String> = sums.iter().map(|sum| format!("{sum:>6}")).collect();
-        println!("{name:>9} {}", counts.join(" "));
+    for (name, sums) in CALLS.iter().zip(&total.told) {
+        println!("{name:>9} {}", columns(sums));
     }
-    if let Some((call, refusal)) = total.missing() {
-        println!("{call} never told {refusal}: too few inputs");
+    println!(
+        "picks without ties, then with 0 to {MOST_TAKEN} words passed over, {} in all:",
+        total.passed_over()
+    );
+    println!("{:>9} {}", "", columns(&total.picks));
+    if let Some(missing) = total.missing() {
+        println!("{missing}: too few inputs");
         exit(1);
     }
 }
