@@ -58,8 +58,8 @@ module _ (f : ℕ → ℕ) (shovels times : List ℕ) (s : Permutes (length shov
   checks-reordered = rw (length-reordered f shovels, length-reordered f times, twice-reordered f shovels s) refl
 
   -- a list that is not refused has as many times as shovels
-  permutes-times : firstOf (listChecks shovels times) ≡ 0 → Permutes (length times) f
-  permutes-times z = subst (λ (n : ℕ). Permutes n f) (list-allowed shovels times z .paired) s
+  permutes-times : Allowed shovels times → Permutes (length times) f
+  permutes-times ok = subst (λ (n : ℕ). Permutes n f) (ok .paired) s
 
   module _ (bytes xs : List ℕ) where
     refusal-reordered : pickRefusal bytes xs (reordered f shovels) (reordered f times) ≡ pickRefusal bytes xs shovels times
@@ -72,7 +72,7 @@ module _ (f : ℕ → ℕ) (shovels times : List ℕ) (s : Permutes (length shov
         go : Dec (firstOf (listChecks shovels times) ≡ 0)
             → firstOf (listChecks shovels times ++ many (reordered f times)) ≡ firstOf (listChecks shovels times ++ many times)
         go (yes z) =
-            ap (λ (k : ℕ). firstOf (listChecks shovels times ++ tieChecks (cardOf bytes .width) k)) (ties-reordered f times (permutes-times z))
+            ap (λ (k : ℕ). firstOf (listChecks shovels times ++ tieChecks (cardOf bytes .width) k)) (ties-reordered f times (permutes-times (list-allowed shovels times z)))
         go (no n) = first-left (listChecks shovels times) _ n ∙ sym (first-left (listChecks shovels times) _ n)
 
     pick-reordered : (picking bytes xs (reordered f shovels) (reordered f times) ≡ picking bytes xs shovels times)
@@ -84,7 +84,7 @@ module _ (f : ℕ → ℕ) (shovels times : List ℕ) (s : Permutes (length shov
             × (picked bytes xs (reordered f shovels) (reordered f times) ≡ picked bytes xs shovels times)
         go (yes z) =
             let ok = pick-passed bytes xs shovels times z .1 in
-            let p = subst (λ (n : ℕ). Permutes n f) (ok .paired) s in
+            let p = permutes-times ok in
             let card = cardOf bytes in
             let k : ℕ = ties times in
             let e = ties-reordered f times p in
