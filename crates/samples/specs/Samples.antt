@@ -14,7 +14,7 @@ use Rattle.refusals.specs.Refusals.{Check, check, tooManyTies}
 abbrev pub mostTried : ℕ
 mostTried = 16
 
--- L
+-- L, for k ties
 abbrev pub limit : Card → ℕ → ℕ
 limit card k = largestMultiple (2 ^ card .width) k
 
