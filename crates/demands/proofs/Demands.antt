@@ -16,7 +16,6 @@ use Rattle.tsc.specs.Word.{orbitWords}
 use Rattle.tsc.specs.Coverage.{stepBack}
 use Rattle.tsc.proofs.Step.{column-step}
 use Rattle.tsc.proofs.StepBack.{back-of-step}
-use Rattle.tsc.proofs.Coverage.{coverage}
 use Rattle.tsc.proofs.Balanced.{word-balanced}
 use Rattle.card_format.specs.Reading.{cardOf, formChecks, noCard, reading}
 use Rattle.card_format.specs.Verdict.{cardChecks, verdict, Accepted}
@@ -26,7 +25,7 @@ use Rattle.card_format.proofs.RoundTrip.{accepted-writing}
 use Rattle.draws.specs.Calls.{refusalFor, stepped, steppedBack, drawing}
 use Rattle.draws.proofs.Opening.{passes, unless-passed}
 use Rattle.draws.proofs.Called.{only-before}
-use Rattle.draws.proofs.Draws.{back-of-stepped, draws-state, draws-word}
+use Rattle.draws.proofs.Draws.{back-of-stepped, draws-state, draws-word, orbit-lists}
 use Rattle.fills.specs.Fills.{fillRefusal, filled, filledState}
 use Rattle.fills.proofs.Fills.{fill-draws, fill-undone, fill-none, fill-append}
 use Rattle.samples.proofs.Tried.{taken-none-iff, taken-few, taken-over, taken-kept}
@@ -161,7 +160,7 @@ fair-ranks =
       words = λ bytes xs h.
           let card = cardOf bytes in
           let a = ok bytes xs h in
-          word-balanced card (a .formed .words) (omega (arith, a .formed .width)) (orbit card xs) (coverage card (a .formed) xs (h .state) .1 (a .period) .once);
+          word-balanced card (a .formed .words) (omega (arith, a .formed .width)) (orbit card xs) (orbit-lists bytes xs (none bytes xs h));
       loads = λ bytes xs shovels times n. picks-fair bytes xs shovels times (first-none _ n);
     }
 

@@ -7,11 +7,12 @@ use Prim.Native.Nat.{ℕ, zero, suc}
 use native.Mathlib.Decide.{ℕ-discrete}
 use Rattle.cycle.specs.Notation.{iterate}
 use Rattle.cycle.proofs.Iterate.{iterate-undone, iterate-fixed}
-use Rattle.tsc.specs.Coverage.{stepBack}
+use Rattle.tsc.specs.Coverage.{stepBack, ListsStates}
 use Rattle.tsc.specs.Step.{step, orbit}
 use Rattle.tsc.specs.Word.{word}
 use Rattle.tsc.proofs.Step.{step-in-range, orbit-in-range}
 use Rattle.tsc.proofs.StepBack.{back-of-step}
+use Rattle.tsc.proofs.Coverage.{coverage}
 use Rattle.card_format.specs.Reading.{cardOf}
 use Rattle.card_format.proofs.Verdict.{accepted-card}
 use Rattle.draws.specs.declared.Draw.the-variants.{Word}
@@ -47,6 +48,13 @@ module _ (bytes start : List ℕ) (z : refusalFor bytes start ≡ 0) where
   unfolding iterate
   draws-word t =
       ap (drawing bytes) (draws-state t) ∙ sym (drawing-word bytes (orbit (cardOf bytes) start t) _ refl (never-refused t))
+
+  -- the orbit lists all states
+  pub orbit-lists : ListsStates (cardOf bytes) (orbit (cardOf bytes) start)
+  orbit-lists =
+      let p = passed bytes start z in
+      let ok = accepted-card bytes (p .0) in
+      coverage (cardOf bytes) (ok .formed) start (p .1) .1 (ok .period) .once
 
   passed-undone : (t : ℕ) → iterate (steppedBack bytes) t (iterate (stepped bytes) t start) ≡ start
   passed-undone =

@@ -11,13 +11,12 @@ use Rattle.cycle.specs.Notation.{count}
 use Rattle.cycle.proofs.Count.{same-test, count-ext}
 use Rattle.tsc.specs.declared.Card.{Card}
 use Rattle.tsc.specs.Step.{orbit}
-use Rattle.tsc.specs.Coverage.{IsState, states}
-use Rattle.tsc.proofs.Step.{orbit-in-range}
-use Rattle.tsc.proofs.Coverage.{coverage}
+use Rattle.tsc.specs.Coverage.{states}
 use Rattle.card_format.specs.Reading.{cardOf}
-use Rattle.card_format.specs.Verdict.{verdict}
 use Rattle.card_format.proofs.Verdict.{accepted-card}
-use Rattle.draws.proofs.Opening.{passed, passes}
+use Rattle.draws.specs.Calls.{refusalFor}
+use Rattle.draws.proofs.Opening.{passed}
+use Rattle.draws.proofs.Draws.{never-refused, orbit-lists}
 use Rattle.ties.specs.Ties.{isTie, ties, rank, TieAt, chosen}
 use Rattle.ties.proofs.Rank.{rank-lt, tie-of-rank, chosen-is}
 use Rattle.tie_list.proofs.Allowed.{Allowed}
@@ -46,8 +45,8 @@ module _ (bytes xs shovels times : List ℕ) (none : pickRefusal bytes xs shovel
   abbrev k : ℕ
   k = ties times
 
-  call : (verdict bytes ≡ 0) × IsState card xs
-  call = passed bytes xs (pick-passed bytes xs shovels times none .0)
+  call : refusalFor bytes xs ≡ 0
+  call = pick-passed bytes xs shovels times none .0
 
   allowed : Allowed shovels times
   allowed = pick-passed bytes xs shovels times none .1
@@ -58,9 +57,7 @@ module _ (bytes xs shovels times : List ℕ) (none : pickRefusal bytes xs shovel
     ys = orbit card xs t
 
     clear : pickRefusal bytes ys shovels times ≡ 0
-    clear =
-        sym (refusal-later bytes ys shovels times (passes bytes ys (call .0) (orbit-in-range card xs (call .1) t)))
-        ∙ refusal-later bytes xs shovels times (pick-passed bytes xs shovels times none .0) ∙ none
+    clear = sym (refusal-later bytes ys shovels times (never-refused bytes xs call t)) ∙ refusal-later bytes xs shovels times call ∙ none
 
     sent : (i : ℕ) → i < length times → isTie times i ≡ true → let number = getD shovels i 0 in
         sentByFirst number (picking bytes ys shovels times) ≡ (eqb (taken card ys k) 1 && eqb (drawnRank card ys k) (rank shovels times number))
@@ -74,7 +71,6 @@ module _ (bytes xs shovels times : List ℕ) (none : pickRefusal bytes xs shovel
       → count (states (cardOf bytes)) (λ t. sentByFirst (getD shovels i 0) (picking bytes (orbit (cardOf bytes) xs t) shovels times))
       ≡ limit (cardOf bytes) (ties times) / ties times * 2 ^ ((cardOf bytes .words - 1) * cardOf bytes .width)
   picks-fair n i l e =
-      let ok = accepted-card bytes (call .0) in
-      let covers = coverage card (ok .formed) xs (call .1) .1 (ok .period) in
+      let ok = accepted-card bytes (passed bytes xs call .0) in
       count-ext (states card) _ _ (λ t lt. sent t i l e)
-      ∙ first-words-fair card (ok .formed) (ok .formed .words) (ok .period) (orbit card xs) (covers .once) k _ n (rank-lt shovels times i l e)
+      ∙ first-words-fair card (ok .formed) (ok .formed .words) (ok .period) (orbit card xs) (orbit-lists bytes xs call) k _ n (rank-lt shovels times i l e)
