@@ -74,7 +74,7 @@ class Bounds(unittest.TestCase):
         self.same(tiedraw.MOST_WORDS, re.findall(r"\nmostWords = (\d+)\n", text("crates/tsc/specs/Constants.antt")))
         self.same(tiedraw.MOST_SHOVELS, re.findall(r"\nmostShovels = (\d+)\n", text("crates/ties/specs/Ties.antt")))
         self.same(tiedraw.MOST_CARD_BYTES, re.findall(r"\nmostCardBytes = (\d+)\n", text("crates/card_format/specs/Fields.antt")))
-        self.same(tiedraw.MOST_TAKEN, re.findall(r"\nmostTried = (\d+)\n", text("crates/samples/specs/Samples.antt")))
+        self.same(tiedraw.MOST_TAKEN, re.findall(r"\nmostTaken = (\d+)\n", text("crates/samples/specs/Samples.antt")))
 
     def test_rust(self):
         for name in self.names:

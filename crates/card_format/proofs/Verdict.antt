@@ -1,13 +1,13 @@
 -- DEMAND 3 on the definitions: for every byte string of sound form and every start in range, the verdict is 0 exactly where the orbit covers.
 use mathlib.Core.Path.{_≡_, refl, sym, ap, _∙_, subst}
 use mathlib.Core.Logic.{_↔_, _≢_}
-use mathlib.Core.Bool.{Bool, true, false, _||_, true≢false}
 use mathlib.Core.List.{List}
 use Prim.Native.Nat.{ℕ, _%_, _^_, _≤_}
 use native.Mathlib.Omega.{arith}
 use borrow.Author.Tests.{eqb-true, eqb-false, eq-eqb, ne-eqb, not-false}
 use lib.Dec.{eqb}
 use Rattle.cycle.specs.Cycle.{firstReturn}
+use Rattle.cycle.proofs.Count.{neither}
 use Rattle.tsc.specs.declared.Card.{Card}
 use Rattle.tsc.specs.Step.{entry}
 use Rattle.tsc.specs.Coverage.{WellFormed, FullPeriod}
@@ -21,10 +21,6 @@ use Rattle.card_format.specs.Reading.{cardOf, formChecks, SoundForm, ref
 use Rattle.card_format.specs.Verdict.{periodChecks, cardChecks, verdict, ZeroIffCovers, accepting, Accepted}
 use Rattle.refusals.proofs.Refusals.{first-none, none-first, first-append, first-left, none-left, none-right}
 use Rattle.card_format.proofs.Sound.{sound-value, sound-card}
-
-pub neither : (a b : Bool) → (a || b) ≡ false → (a ≡ false) × (b ≡ false)
-neither true b h = absurd (true≢false h)
-neither false b h = (refl, h)
 
 -- conditions 7 to 9 do not hold exactly where the premises of the coverage theorem do
 pub period-none : (card : Card) → WellFormed card → NoneApplies (periodChecks card) ↔ FullPeriod card

@@ -27,7 +27,7 @@ use Rattle.fills.specs.Fills.{fillChecks, fillRefusal, filled, filledState}
 use Rattle.fills.specs.Draws.{drawnStrip, drawsMade}
 use Rattle.ties.specs.Ties.{isTie, ties, chosen, TieAt}
 use Rattle.ties.specs.Order.{SameShovels}
-use Rattle.samples.specs.Samples.{mostTried, limit, taken, drawnRank, drawnState}
+use Rattle.samples.specs.Samples.{mostTaken, limit, taken, drawnRank, drawnState}
 use Rattle.picks.specs.declared.Pick.the-variants as Pick
 use Rattle.picks.specs.Picks.{pickChecks, picking, wordsTaken, picked}
 use Rattle.picks.specs.Shift.{Request, answers, stateAfter, Alike}
@@ -140,9 +140,9 @@ pub record FairRanks : Type 0 where
   pub most : (card : Card) (k : ℕ) → 0 < k → k ≤ 2 ^ card .width → 2 ^ card .width < 2 * limit card k
   -- no word is taken for one alone, and only then; else all but the last are passed over, and the last is below L or the sixteenth
   pub none : (card : Card) (xs : List ℕ) (k : ℕ) → (taken card xs k ≡ 0) ↔ (k ≡ 1)
-  pub few : (card : Card) (xs : List ℕ) (k : ℕ) → taken card xs k ≤ mostTried
+  pub few : (card : Card) (xs : List ℕ) (k : ℕ) → taken card xs k ≤ mostTaken
   pub over : (card : Card) (xs : List ℕ) (k t : ℕ) → suc t < taken card xs k → limit card k ≤ word card (orbit card xs (suc t))
-  pub kept : (card : Card) (xs : List ℕ) (k : ℕ) → k ≢ 1 → taken card xs k < mostTried → word card (orbit card xs (taken card xs k)) < limit card k
+  pub kept : (card : Card) (xs : List ℕ) (k : ℕ) → k ≢ 1 → taken card xs k < mostTaken → word card (orbit card xs (taken card xs k)) < limit card k
   -- the state has made as many steps as the pick tells, for every input, and so many steps back undo it
   pub steps : (bytes xs shovels times : List ℕ) → let t = wordsTaken (picking bytes xs shovels times) in
       picked bytes xs shovels times ≡ iterate (stepped bytes) t xs

@@ -49,7 +49,7 @@ module _ {bytes xs : List ℕ} {o : Opened} (k : Clear bytes xs o) where
   accepted : Accepted (cardOf bytes)
   accepted = accepted-card bytes (passed bytes xs (k .none) .0)
 
-  in-range : IsState (cardOf bytes) xs
+  pub in-range : IsState (cardOf bytes) xs
   in-range = passed bytes xs (k .none) .1
 
   pub few : length xs ≤ mostWords
@@ -57,9 +57,6 @@ module _ {bytes xs : List ℕ} {o : Opened} (k : Clear bytes xs o) where
 
   pub ready : Accepted (o .card) × Holds (o .card) (o .state)
   ready = rw (k .card-is, k .state-is) (accepted, holds (cardOf bytes) xs in-range)
-
-  pub size : length xs ≡ o .card .words
-  size = rw (k .card-is) (in-range .0)
 
   -- what is worked out from the values is worked out from the card's bytes and the lent words
   pub of-values : {A : Type 0} (f : Card → List ℕ → A) → f (o .card) (used (o .card) (o .state)) ≡ f (cardOf bytes) xs
@@ -118,13 +115,10 @@ draw-refused bytes xs o e ne =
     let b = begun-refused bytes xs o e ne in
     (drawing-refused bytes xs (o .refusal) (b .0) (b .1), (unless-refused bytes xs (step (cardOf bytes) xs) (b .1), narrow-refused _ _))
 
-pub draw-made : {bytes xs : List ℕ} {o : Opened} → Clear bytes xs o → {v : ℕ} {ys : List ℕ}
-    → v ≡ word (o .card) (step (o .card) (used (o .card) (o .state))) → ys ≡ step (o .card) (used (o .card) (o .state))
+pub draw-made : {bytes xs : List ℕ} {o : Opened} → Clear bytes xs o → {v : ℕ} {s : State} {ys : List ℕ} → let next = step (o .card) (used (o .card) (o .state)) in
+    v ≡ word (o .card) next → s ≡ holding next → ys ≡ take (length xs) (s .words)
     → (Word v ≡ drawing bytes xs) × ((ys ≡ stepped bytes xs) × ((w : ℕ) → Word v ≡ Word w → w < 2 ^ cardOf bytes .width))
-unfolding stepped
-draw-made {bytes} {xs} k {v} {ys} ev ey =
+draw-made {bytes} {xs} k {v} ev es ey =
     let card = cardOf bytes in
-    let drawn : v ≡ word card (step card xs) = ev ∙ of-values k (λ c w. word c (step c w)) in (
-      drawing-word bytes xs v drawn (k .none),
-      (ey ∙ of-values k step ∙ unless-passed bytes xs (step card xs) (k .none), λ w h. narrow-word card (step card xs) v w drawn h),
-    )
+    let drawn : v ≡ word card (step card xs) = ev ∙ of-values k (λ c w. word c (step c w)) in
+    (drawing-word bytes xs v drawn (k .none), (step-made k es ey .1 .0, λ w h. narrow-word card (step card xs) v w drawn h))

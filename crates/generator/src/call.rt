@@ -2,12 +2,7 @@
 ghost use mathlib.Core.Path.{_≡_};
 ghost use Prim.Native.Nat.{ℕ, _^_, _<_};
 ghost use Rattle.tsc.specs.Coverage.{IsState, stepBack};
-ghost use lib.ListN.{length};
-ghost use Rattle.tsc.specs.Step.{step};
-ghost use Rattle.tsc.specs.Word.{word};
 ghost use Rattle.card_format.specs.Reading.{cardOf};
-ghost use Rattle.card_format.specs.Verdict.{Accepted};
-ghost use Rattle.stepping.specs.State.{used, Holds};
 ghost use Rattle.draws.specs.declared.Draw.the-variants.{Word};
 ghost use Rattle.draws.specs.Calls.{refusalFor, refusedOpening, opening, stepped, steppedBack, drawing, OnlyBefore};
 use card::check;
@@ -18,7 +13,6 @@ use outputs::next;
 use state_words::lent;
 use stepping::back;
 use stepping::step;
-use tsc::Card;
 use tsc::MOST_WORDS;
 use tsc::State;
 
@@ -91,17 +85,6 @@ pub fn step_back(card: &[u8], state: &mut [u32]) -> u8
     0
 }
 
-// A step of a state by value, over the lent words, and the word of the state that it comes to. The draw calls it once nothing is refused.
-fn advance(card: Card, s: State, state: &mut [u32]) -> u32
-    requires { ⌜ Accepted card × Holds card s × (length (now state) ≡ card .words) ⌝ }
-    ensures { λ r. ⌜ r ≡ word card (step card (used card s)) ⌝ }
-    ensures { λ _. ⌜ now (state .exit) ≡ step card (used card s) ⌝ }
-{
-    let drawn = next::next_output(card, step::forward(card), s);
-    lent::store(drawn.state, state);
-    drawn.word
-}
-
 // One step of the state, and the word of the state that it comes to; or the refusal. A word is below 2^n.
 pub fn draw(card: &[u8], state: &mut [u32]) -> Draw
     ensures answer { λ r. ⌜ r ≡ drawing (now (card .entry)) (now (state .entry)) ⌝ }
@@ -114,6 +97,7 @@ pub fn draw(card: &[u8], state: &mut [u32]) -> Draw
     }
     let values = begun.card;
     let held = begun.state;
-    let word = advance(values, held, state);
-    Draw::Word(word)
+    let drawn = next::next_output(values, step::forward(values), held);
+    lent::store(drawn.state, state);
+    Draw::Word(drawn.word)
 }

@@ -73,7 +73,7 @@ module _ (bytes xs shovels times : List ℕ) where
   pick-refused-list k r e ne = picking-refused r ne (e ∙ refusal-list (k .none) (λ z. ne (e ∙ z)))
 
   -- the count of ties as it is looked at
-  many-told : {o : Opened} → Clear bytes xs o → firstOf (listChecks shovels times) ≡ 0 → {n k : ℕ} → n ≡ o .card .width → k ≡ ties times
+  pub many-told : {o : Opened} → Clear bytes xs o → firstOf (listChecks shovels times) ≡ 0 → {n k : ℕ} → n ≡ o .card .width → k ≡ ties times
       → firstOf (tieChecks n k) ≡ pickRefusal bytes xs shovels times
   many-told c z en ek =
       let width = en ∙ ap (λ (card : Card). card .width) (c .card-is) in
@@ -83,29 +83,17 @@ module _ (bytes xs shovels times : List ℕ) where
       → (r : ℕ) → r ≡ firstOf (tieChecks n k) → r ≢ 0 → (Refused r ≡ picking bytes xs shovels times) × (xs ≡ picked bytes xs shovels times)
   pick-refused-many c z en ek r e ne = picking-refused r ne (e ∙ many-told c z en ek)
 
--- what a pick goes on with once nothing is refused
-pub record Granted (bytes xs shovels times : List ℕ) (o : Opened) : Type 0 where
-  pub none : pickRefusal bytes xs shovels times ≡ 0
-  pub clear : Clear bytes xs o
-
-pub granted : {bytes xs shovels times : List ℕ} {o : Opened} → Clear bytes xs o → firstOf (listChecks shovels times) ≡ 0
-    → {n k : ℕ} → n ≡ o .card .width → k ≡ ties times → firstOf (tieChecks n k) ≡ 0 → Granted bytes xs shovels times o
-granted {bytes} {xs} {shovels} {times} c z en ek y =
-    record { none = sym (many-told bytes xs shovels times c z en ek) ∙ y; clear = c }
+  -- made, of k ties, the rank r drawn among them by t words, the shovel s of that rank and the words ys that are left
+  pub pick-made : pickRefusal bytes xs shovels times ≡ 0 → {k r s t : ℕ} {ys : List ℕ} → k ≡ ties times
+      → r ≡ drawnRank (cardOf bytes) xs k → t ≡ taken (cardOf bytes) xs k → ys ≡ drawnState (cardOf bytes) xs k → s ≡ chosen shovels times r
+      → (Shovel s k t ≡ picking bytes xs shovels times) × (ys ≡ picked bytes xs shovels times)
+  pick-made z ek er et ey es =
+      let card = cardOf bytes in
+      let made = picking-chosen z in
+      let number = es ∙ ap (chosen shovels times) (er ∙ ap (drawnRank card xs) ek) in
+      let words = et ∙ ap (taken card xs) ek in
+      ((λ i. Shovel (number i) (ek i) (words i)) ∙ made .0, ey ∙ ap (drawnState card xs) ek ∙ made .1)
 
 -- a list that is not refused has a tie at least, and no more than shovels
 pub ties-few : {shovels times : List ℕ} → Allowed shovels times → (0 < ties times) × (ties times ≤ mostShovels)
 ties-few {shovels} {times} ok = (ties-some times (ok .some), omega (arith, ties-le times, ok .few))
-
--- what it promises then, of k ties, the rank r drawn among them by t words, the shovel s of that rank and the words ys that are left
-pub pick-made : {bytes xs shovels times : List ℕ} {o : Opened} → Granted bytes xs shovels times o → {k r s t : ℕ} {ys : List ℕ} → k ≡ ties times
-    → ((r ≡ drawnRank (o .card) xs k) × (t ≡ taken (o .card) xs k)) × (ys ≡ drawnState (o .card) xs k) → s ≡ chosen shovels times r
-    → (Shovel s k t ≡ picking bytes xs shovels times) × (ys ≡ picked bytes xs shovels times)
-pick-made {bytes} {xs} {shovels} {times} g {k} {r} {s} {t} {ys} ek drawn es =
-    let card = g .clear .card-is in
-    let made = picking-chosen bytes xs shovels times (g .none) in
-    let number : s ≡ chosen shovels times (drawnRank (cardOf bytes) xs (ties times)) = es ∙ ap (chosen shovels times) (drawn .0 .0 ∙ ap₂ (λ (card : Card) (k : ℕ). drawnRank card xs k) card ek) in
-    let words : t ≡ taken (cardOf bytes) xs (ties times) = drawn .0 .1 ∙ ap₂ (λ (card : Card) (k : ℕ). taken card xs k) card ek in (
-      (λ i. Shovel (number i) (ek i) (words i)) ∙ made .0,
-      drawn .1 ∙ ap₂ (λ (card : Card) (k : ℕ). drawnState card xs k) card ek ∙ made .1,
-    )

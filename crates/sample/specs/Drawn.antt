@@ -1,14 +1,10 @@
--- What is drawn from a state by value, where words are tried: the state whose word decides, its rank, and how many words were tried.
+-- What is drawn from a state by value: the state then, the rank, and how many words were taken.
 use mathlib.Core.List.{List}
-use Prim.Native.Nat.{ℕ, _%_}
+use Prim.Native.Nat.{ℕ}
 use Rattle.tsc.specs.declared.Card.{Card}
-use Rattle.tsc.specs.Step.{orbit}
-use Rattle.tsc.specs.Word.{word}
 use Rattle.stepping.specs.State.{holding}
-use Rattle.samples.specs.Samples.{tried}
+use Rattle.samples.specs.Samples.{taken, drawnRank, drawnState}
 use Rattle.sample.specs.declared.draw.Sample.{Sample}
 
 abbrev pub sample : Card → List ℕ → ℕ → Sample
-sample card xs k =
-    let t = tried card xs k in
-    record { state = holding (orbit card xs t); rank = word card (orbit card xs t) % k; tried = t }
+sample card xs k = record { state = holding (drawnState card xs k); rank = drawnRank card xs k; taken = taken card xs k }

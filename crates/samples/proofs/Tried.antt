@@ -14,7 +14,7 @@ use Rattle.cycle.proofs.First.{first-le, first-at, before-first, first-is, firs
 use Rattle.tsc.specs.declared.Card.{Card}
 use Rattle.tsc.specs.Step.{orbit}
 use Rattle.tsc.specs.Word.{word}
-use Rattle.samples.specs.Samples.{mostTried, limit, tried, taken, drawnRank, drawnState}
+use Rattle.samples.specs.Samples.{mostTaken, limit, tried, taken, drawnRank, drawnState}
 
 module _ (card : Card) (xs : List ℕ) (k : ℕ) where
   -- whether word number t + 1 is below L
@@ -26,28 +26,28 @@ module _ (card : Card) (xs : List ℕ) (k : ℕ) where
   unfolding tried
   tried-some = omega arith
 
-  tried-few : tried card xs k ≤ mostTried
+  tried-few : tried card xs k ≤ mostTaken
   unfolding tried
-  tried-few = omega (arith, first-le (mostTried - 1) kept)
+  tried-few = omega (arith, first-le (mostTaken - 1) kept)
 
   -- all but the last of them are passed over
   passed-over : (t : ℕ) → suc t < tried card xs k → limit card k ≤ word card (orbit card xs (suc t))
   unfolding tried
-  passed-over t l = ltb-false (word card (orbit card xs (suc t))) (limit card k) (before-first (mostTried - 1) kept t (omega arith))
+  passed-over t l = ltb-false (word card (orbit card xs (suc t))) (limit card k) (before-first (mostTaken - 1) kept t (omega arith))
 
   -- and that one is below L, or the sixteenth
-  decided : tried card xs k < mostTried → word card (orbit card xs (tried card xs k)) < limit card k
+  decided : tried card xs k < mostTaken → word card (orbit card xs (tried card xs k)) < limit card k
   unfolding tried
-  decided l = ltb-true (word card (orbit card xs (tried card xs k))) (limit card k) (first-at (mostTried - 1) kept (omega arith))
+  decided l = ltb-true (word card (orbit card xs (tried card xs k))) (limit card k) (first-at (mostTaken - 1) kept (omega arith))
 
   -- as they are tried: none of the first t is below L, and the next decides
-  pub tried-is : (t : ℕ) → t < mostTried → ((j : ℕ) → j < t → kept j ≡ false) → (eqb (suc t) mostTried || kept t) ≡ true → tried card xs k ≡ suc t
+  pub tried-is : (t : ℕ) → t < mostTaken → ((j : ℕ) → j < t → kept j ≡ false) → (eqb (suc t) mostTaken || kept t) ≡ true → tried card xs k ≡ suc t
   unfolding tried
-  tried-is t l over h = go (ℕ-discrete (suc t) mostTried)
+  tried-is t l over h = go (ℕ-discrete (suc t) mostTaken)
     where
-      go : Dec (suc t ≡ mostTried) → suc (first (mostTried - 1) kept) ≡ suc t
-      go (yes e) = ap suc (first-none (mostTried - 1) kept (λ j lj. over j (omega arith)) ∙ omega arith)
-      go (no n) = ap suc (first-is (mostTried - 1) kept t (omega arith) over (rw (ne-eqb (suc t) mostTried n) at h))
+      go : Dec (suc t ≡ mostTaken) → suc (first (mostTaken - 1) kept) ≡ suc t
+      go (yes e) = ap suc (first-none (mostTaken - 1) kept (λ j lj. over j (omega arith)) ∙ omega arith)
+      go (no n) = ap suc (first-is (mostTaken - 1) kept t (omega arith) over (rw (ne-eqb (suc t) mostTaken n) at h))
 
   -- ---- taken
 
@@ -72,10 +72,10 @@ module _ (card : Card) (xs : List ℕ) (k : ℕ) where
       go z (yes e) = e
       go z (no n) = absurd (omega (arith, z, taken-tried n, tried-some))
 
-  pub taken-few : taken card xs k ≤ mostTried
+  pub taken-few : taken card xs k ≤ mostTaken
   taken-few = go (ℕ-discrete k 1)
     where
-      go : Dec (k ≡ 1) → taken card xs k ≤ mostTried
+      go : Dec (k ≡ 1) → taken card xs k ≤ mostTaken
       go (yes e) = omega (arith, taken-none e)
       go (no n) = omega (arith, taken-tried n, tried-few)
 
@@ -87,5 +87,5 @@ module _ (card : Card) (xs : List ℕ) (k : ℕ) where
       go (yes e) = absurd (omega (arith, taken-none e))
       go (no n) = passed-over t (omega (arith, taken-tried n))
 
-  pub taken-kept : k ≢ 1 → taken card xs k < mostTried → word card (orbit card xs (taken card xs k)) < limit card k
+  pub taken-kept : k ≢ 1 → taken card xs k < mostTaken → word card (orbit card xs (taken card xs k)) < limit card k
   taken-kept n l = rw (taken-tried n) (decided (omega (arith, taken-tried n)))

@@ -10,9 +10,9 @@ use Rattle.tsc.specs.Step.{orbit}
 use Rattle.tsc.specs.Word.{word}
 use Rattle.refusals.specs.Refusals.{Check, check, tooManyTies}
 
--- the most words that are tried
-abbrev pub mostTried : ℕ
-mostTried = 16
+-- the most words that are tried, and so taken
+abbrev pub mostTaken : ℕ
+mostTaken = 16
 
 -- L, for k ties
 abbrev pub limit : Card → ℕ → ℕ
@@ -20,7 +20,7 @@ limit card k = largestMultiple (2 ^ card .width) k
 
 -- how many words are tried: up to the first below L, or else all. Word number t + 1 is that of state number t + 1 of the orbit
 unfoldable pub tried : Card → List ℕ → ℕ → ℕ
-tried card xs k = suc (first (mostTried - 1) (λ t. ltb (word card (orbit card xs (suc t))) (limit card k)))
+tried card xs k = suc (first (mostTaken - 1) (λ t. ltb (word card (orbit card xs (suc t))) (limit card k)))
 
 -- how many words are taken: for one tie alone none is tried
 unfoldable pub taken : Card → List ℕ → ℕ → ℕ

@@ -1,13 +1,20 @@
-use mathlib.Core.Path.{_≡_, refl, sym, _∙_}
+use mathlib.Core.Path.{_≡_, refl, sym, ap, _∙_}
 use Prim.Native.Nat.{_<_, _≤_}
 use native.Mathlib.Omega.{arith}
+use lib.ListN.{length}
 use Rattle.refusals.specs.Refusals.{firstOf}
+use Rattle.card_format.specs.Reading.{cardOf}
+use Rattle.tsc.proofs.Step.{orbit-in-range}
 use Rattle.draws.proofs.Opening.{Clear, begun}
-use Rattle.draws.proofs.Called.{ready, of-values}
+use Rattle.draws.proofs.Called.{stored, in-range, few, ready, of-values}
 use Rattle.ties.specs.Ties.{mostShovels}
 use Rattle.tie_list.specs.Checks.{listChecks}
 use Rattle.tie_list.proofs.Allowed.{Allowed, list-allowed}
-use Rattle.picks.proofs.Picking.{Granted, pick-refused-call, pick-refused-list, pick-refused-many, granted, ties-few, pick-made}
+use Rattle.samples.specs.Samples.{drawnState}
+use Rattle.sample.specs.declared.draw.Sample.{Sample}
+use Rattle.sample.specs.Drawn.{sample}
+use Rattle.picks.specs.Picks.{pickRefusal}
+use Rattle.picks.proofs.Picking.{many-told, pick-refused-call, pick-refused-list, pick-refused-many, ties-few, pick-made}
 use Rattle.pick.proofs.call.pick.Statement.{statement}
 use Rattle.pick.proofs.call.pick.Tie as tie
 
@@ -33,13 +40,12 @@ tied : (c : tie.After-ties-of) → (0 < c .ties-of .result) × (c .ties-of .resu
 tied c = rw (c .ties-of .ensures) (ties-few (allowed (c .before .before)))
 
 -- past the third nothing is refused
-free : (c : tie.Else3) → let o = c .before .before .before .before .before .before .before .before .before .before in
-    let a = start o .args in
-    Granted (a .card .now) (a .state .now) (a .shovels .now) (a .times .now) (o .«open» .result)
+free : (c : tie.Else3) → let a = start (c .before .before .before .before .before .before .before .before .before .before) .args in
+    pickRefusal (a .card .now) (a .state .now) (a .shovels .now) (a .times .now) ≡ 0
 free c =
     let t = c .before .before .before .before in
     let l = t .before .before in
-    granted (clear (l .before .before)) (passed l) refl (t .ties-of .ensures) (sym (c .before .ties-refusal .ensures) ∙ c .if3 .left)
+    sym (many-told _ _ _ _ (clear (l .before .before)) (passed l) refl (t .ties-of .ensures)) ∙ sym (c .before .ties-refusal .ensures) ∙ c .if3 .left
 
 open-requires : tie.Need-open-requires
 open-requires c κs = omega arith
@@ -86,34 +92,50 @@ returns-3 c =
     let l = t .before .before in
     pick-refused-many _ _ _ _ (clear (l .before .before)) (passed l) refl (t .ties-of .ensures) _ (c .before .ties-refusal .ensures) (c .if3 .taken)
 
-cast-drawn-rank : tie.Need-cast-drawn-rank
-cast-drawn-rank c = omega (arith, tied (c .before .before .before .before .before) .1)
+cast-draw-rank : tie.Need-cast-draw-rank
+cast-draw-rank c = omega (arith, tied (c .before .before .before .before .before) .1)
 
-drawn-rank-requires : tie.Need-drawn-rank-requires
-drawn-rank-requires c κs =
-    let k = free (c .before .before) .clear in
-    (ready k .0, ready k .1, sym (of-values k (λ c w. w)), tied (c .before .before .before .before .before .before) .0)
+draw-rank-requires : tie.Need-draw-rank-requires
+draw-rank-requires c κs =
+    let t = c .before .before .before .before .before in
+    let k = ready (clear (t .before .before .before .before)) in
+    (k .0, k .1, tied t .0)
+
+store-requires : tie.Need-store-requires
+store-requires c κs = let l = c .before .before .before .before .before .before .before .before .before in few (clear (l .before .before))
 
 cast-chosen-by : tie.Need-cast-chosen-by
 cast-chosen-by c = omega arith
 
 chosen-by-requires : tie.Need-chosen-by-requires
 chosen-by-requires c κs =
-    let ties = c .before .before .before .before .before .before .before .before .before .before in
+    let drawn = c .before .before .before .before .before in
+    let ties = drawn .before .before .before .before .before .before in
     record { paired = allowed (ties .before .before) .paired; least = ties .before .least-time .ensures }
 
-cast-t22 : tie.Need-cast-t22
-cast-t22 c = let ties = c .before .before .before .before .before .before .before .before .before .before .before in omega (arith, tied ties .1)
+cast-t23 : tie.Need-cast-t23
+cast-t23 c = let drawn = c .before .before .before .before .before .before in omega (arith, tied (drawn .before .before .before .before .before .before) .1)
 
 same-length-4 : tie.Need-same-length-4
 same-length-4 c = omega arith
 
 returns-4 : tie.Need-returns-4
 returns-4 c =
-    let drawn = c .before .before .before .before in
-    let f = drawn .before .before .before in
+    let kept = c .before .before .before .before in
+    let drawn = kept .before .before in
+    let f = drawn .before .before in
     let ties = f .before .before .before .before in
-    pick-made (free f) (ties .ties-of .ensures) (drawn .drawn-rank .ensures) (c .chosen-by .ensures)
+    let o = ties .before .before .before .before .before .before in
+    let a = start o .args in
+    let card = cardOf (a .card .now) in
+    let xs = a .state .now in
+    let k = ties .ties-of .result in
+    let ok = clear (ties .before .before .before .before) in
+    let e = drawn .draw-rank .ensures ∙ of-values ok (λ card xs. sample card xs k) in
+    let sx = in-range ok in
+    let left = kept .store .ensures ∙ stored card (length xs) (drawnState card xs k) _ (sx .0) (orbit-in-range card xs sx _) (ap (λ (d : Sample). d .state) e) in
+    pick-made (a .card .now) xs (a .shovels .now) (a .times .now) (free f) (ties .ties-of .ensures) (ap (λ (d : Sample). d .rank) e)
+    (ap (λ (d : Sample). d .taken) e) left (c .chosen-by .ensures)
 
 pub pick-spec : {M : Type 1} → statement M
 pick-spec =
@@ -132,10 +154,11 @@ pick-spec =
     ties-refusal-requires
     same-length-3
     returns-3
-    cast-drawn-rank
-    drawn-rank-requires
+    cast-draw-rank
+    draw-rank-requires
+    store-requires
     cast-chosen-by
     chosen-by-requires
-    cast-t22
+    cast-t23
     same-length-4
     returns-4)

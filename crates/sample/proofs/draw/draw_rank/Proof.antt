@@ -2,39 +2,46 @@ use mathlib.Core.Path.{sym, _∙_}
 use Prim.Native.Nat.{_-_}
 use native.Mathlib.Omega.{arith}
 use Rattle.stepping.specs.State.{used}
-use Rattle.samples.specs.Samples.{mostTried}
-use Rattle.sample.proofs.Passed.{Passed, passed-none, passed-holds, passed-next, passed-all}
+use Rattle.samples.specs.Samples.{mostTaken}
+use Rattle.sample.proofs.Passed.{Passed, sample-alone, passed-none, passed-holds, passed-next, passed-all}
 use Rattle.sample.proofs.draw.draw_rank.Statement.{statement}
 use Rattle.sample.proofs.draw.draw_rank.Tie as tie
 
 abbrev Inv-loop : tie.InvT-loop
-Inv-loop card k p held₀ tried₀ held tried = Passed card (used card held₀) k tried held
+Inv-loop card k p held₀ taken₀ held taken = Passed card (used card held₀) k taken held
 
 abbrev μ-loop : tie.MeasureT-loop
-μ-loop card k p held₀ tried₀ held tried = mostTried - tried
+μ-loop card k p held₀ taken₀ held taken = mostTaken - taken
+
+-- where the function begins
+abbrev start : tie.At-loop Inv-loop μ-loop → tie.Start Inv-loop μ-loop
+start c = c .before .before .before
+
+returns : tie.Need-returns Inv-loop μ-loop
+returns c = sample-alone _ _ _ (c .if1 .taken) _ (c .before .pre .1 .1)
 
 forward-requires : tie.Need-forward-requires Inv-loop μ-loop
-forward-requires c κs = c .pre .0
+forward-requires c κs = c .before .pre .0
 
 loop-holds : tie.Need-loop-holds Inv-loop μ-loop
-loop-holds c = passed-none _ _ _ _ (c .before .pre .1 .1)
+loop-holds c = passed-none _ _ _ _ (c .before .before .pre .1 .1)
 
 next-output-requires : tie.Need-next-output-requires Inv-loop μ-loop
 next-output-requires c κs =
-    let s = c .before .before in
+    let s = start c in
     ((s .pre .0, passed-holds _ _ _ (s .pre .1 .0) _ _ (c .loop .inv)), c .before .forward .ensures)
 
-add-tried : tie.Need-add-tried Inv-loop μ-loop
-add-tried c = let l = c .before .before .loop in omega (arith, l .inv .few)
+add-taken : tie.Need-add-taken Inv-loop μ-loop
+add-taken c = let l = c .before .before .loop in omega (arith, l .inv .few)
 
 cast-decides : tie.Need-cast-decides Inv-loop μ-loop
 cast-decides c = omega arith
 
 decides-requires : tie.Need-decides-requires Inv-loop μ-loop
-decides-requires c κs = let s = c .before .before .before .before .before in (s .pre .0 .narrow, s .pre .2)
+decides-requires c κs = let s = start (c .before .before .before) in (s .pre .0 .narrow, s .pre .2)
 
-rem-t11 : tie.Need-rem-t11 Inv-loop μ-loop
-rem-t11 c = let s = c .before .before .before .before .before .before .before .before in s .pre .2
+rem-t12 : tie.Need-rem-t12 Inv-loop μ-loop
+rem-t12 c = let s = start (c .before .before .before .before .before .before) in s .pre .2
 
 loop-less : tie.Need-loop-less Inv-loop μ-loop
 loop-less c = let l = c .before .before .before .before .before .loop in omega (arith, l .inv .few)
@@ -42,15 +49,16 @@ loop-less c = let l = c .before .before .before .before .before .loop in omega (
 loop-again : tie.Need-loop-again Inv-loop μ-loop
 loop-again c =
     let o = c .before .before .before .before in
-    let s = o .before .before .before in
-    passed-next _ _ _ (s .pre .1 .0) _ _ (o .before .loop .inv) _ (o .next-output .ensures) (sym (c .before .decides .ensures) ∙ c .if1 .left)
+    let s = start (o .before) in
+    passed-next _ _ _ (s .pre .1 .0) _ _ (o .before .loop .inv) _ (o .next-output .ensures) (sym (c .before .decides .ensures) ∙ c .if2 .left)
 
-returns : tie.Need-returns Inv-loop μ-loop
-returns c =
+returns-2 : tie.Need-returns-2 Inv-loop μ-loop
+returns-2 c =
     let d = c .before .before in
     let o = d .before .before .before in
-    let s = o .before .before .before in
-    passed-all _ _ _ (s .pre .1 .0) _ _ (o .before .loop .inv) _ (o .next-output .ensures) (sym (d .decides .ensures) ∙ c .before .if1 .taken)
+    let s = start (o .before) in
+    let several = o .before .before .before .if1 .left in
+    passed-all _ _ _ (s .pre .1 .0) _ _ (o .before .loop .inv) _ (o .next-output .ensures) several (sym (d .decides .ensures) ∙ c .before .if2 .taken)
 
 pub draw-rank-spec : {M : Type 1} → statement M
 draw-rank-spec =
@@ -58,13 +66,14 @@ draw-rank-spec =
     (tie.spec
     Inv-loop
     μ-loop
+    returns
     forward-requires
     loop-holds
     next-output-requires
-    add-tried
+    add-taken
     cast-decides
     decides-requires
-    rem-t11
+    rem-t12
     loop-less
     loop-again
-    returns)
+    returns-2)
