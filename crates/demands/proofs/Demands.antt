@@ -28,7 +28,7 @@ use Rattle.draws.proofs.Called.{only-before}
 use Rattle.draws.proofs.Draws.{back-of-stepped, draws-state, draws-word, orbit-lists}
 use Rattle.fills.specs.Fills.{fillRefusal, filled, filledState}
 use Rattle.fills.proofs.Fills.{fill-draws, fill-undone, fill-none, fill-append}
-use Rattle.samples.proofs.Tried.{taken-none-iff, taken-few, taken-over, taken-kept}
+use Rattle.samples.proofs.Tried.{taken-none-iff, taken-few, taken-over, taken-serves, taken-kept}
 use Rattle.picks.specs.Picks.{pickRefusal, picking, picked}
 use Rattle.picks.proofs.Choice.{pick-chooses, pick-order}
 use Rattle.picks.proofs.Steps.{pick-steps, pick-undone}
@@ -154,6 +154,7 @@ fair-ranks =
       few = taken-few;
       over = taken-over;
       kept = taken-kept;
+      serves = taken-serves;
       steps = pick-steps;
       undone = pick-undone;
       ranks = λ card k r l. ranks-fair (2 ^ card .width) k (omega arith) r l;

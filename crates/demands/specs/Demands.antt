@@ -4,7 +4,7 @@ use mathlib.Core.Path.{_≡_}
 use mathlib.Core.Logic.{_↔_, _≢_}
 use mathlib.Core.Bool.{true}
 use mathlib.Core.List.{List, _++_}
-use Prim.Native.Nat.{ℕ, suc, _+_, _-_, _*_, _/_, _^_, _≤_, _<_}
+use Prim.Native.Nat.{ℕ, suc, _+_, _-_, _*_, _/_, _%_, _^_, _≤_, _<_}
 use lib.Dec.{eqb}
 use lib.ListN.{length, getD, take, drop}
 use Rattle.refusals.specs.Refusals.{Check, firstOf, NoneApplies}
@@ -138,11 +138,12 @@ pub record FairRanks : Type 0 where
   -- L is a multiple of k, the largest that is not above 2^n, and more than half of the words are below it
   pub multiple : (card : Card) (k : ℕ) → 0 < k → let M = 2 ^ card .width in (limit card k ≡ M / k * k) × (M < limit card k + k)
   pub most : (card : Card) (k : ℕ) → 0 < k → k ≤ 2 ^ card .width → 2 ^ card .width < 2 * limit card k
-  -- no word is taken for one alone, and only then; else all but the last are passed over, and the last is below L or the sixteenth
+  -- no word is taken for one alone, and only then; else all but the last are passed over, the last is below L or the sixteenth, and its remainder serves
   pub none : (card : Card) (xs : List ℕ) (k : ℕ) → (taken card xs k ≡ 0) ↔ (k ≡ 1)
   pub few : (card : Card) (xs : List ℕ) (k : ℕ) → taken card xs k ≤ mostTaken
   pub over : (card : Card) (xs : List ℕ) (k t : ℕ) → suc t < taken card xs k → limit card k ≤ word card (orbit card xs (suc t))
   pub kept : (card : Card) (xs : List ℕ) (k : ℕ) → k ≢ 1 → taken card xs k < mostTaken → word card (orbit card xs (taken card xs k)) < limit card k
+  pub serves : (card : Card) (xs : List ℕ) (k : ℕ) → drawnRank card xs k ≡ word card (orbit card xs (taken card xs k)) % k
   -- the state has made as many steps as the pick tells, for every input, and so many steps back undo it
   pub steps : (bytes xs shovels times : List ℕ) → let t = wordsTaken (picking bytes xs shovels times) in
       picked bytes xs shovels times ≡ iterate (stepped bytes) t xs

@@ -89,3 +89,7 @@ module _ (card : Card) (xs : List ℕ) (k : ℕ) where
 
   pub taken-kept : k ≢ 1 → taken card xs k < mostTaken → word card (orbit card xs (taken card xs k)) < limit card k
   taken-kept n l = rw (taken-tried n) (decided (omega (arith, taken-tried n)))
+
+  -- and the last of them serves
+  pub taken-serves : drawnRank card xs k ≡ word card (orbit card xs (taken card xs k)) % k
+  taken-serves = refl
