@@ -1,1 +1,3 @@
--- The contracts cite the definitions of tsc alone.
+-- Widths, and words by their bits. The rest of what the contracts cite is defined in crate tsc.
+pub mod Widths
+pub mod Masks

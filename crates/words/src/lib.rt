@@ -1,2 +1,3 @@
-// Words of n bits in a u32: sums and rotations.
+// Words of n bits in a u32: sums and rotations, and masks.
 pub mod arithmetic;
+pub mod mask;

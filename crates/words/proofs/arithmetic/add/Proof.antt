@@ -15,8 +15,9 @@ reduce-requires c κs = c .before .pre
 returns : tie.Need-returns
 unfolding _⊞_
 returns c =
-    let a = c .before .before .args in
-    c .reduce .ensures ∙ ap (λ (m : ℕ). m % 2 ^ a .n) (c .before .wrapping-add-u32 .ensures) ∙ mod-pow-mod 32 (a .n) (a .x + a .y) (c .before .before .pre .1)
+    let s = c .before .before in
+    let a = s .args in
+    c .reduce .ensures ∙ ap (λ (m : ℕ). m % 2 ^ a .w .bits) (c .before .wrapping-add-u32 .ensures) ∙ mod-pow-mod 32 (a .w .bits) (a .x + a .y) (s .pre .1)
 
 pub add-spec : {M : Type 1} → statement M
 add-spec = tie.close (tie.spec wrapping-add-u32-requires reduce-requires returns)

@@ -1,59 +1,52 @@
-use mathlib.Core.Path.{_≡_, refl, ap, _∙_}
+use mathlib.Core.Path.{_≡_, refl, ap, ap₂, _∙_}
 use Prim.Native.Nat.{ℕ, _+_, _-_, _*_, _/_, _%_, _^_}
-use native.Mathlib.Nat.{mul-one, sub-zero, add-zero, mod-eq-of-lt, div-eq-of-lt, mod-lt, le-of-lt}
+use native.Mathlib.Nat.{mod-eq-of-lt}
 use native.Mathlib.Omega.{arith}
-use lib.Pow.{pow-mono}
+use lib.Pow.{pow-mono, shr-shr}
 use Rattle.tsc.specs.Word.{_⋘_}
 use Rattle.tsc.proofs.Word.{rotate-lt}
 use Rattle.cycle.proofs.Bits.{mod-pow-mod}
 use Rattle.words.proofs.arithmetic.rotate_left.Statement.{statement}
 use Rattle.words.proofs.arithmetic.rotate_left.Tie as tie
 
-rem-places : tie.Need-rem-places
-rem-places c = omega arith
-
-returns : tie.Need-returns
-unfolding _⋘_
-returns c = let lx = c .before .pre .2 in rw (c .if1 .taken, mul-one, sub-zero, mod-eq-of-lt lx, div-eq-of-lt lx, add-zero) refl
-
 shl-reduce : tie.Need-shl-reduce
-shl-reduce c = omega (arith, mod-lt (c .before .args .k) (c .before .pre .0))
+shl-reduce c = omega arith
 
 reduce-requires : tie.Need-reduce-requires
-reduce-requires c κs = (omega arith, omega arith)
+reduce-requires c κs = c .pre .0
 
 sub-result : tie.Need-sub-result
-sub-result c = le-of-lt (mod-lt (c .before .before .args .k) (c .before .before .pre .0))
+sub-result c = omega arith
+
+sub-result-2 : tie.Need-sub-result-2
+sub-result-2 c = omega arith
 
 shr-result : tie.Need-shr-result
 shr-result c = omega arith
 
 -- the two parts of the rotated word, before they are added
-turned : (c : tie.After-reduce) → let a = c .before .before .args in
-    c .reduce .result + a .x / 2 ^ (a .n - a .k % a .n) ≡ _⋘_ (a .n) (a .x) (a .k)
+turned : (c : tie.After-struct-known) → let a = c .before .before .args in
+    c .before .reduce .result + a .x / 2 / 2 ^ (a .w .bits - 1 - a .places) ≡ _⋘_ (a .w .bits) (a .x) (a .places)
 unfolding _⋘_
 turned c =
-    let a = c .before .before .args in
-    ap (λ (m : ℕ). m + a .x / 2 ^ (a .n - a .k % a .n)) (c .reduce .ensures ∙ mod-pow-mod 32 (a .n) (a .x * 2 ^ (a .k % a .n)) (c .before .before .pre .1))
+    let s = c .before .before in
+    let x = s .args .x in
+    let n = s .args .w .bits in
+    let k = s .args .places in
+    let all : k % n ≡ k = mod-eq-of-lt (s .pre .2) in
+    let down : 1 + (n - 1 - k) ≡ n - k = omega (arith, s .pre .2) in
+    ap₂ (λ (u v : ℕ). u + v) (c .before .reduce .ensures ∙ mod-pow-mod 32 n (x * 2 ^ k) (s .pre .0 .1)) (shr-shr x 1 (n - 1 - k) ∙ ap (λ (d : ℕ). x / 2 ^ d) down)
+    ∙ rw all refl
 
 add-result : tie.Need-add-result
 add-result c =
-    let a = c .before .before .args in
-    let p = c .before .before .pre in
-    omega (arith, turned c, rotate-lt (a .n) (a .x) (a .k) (p .0) (p .2), pow-mono {i = a .n} {j = 32} (p .1))
+    let s = c .before .before in
+    let a = s .args in
+    omega (arith, turned c, rotate-lt (a .w .bits) (a .x) (a .places) (s .pre .0 .0) (s .pre .1), pow-mono {i = a .w .bits} {j = 32} (s .pre .0 .1))
 
-returns-2 : tie.Need-returns-2
-returns-2 c = turned c
+returns : tie.Need-returns
+returns c = turned c
 
 pub rotate-left-spec : {M : Type 1} → statement M
 rotate-left-spec =
-    tie.close
-    (tie.spec
-    rem-places
-    returns
-    shl-reduce
-    reduce-requires
-    sub-result
-    shr-result
-    add-result
-    returns-2)
+    tie.close (tie.spec shl-reduce reduce-requires sub-result sub-result-2 shr-result add-result returns)
