@@ -3,7 +3,7 @@ use mathlib.Core.Path.{_≡_, sym, ap, ap₂, _∙_, subst}
 use mathlib.Core.Bool.{Bool, true, false, cond}
 use mathlib.Core.List.{List}
 use Prim.Native.Nat.{ℕ, _+_, _^_, _<_, _≤_}
-use native.Mathlib.Nat.{lt-of-lt-of-le}
+use native.Mathlib.Nat.{add-zero, lt-of-lt-of-le}
 use native.Mathlib.Numerals.{add-one}
 use native.Mathlib.Decide.{ℕ-discrete, decLt}
 use native.Mathlib.Omega.{arith}
@@ -12,15 +12,17 @@ use lib.Dec.{eqb, ltb}
 use lib.ListN.{length, getD, set, replicate, length-set, length-replicate}
 use lib.Pow.{pow-pos, pow-mono}
 use lib.Seq.{getD-set-same, getD-set-other}
-use Rattle.cycle.specs.Notation.{iterate}
+use Rattle.cycle.specs.Notation.{iterate, bit}
 use Rattle.cycle.specs.Cycle.{SingleCycle}
 use Rattle.cycle.proofs.Iterate.{iterate-add, iterate-below}
 use Rattle.cycle.proofs.Every.{extend}
 use Rattle.card_format.proofs.Lists.{getD-filler}
 use Rattle.tsc.specs.declared.Card.{Card}
-use Rattle.tsc.specs.Constants.{mostWords}
+use Rattle.tsc.specs.Constants.{mostWords, widestWidth}
 use Rattle.tsc.specs.Coverage.{WellFormed}
 use Rattle.tsc.specs.Step.{entry}
+use Rattle.words.specs.Masks.{HasBits}
+use Rattle.words.proofs.Masks.{cond-ap, joined}
 use Rattle.columns.specs.declared.power.Powers.{Powers}
 use Rattle.columns.specs.Replace.{IsPower, imageOf}
 
@@ -74,16 +76,28 @@ filled-at card wf few k j t f =
     go i l (yes e) = rw e here
     go i l (no ne) = getD-set-other t (stands card j) (stands card i) v 0 ne ∙ f .done i l
 
--- as the loop writes it: x stands at number j of the cycle, and y is k entries ahead
-pub filled-next : (card : Card) → WellFormed card → card .words ≤ mostWords → (k j : ℕ) {x y : ℕ} (t : List ℕ) → x ≡ stands card j → y ≡ stands card (k + j)
-    → Filled card k j t → Filled card k (j + 1) (set t x y)
-filled-next card wf few k j t ex ey f =
-    subst (Filled card k (j + 1)) (sym (ap₂ (set t) ex (ey ∙ iterate-add (entry card) k j 0))) (filled-at card wf few k j t f)
+-- a loop that has come to number j of the cycle: y is k entries ahead of it, and t is filled in so far
+abbrev pub Along : Card → ℕ → ℕ → List ℕ → ℕ → Type 0
+Along card k j t y = (y ≡ stands card (k + j)) × Filled card k j t
+
+pub along-none : (card : Card) (k : ℕ) {y : ℕ} → y ≡ stands card k → Along card k 0 (replicate (2 ^ mostWords) 0) y
+along-none card k e = (e ∙ ap (stands card) (sym (add-zero k)), filled-none card k)
+
+pub along-next : (card : Card) → WellFormed card → card .words ≤ mostWords → (k j : ℕ) {x y : ℕ} (t : List ℕ) → x ≡ stands card j → Along card k j t y
+    → Along card k (j + 1) (set t x y) (entry card y)
+along-next card wf few k j t ex a =
+    let e : k + j + 1 ≡ k + (j + 1) = omega arith in (
+      stands-next card (k + j) (a .0) ∙ ap (stands card) e,
+      subst (Filled card k (j + 1)) (sym (ap₂ (set t) ex (a .0 ∙ iterate-add (entry card) k j 0))) (filled-at card wf few k j t (a .1)),
+    )
 
 -- one round fills in every entry
-pub filled-power : (card : Card) (k : ℕ) (t : List ℕ) → SingleCycle (2 ^ card .words) (entry card) 0 → Filled card k (2 ^ card .words) t → IsPower card k t
-filled-power card k t c f x = go (decLt x (2 ^ card .words))
+pub along-all : (card : Card) (k j : ℕ) (t : List ℕ) {y : ℕ} → SingleCycle (2 ^ card .words) (entry card) 0 → j ≡ 2 ^ card .words → Along card k j t y → IsPower card k t
+along-all card k j t c e a x = go (decLt x (2 ^ card .words))
   where
+    f : Filled card k (2 ^ card .words) t
+    f = subst (λ (i : ℕ). Filled card k i t) e (a .1)
+
     go : Dec (x < 2 ^ card .words) → getD t x 0 ≡ cond (ltb x (2 ^ card .words)) (iterate (entry card) k x) 0
     go (yes l) =
         let r = c .reaches x l in
@@ -98,3 +112,9 @@ image-power card p a b s c odd even l = go (eqb s 1)
     go : (t : Bool) → getD (cond t (p .odd) (p .even)) c 0 ≡ iterate (entry card) (cond t a b) c
     go true = odd c ∙ simp (lt-ltb c (2 ^ card .words) l)
     go false = even c ∙ simp (lt-ltb c (2 ^ card .words) l)
+
+-- the same, as the code joins both results by a mask of the selector bit
+pub image-joined : (p : Powers) (s c x r : ℕ) → getD (p .odd) c 0 < 2 ^ widestWidth → getD (p .even) c 0 < 2 ^ widestWidth → r < 2 ^ widestWidth → HasBits x (λ i. s)
+    → HasBits r (λ i. cond (eqb (bit i x) 1) (bit i (getD (p .odd) c 0)) (bit i (getD (p .even) c 0))) → r ≡ imageOf p s c
+image-joined p s c x r lo le lr spread join =
+    joined widestWidth s x (getD (p .odd) c 0) (getD (p .even) c 0) r lo le lr spread join ∙ cond-ap (λ (t : List ℕ). getD t c 0) (eqb s 1) (p .odd) (p .even)

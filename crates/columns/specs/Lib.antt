@@ -1,2 +1,2 @@
--- A state with a column put in, and what a table of powers holds.
+-- A state with a column put in, a state by its columns, and what a table of powers holds.
 pub mod Replace

@@ -2,20 +2,12 @@
 ghost use mathlib.Core.Path.{_≡_};
 ghost use Prim.Native.Nat.{ℕ, _^_, _<_};
 ghost use lib.ListN.{getD};
-ghost use Rattle.cycle.specs.Notation.{bit};
 ghost use Rattle.tsc.specs.Constants.{mostWords, widestWidth};
 ghost use Rattle.tsc.specs.Columns.{column};
 ghost use Rattle.columns.specs.Replace.{withColumn};
 use tsc::MOST_WORDS;
 use tsc::State;
-
-// Bit i of x.
-pub fn bit_of(x: u32, i: u32) -> u32
-    requires { ⌜ i < widestWidth ⌝ }
-    ensures { λ r. ⌜ r ≡ bit i x ⌝ }
-{
-    (x >> i) % 2
-}
+use words::mask::bit_of;
 
 // Column i of a state, from its last word to its first.
 pub fn column_of(s: State, i: u32) -> u32

@@ -19,42 +19,37 @@ pub struct Powers {
     pub even: [u8; TABLE_SIZE],
 }
 
-// Where 0 goes by so many applications of the table.
-fn entry_after(card: Card, applications: u32) -> u8
-    requires { ⌜ WellFormed card × (card .words ≤ mostWords) ⌝ }
-    ensures { λ r. ⌜ r ≡ iterate (entry card) applications 0 ⌝ }
+// Where 0 goes by so many applications of the table; whole rounds of its cycle are left out.
+fn entry_after(card: Card, times: u32) -> u8
+    requires { ⌜ WellFormed card × (card .words ≤ mostWords) × SingleCycle (2 ^ card .words) (entry card) 0 ⌝ }
+    ensures { λ r. ⌜ r ≡ iterate (entry card) times 0 ⌝ }
 {
+    let m = arithmetic::width_of(card.words as u32);
     let mut y: u8 = 0;
-    for _ in 0..applications {
+    for _ in 0..arithmetic::reduce(m, times) {
         y = card.table[y as usize];
     }
     y
 }
 
-// The table applied `times` times: x goes round the cycle from 0, and y, that many entries ahead, goes along.
-pub fn power_of(card: Card, times: u32) -> [u8; TABLE_SIZE]
-    requires { ⌜ WellFormed card × (card .words ≤ mostWords) × SingleCycle (2 ^ card .words) (entry card) 0 ⌝ }
-    ensures { λ r. ⌜ IsPower card times r ⌝ }
-{
-    let m = card.words as u32;
-    let mut power = [0; TABLE_SIZE];
-    let mut x: u8 = 0;
-    let mut y = entry_after(card, arithmetic::reduce(m, times));
-    for _ in 0..table::entries(m) {
-        power[x as usize] = y;
-        x = card.table[x as usize];
-        y = card.table[y as usize];
-    }
-    power
-}
-
-// Both powers.
+// Both powers in one round: x goes round the cycle from 0, and y and z, as many entries ahead as the table is applied, go along.
 pub fn powers_of(card: Card, odd: u32, even: u32) -> Powers
     requires { ⌜ WellFormed card × (card .words ≤ mostWords) × SingleCycle (2 ^ card .words) (entry card) 0 ⌝ }
     ensures { λ r. ⌜ IsPower card odd (r .odd) × IsPower card even (r .even) ⌝ }
 {
-    Powers {
-        odd: power_of(card, odd),
-        even: power_of(card, even),
+    let mut p = Powers {
+        odd: [0; TABLE_SIZE],
+        even: [0; TABLE_SIZE],
+    };
+    let mut x: u8 = 0;
+    let mut y = entry_after(card, odd);
+    let mut z = entry_after(card, even);
+    for _ in 0..table::entries(card.words as u32) {
+        p.odd[x as usize] = y;
+        p.even[x as usize] = z;
+        x = card.table[x as usize];
+        y = card.table[y as usize];
+        z = card.table[z as usize];
     }
+    p
 }

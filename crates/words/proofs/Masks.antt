@@ -1,5 +1,5 @@
 -- What the functions on masks do in each place.
-use mathlib.Core.Path.{_≡_, sym, ap, ap₂, _∙_}
+use mathlib.Core.Path.{_≡_, refl, ap, ap₂, _∙_}
 use mathlib.Core.Bool.{Bool, true, false, cond}
 use Prim.Native.Nat.{ℕ, _-_, _*_, _^_, _<_, max}
 use native.Mathlib.Nat.{mul-one}
@@ -29,3 +29,7 @@ joined w b x f g r lf lg lr spread join = go (eqb b 1) (λ i l. join i l ∙ ap 
     go : (t : Bool) → ((i : ℕ) → i < w → bit i r ≡ cond t (bit i f) (bit i g)) → r ≡ cond t f g
     go true h = bits-ext w r f lr lf h
     go false h = bits-ext w r g lr lg h
+
+pub cond-ap : {A : Type 0} (f : A → ℕ) (b : Bool) (x y : A) → cond b (f x) (f y) ≡ f (cond b x y)
+cond-ap f true x y = refl
+cond-ap f false x y = refl

@@ -1,8 +1,15 @@
 -- Numbers of n bits held in w bits, for every n and w.
-use mathlib.Core.Path.{_≡_, sym, ap, _∙_}
-use Prim.Native.Nat.{ℕ, _+_, _/_, _%_, _-_, _^_, _≤_}
+use mathlib.Core.Path.{_≡_, refl, sym, ap, _∙_}
+use Prim.Native.Nat.{ℕ, _+_, _/_, _%_, _-_, _^_, _<_, _≤_}
 use native.Mathlib.Omega.{arith}
 use lib.Pow.{high, low, ones-lt, ones-split}
+use Rattle.tsc.specs.Constants.{widestWidth}
+use Rattle.words.specs.declared.arithmetic.Width.{Width}
+use Rattle.words.specs.Widths.{widthOf, IsWidth}
+
+-- what `width_of` gives is a width
+pub width-is : (n : ℕ) (w : Width) → 0 < n → n ≤ widestWidth → w ≡ widthOf n → IsWidth w
+width-is n w pos narrow e = rw e (pos, narrow, refl)
 
 -- n ones, as `all >> (w - n)` makes them
 pub ones-shifted : (n w : ℕ) → n ≤ w → (2 ^ w - 1) / 2 ^ (w - n) ≡ 2 ^ n - 1
