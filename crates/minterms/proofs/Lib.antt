@@ -1,0 +1,2 @@
+-- The law that the minterms part the columns.
+pub mod Parted
