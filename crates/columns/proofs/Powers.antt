@@ -12,17 +12,15 @@ use lib.Dec.{eqb, ltb}
 use lib.ListN.{length, getD, set, replicate, length-set, length-replicate}
 use lib.Pow.{pow-pos, pow-mono}
 use lib.Seq.{getD-set-same, getD-set-other}
-use Rattle.cycle.specs.Notation.{iterate, bit}
+use Rattle.cycle.specs.Notation.{iterate}
 use Rattle.cycle.specs.Cycle.{SingleCycle}
 use Rattle.cycle.proofs.Iterate.{iterate-add, iterate-below}
 use Rattle.cycle.proofs.Every.{extend}
 use Rattle.card_format.proofs.Lists.{getD-filler}
 use Rattle.tsc.specs.declared.Card.{Card}
-use Rattle.tsc.specs.Constants.{mostWords, widestWidth}
+use Rattle.tsc.specs.Constants.{mostWords}
 use Rattle.tsc.specs.Coverage.{WellFormed}
 use Rattle.tsc.specs.Step.{entry}
-use Rattle.words.specs.Masks.{HasBits}
-use Rattle.words.proofs.Masks.{cond-ap, joined}
 use Rattle.columns.specs.declared.power.Powers.{Powers}
 use Rattle.columns.specs.Replace.{IsPower, imageOf}
 
@@ -112,9 +110,3 @@ image-power card p a b s c odd even l = go (eqb s 1)
     go : (t : Bool) → getD (cond t (p .odd) (p .even)) c 0 ≡ iterate (entry card) (cond t a b) c
     go true = odd c ∙ simp (lt-ltb c (2 ^ card .words) l)
     go false = even c ∙ simp (lt-ltb c (2 ^ card .words) l)
-
--- the same, as the code joins both results by a mask of the selector bit
-pub image-joined : (p : Powers) (s c x r : ℕ) → getD (p .odd) c 0 < 2 ^ widestWidth → getD (p .even) c 0 < 2 ^ widestWidth → r < 2 ^ widestWidth → HasBits x (λ i. s)
-    → HasBits r (λ i. cond (eqb (bit i x) 1) (bit i (getD (p .odd) c 0)) (bit i (getD (p .even) c 0))) → r ≡ imageOf p s c
-image-joined p s c x r lo le lr spread join =
-    joined widestWidth s x (getD (p .odd) c 0) (getD (p .even) c 0) r lo le lr spread join ∙ cond-ap (λ (t : List ℕ). getD t c 0) (eqb s 1) (p .odd) (p .even)

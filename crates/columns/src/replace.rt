@@ -10,17 +10,6 @@ ghost use Rattle.columns.specs.Replace.{withColumn, imageOf};
 use super::column;
 use super::power::Powers;
 use tsc::State;
-use words::mask;
-
-// Where column c goes, by the selector's bit i: both results, joined by a mask of that bit.
-fn image(p: Powers, selector: u32, i: u32, c: u32) -> u32
-    requires { ⌜ (i < widestWidth) × (c < 2 ^ mostWords) ⌝ }
-    ensures { λ r. ⌜ r ≡ imageOf p (bit i selector) c ⌝ }
-{
-    let odd = p.odd[c as usize] as u32;
-    let even = p.even[c as usize] as u32;
-    mask::join(mask::spread(selector, i), odd, even)
-}
 
 // Column i of s, put through the table, as column i of a state that has the columns below it.
 pub fn replace_column(p: Powers, s: State, selector: u32, i: u32, below: State) -> State
@@ -28,6 +17,8 @@ pub fn replace_column(p: Powers, s: State, selector: u32, i: u32, below: State) 
     requires { ⌜ ((k : ℕ) → k < mostWords → getD (below .words) k 0 < 2 ^ i) ⌝ }
     ensures { λ r. ⌜ r .words ≡ withColumn i (imageOf p (bit i selector) (column i (s .words))) (below .words) ⌝ }
 {
-    let c = image(p, selector, i, column::column_of(s, i));
-    column::with_column(below, i, c)
+    let c = column::column_of(s, i) as usize;
+    let odd = p.odd[c] as u32;
+    let even = p.even[c] as u32;
+    column::with_column(below, i, selector, odd, even)
 }

@@ -1,10 +1,10 @@
 -- The bits of an AND, an OR, an XOR, a complement, a number times a bit, a remainder, a sum and a double.
-use mathlib.Core.Path.{_≡_, sym, ap, _∙_}
-use Prim.Native.Nat.{ℕ, suc, _+_, _-_, _*_, _/_, _%_, _^_, _≤_, _<_, min, max}
-use native.Mathlib.Nat.{lt-of-lt-of-le, mod-lt, mod-eq-of-lt, zero-mul, one-mul, mul-assoc, mul-add, add-right-comm, add-mul-div-right, mod-add-div', pow-suc, pow-succ', zero-div, div-div-eq-div-mul, div-eq-of-lt}
+use mathlib.Core.Path.{_≡_, refl, sym, ap, _∙_}
+use Prim.Native.Nat.{ℕ, zero, suc, _+_, _-_, _*_, _/_, _%_, _^_, _≤_, _<_, min, max}
+use native.Mathlib.Nat.{lt-of-lt-of-le, mod-lt, mod-eq-of-lt, zero-mul, mul-zero, one-mul, mul-assoc, mul-add, add-right-comm, add-mul-div-right, mod-add-div', pow-suc, pow-succ', zero-div, div-div-eq-div-mul, div-eq-of-lt}
 use native.Mathlib.Omega.{arith}
 use lib.Bits.{bitAnd, bitOr, bitXor, differ, and-step, or-step, xor-step, and-shr, or-shr, xor-shr, and-mask, xor-add-and}
-use lib.Pow.{pow-pos, pow-mono, field, mod-mod-pow, ones-split, high, ones-lt}
+use lib.Pow.{pow-pos, pow-mono, shl-shr, field, mod-mod-pow, ones-split, high, ones-lt}
 use Rattle.cycle.specs.Notation.{bit}
 use Rattle.cycle.proofs.Parity.{two-pos, bit-cases, bits-cases}
 use Rattle.cycle.proofs.Digits.{fromDigits-ext, fromDigits-of}
@@ -26,6 +26,21 @@ bit-times i b x l =
 
 pub bit-suc : (i x : ℕ) → bit (suc i) x ≡ bit i (x / 2)
 bit-suc i x = ap (λ (a : ℕ). x / a % 2) (pow-succ' 2 i) ∙ ap (λ (a : ℕ). a % 2) (sym (div-div-eq-div-mul x 2 (2 ^ i)))
+
+-- a bit put into place i is there, and nowhere else
+pub bit-there : (i b : ℕ) → b < 2 → bit i (b * 2 ^ i) ≡ b
+bit-there i b l = ap (λ (a : ℕ). a % 2) (shl-shr b i) ∙ mod-eq-of-lt l
+
+pub bit-elsewhere : (i j b : ℕ) → b < 2 → ¬ j ≡ i → bit j (b * 2 ^ i) ≡ 0
+bit-elsewhere i j b l ne = bit-times j b (2 ^ i) l ∙ ap (λ (a : ℕ). b * a) (none i j ne) ∙ mul-zero b
+  where
+    none : (i j : ℕ) → ¬ j ≡ i → bit j (2 ^ i) ≡ 0
+    none zero zero ne = absurd (ne refl)
+    none zero (suc j) ne = bit-suc j 1 ∙ bit-zero j
+    none (suc i) zero ne = omega (arith, pow-suc 2 i)
+    none (suc i) (suc j) ne =
+        let half : 2 ^ suc i / 2 ≡ 2 ^ i = omega (arith, pow-suc 2 i) in
+        bit-suc j (2 ^ suc i) ∙ ap (bit j) half ∙ none i j (λ e. ne (ap suc e))
 
 pub bit-and : (i x y : ℕ) → bit i (bitAnd x y) ≡ bit i x * bit i y
 bit-and i x y =

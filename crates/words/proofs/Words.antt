@@ -2,7 +2,7 @@
 use mathlib.Core.Path.{_≡_, refl, ap, _∙_}
 use mathlib.Core.List.{List, [], _∷_}
 use Prim.Native.Nat.{ℕ, zero, suc, _-_, _<_, _≤_}
-use native.Mathlib.Nat.{le-of-eq}
+use native.Mathlib.Nat.{le-refl}
 use native.Mathlib.Omega.{arith}
 use lib.ListN.{length, getD, take, drop, drop-of-length-le}
 use lib.Seq.{length-take-le}
@@ -11,8 +11,13 @@ use lib.Seq.{length-take-le}
 abbrev pub wordsFrom : ℕ → ℕ → List ℕ → List ℕ
 wordsFrom k m xs = drop k (take m xs)
 
+pub words-past : (k m : ℕ) (xs : List ℕ) → m ≤ k → m ≤ length xs → wordsFrom k m xs ≡ []
+words-past k m xs l h =
+    let e : length (take m xs) ≤ k = omega (arith, length-take-le m xs h) in
+    drop-of-length-le (take m xs) e
+
 pub words-none : (m : ℕ) (xs : List ℕ) → m ≤ length xs → wordsFrom m m xs ≡ []
-words-none m xs h = drop-of-length-le (take m xs) (le-of-eq (length-take-le m xs h))
+words-none m xs h = words-past m m xs (le-refl m) h
 
 words-cons : (k m : ℕ) (xs : List ℕ) → k < m → m ≤ length xs → wordsFrom k m xs ≡ getD xs k 0 ∷ wordsFrom (suc k) m xs
 words-cons k zero xs l h = absurd (omega arith)

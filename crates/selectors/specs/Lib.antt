@@ -1,0 +1,2 @@
+-- What the selector needs of a card.
+pub mod Terms
