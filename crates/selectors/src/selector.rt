@@ -1,10 +1,11 @@
 // The selector of a state (document 002, 13 and 18), without a branch. The loops go from the last word to the first, as the definitions do, over all the
 // words that a state can have: masks leave out those past m. Callers hold an accepted card.
 ghost use mathlib.Core.Path.{_≡_};
-ghost use Prim.Native.Nat.{_%_, _^_, _<_, _≤_};
+ghost use Prim.Native.Nat.{ℕ, _%_, _^_, _<_, _≤_};
 ghost use lib.ListN.{take};
 ghost use Rattle.tsc.specs.Constants.{mostWords, widestWidth};
 ghost use Rattle.tsc.specs.Selector.{andWords, sumWords, selector};
+ghost use Rattle.words.specs.Widths.{IsWidth};
 ghost use Rattle.selectors.specs.Terms.{Absent, IsTerms};
 use std::num::wrapping_add_u32;
 use tsc::Card;
@@ -56,10 +57,10 @@ pub fn terms_of(card: Card) -> Terms
     }
 }
 
-// p: the AND of the first m words, of n bits.
-fn and_words(card: Card, t: Terms, s: State) -> u32
-    requires { ⌜ (card .width ≤ widestWidth) × (card .words ≤ mostWords) × IsTerms card t ⌝ }
-    ensures { λ r. ⌜ r ≡ andWords (card .width) (take (card .words) (s .words)) ⌝ }
+// p: the AND of the first m words, of n bits, for the m that the masks are of.
+fn and_words(t: Terms, s: State) -> u32
+    requires { ⌜ IsWidth (t .width) ⌝ }
+    ensures { λ r. ⌜ ((m : ℕ) → m ≤ mostWords → Absent m (t .absent) → r ≡ andWords (t .width .bits) (take m (s .words))) ⌝ }
 {
     let mut p = t.width.low;
     let mut k = MOST_WORDS;
@@ -70,10 +71,9 @@ fn and_words(card: Card, t: Terms, s: State) -> u32
     p
 }
 
-// s: the sum of the first m words, before it is reduced to n bits.
-fn sum_words(card: Card, t: Terms, s: State) -> u32
-    requires { ⌜ (card .words ≤ mostWords) × IsTerms card t ⌝ }
-    ensures { λ r. ⌜ r ≡ sumWords (take (card .words) (s .words)) % 2 ^ widestWidth ⌝ }
+// s: the sum of the first m words, before it is reduced to n bits, for the m that the masks are of.
+fn sum_words(t: Terms, s: State) -> u32
+    ensures { λ r. ⌜ ((m : ℕ) → m ≤ mostWords → Absent m (t .absent) → r ≡ sumWords (take m (s .words)) % 2 ^ widestWidth) ⌝ }
 {
     let mut sum = 0;
     let mut k = MOST_WORDS;
@@ -89,8 +89,8 @@ pub fn selector_by(card: Card, t: Terms, s: State) -> u32
     requires { ⌜ (0 < card .width) × (card .width ≤ widestWidth) × (card .words ≤ mostWords) × IsTerms card t ⌝ }
     ensures { λ r. ⌜ r ≡ selector card (take (card .words) (s .words)) ⌝ }
 {
-    let p = and_words(card, t, s);
-    let sum = sum_words(card, t, s);
+    let p = and_words(t, s);
+    let sum = sum_words(t, s);
     let moved = arithmetic::add(t.width, p, card.constant) ^ p;
     moved ^ (wrapping_add_u32(sum, sum) & t.doubled)
 }

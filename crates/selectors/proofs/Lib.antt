@@ -1,0 +1,2 @@
+-- Words past m left out by masks.
+pub mod Masked
