@@ -29,7 +29,7 @@ fn absent_words(m: u32) -> [u32; MOST_WORDS]
     requires { ⌜ m ≤ mostWords ⌝ }
     ensures { λ r. ⌜ Absent m r ⌝ }
 {
-    let present = (1 << m) - 1;
+    let present = (1u32 << m) - 1;
     let mut absent = [0; MOST_WORDS];
     let mut k = 0;
     while k < MOST_WORDS {

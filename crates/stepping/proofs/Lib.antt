@@ -1,3 +1,4 @@
--- Laws of states by value, and of states built column by column.
+-- Laws of states by value, of states built column by column, and of states known by their columns.
 pub mod Holding
 pub mod Built
+pub mod Columns

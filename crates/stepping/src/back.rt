@@ -20,7 +20,7 @@ fn undoing(card: Card, times: u32) -> u32
     ensures { λ r. ⌜ r ≡ undone card times ⌝ }
 {
     let m = card.words as u32;
-    table::entries(m) as u32 - arithmetic::reduce(m, times)
+    table::entries(m) as u32 - arithmetic::reduce(arithmetic::width_of(m), times)
 }
 
 // The table's powers for a step back: they undo those for a step.
@@ -41,12 +41,13 @@ pub fn previous_state(card: Card, p: Powers, s: State) -> State
     requires { ⌜ IsPower card (undone card (card .«odd_power»)) (p .odd) × IsPower card (undone card (card .«even_power»)) (p .even) ⌝ }
     ensures { λ r. ⌜ r ≡ holding (stepBack card (used card s)) ⌝ }
 {
+    let terms = selector::terms_of(card);
     let mut found = State {
         words: [0; MOST_WORDS],
     };
     let mut i = 0;
     while i < card.width as u32 {
-        let select = selector::selector_of(card, found);
+        let select = selector::selector_by(card, terms, found);
         found = replace::replace_column(p, s, select, i, found);
         i += 1;
     }

@@ -6,11 +6,11 @@ ghost use Rattle.columns.specs.Replace.{IsPower};
 ghost use Rattle.stepping.specs.State.{used, Holds, holding};
 use columns::power;
 use columns::power::Powers;
-use columns::replace;
+use minterms::replace;
 use selectors::selector;
 use tsc::Card;
-use tsc::MOST_WORDS;
 use tsc::State;
+use words::arithmetic;
 
 // The table's powers for a step, worked out once for all columns and all the steps of a call.
 pub fn forward(card: Card) -> Powers
@@ -20,20 +20,13 @@ pub fn forward(card: Card) -> Powers
     power::powers_of(card, card.odd_power as u32, card.even_power as u32)
 }
 
-// The step of a state.
+// The step of a state, all columns at once.
 pub fn next_state(card: Card, p: Powers, s: State) -> State
     requires { ⌜ Accepted card × Holds card s ⌝ }
     requires { ⌜ IsPower card (card .«odd_power») (p .odd) × IsPower card (card .«even_power») (p .even) ⌝ }
     ensures { λ r. ⌜ r ≡ holding (step card (used card s)) ⌝ }
 {
     let select = selector::selector_of(card, s);
-    let mut out = State {
-        words: [0; MOST_WORDS],
-    };
-    let mut i = 0;
-    while i < card.width as u32 {
-        out = replace::replace_column(p, s, select, i, out);
-        i += 1;
-    }
-    out
+    let width = arithmetic::width_of(card.width as u32);
+    replace::replace_columns(p, s, select, width.low)
 }
