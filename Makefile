@@ -92,11 +92,11 @@ dist: ## a tar of what is installed, and its checksum, for servers without the R
 
 # ---- what is tested
 
-.PHONY: test check bindings run-test install-test vectors store-vectors difftest bench loads
+.PHONY: test check bindings run-test install-test jumps vectors store-vectors difftest bench loads
 test: ## the gate: everything proved from nothing, must-fail edits tried, programs run
 	bash .ci/run
 
-check: bindings example run-test install-test vectors ## all that is no proof: bindings, example, run-test, install-test, vectors, and difftest of 200,000
+check: bindings example run-test install-test jumps vectors ## all that is no proof: bindings, example, run-test, install-test, jumps, vectors, and difftest of 200,000
 	@$(MAKE) --no-print-directory difftest INPUTS=200000
 	@echo "check: everything passed"
 
@@ -113,6 +113,9 @@ run-test: target/program/tiedraw-inspect ## what `make run` makes of CARD and FI
 
 install-test: lib ## install, dist and uninstall tried in an empty folder, and the example built there by pkg-config alone
 	@bash tools/install-test.sh
+
+jumps: lib ## the step in the archive: no conditional jump but loop ends, no division
+	@python3 harness/jumps.py target/lib/libtiedraw.a
 
 vectors: ## the second program against the papers' cases and the stored inputs and outputs
 	@bash reference/compare.sh

@@ -1,8 +1,12 @@
-//! The library compared with the second program, by running: random inputs, both sides' calls, and the comparison.
+//! The library compared with the second program, by running: random inputs, both sides' calls, and the comparison; and
+//! timed beside Rust.
 
+pub mod by_hand;
 pub mod calls;
 pub mod inputs;
+pub mod jitter;
 pub mod random;
+pub mod timing;
 
 /// Bytes in hex, one space apart.
 pub fn hex(bytes: &[u8]) -> String {

@@ -1,15 +1,15 @@
 //! How long the library's calls take, beside Rust on the same machine in the same run. Prints nanoseconds a call, or a word of a fill, and ratios.
 
-use reference::Card;
+use harness::by_hand::{fill_by_columns, fill_by_masks, Fill, Gear, State};
+use harness::jitter::steady;
+use harness::timing::{measure, within, Subject};
+use reference::{accept, Card};
+use std::array::from_fn;
 use std::hint::black_box;
 use std::process::exit;
-use std::time::Instant;
 
 const STEPS: usize = 10_000_000;
 const CALLS: usize = 1_000_000;
-/// Everything is measured in so many parts, by turns; the quickest part counts, since whatever else
-/// the machine does only adds to it.
-const PARTS: usize = 20;
 /// the words of a fill
 const SPAN: usize = 4096;
 
@@ -17,82 +17,72 @@ const P1: &[u8] = &[0];
 const P2: &[u8] = &[
     0x74, 5, 2, 11, 12, 13, 4, 3, 14, 15, 8, 1, 6, 7, 10, 9, 0, 0, 1, 0, 0, 0, 2,
 ];
+/// 3 words of 24 bits
+const THREE_WORDS: &[u8] = &[0x27, 3, 24, 3, 5, 0, 6, 2, 7, 1, 4, 0x01, 0x48, 0x24, 0x00];
 /// TSC-1 with odd power 255 and even power 254
 const WORST_POWERS: &[u8] = &[0x18, 255, 254];
 /// TSC-1 with words of 6 bits and as many bits of its constant
 const NARROW: &[u8] = &[0x22, 6, 0x21, 0, 0, 0];
 
-/// What is measured: a call, or a word of a fill; how often in all, and how.
-struct Subject {
-    name: String,
-    calls: usize,
-    run: Box<dyn FnMut(usize)>,
-}
-
-fn subject(name: &str, calls: usize, mut call: impl FnMut() + 'static) -> Subject {
-    Subject {
-        name: name.to_string(),
-        calls,
-        run: Box::new(move |times| (0..times).for_each(|_| call())),
-    }
-}
-
-/// Nanoseconds of one call of each.
-fn measure(subjects: &mut [Subject]) -> Vec<f64> {
-    let mut best = vec![f64::INFINITY; subjects.len()];
-    for _ in 0..PARTS {
-        for (subject, best) in subjects.iter_mut().zip(&mut best) {
-            let calls = subject.calls / PARTS;
-            let start = Instant::now();
-            (subject.run)(calls);
-            *best = best.min(start.elapsed().as_nanos() as f64 / calls as f64);
-        }
-    }
-    best
-}
+/// The cards whose fill is held to Rust's.
+const FILLED: [(&str, &[u8]); 3] = [("P1", P1), ("P2", P2), ("3 words of 24 bits", THREE_WORDS)];
 
 // ---- The library.
 
 fn draw(name: &str, card: &'static [u8]) -> Subject {
     let mut state = [1, 2, 3, 4];
-    subject(name, STEPS, move || {
+    Subject::call(name, STEPS, move || {
         black_box(tiedraw::draw(black_box(card), &mut state).unwrap());
     })
 }
 
 /// As many words as are told, in fills of SPAN and one of the rest: each word counts as a call.
-fn fill(name: &str, card: &'static [u8]) -> Subject {
-    let mut state = [1, 2, 3, 4];
+fn words(name: &str, mut fill: impl FnMut(&mut [u32]) + 'static) -> Subject {
     let mut strip = [0; SPAN];
-    let run = move |words: usize| {
+    Subject::new(name, STEPS, move |words| {
         for done in (0..words).step_by(SPAN) {
             let count = SPAN.min(words - done);
-            tiedraw::fill(black_box(card), &mut state, black_box(&mut strip), 0, count).unwrap();
+            fill(black_box(&mut strip[..count]));
         }
-    };
-    Subject {
-        name: name.to_string(),
-        calls: STEPS,
-        run: Box::new(run),
-    }
+    })
+}
+
+/// The state that fills start from: 1, 2 and so on, and 0 past the card's words.
+fn start(card: &Card) -> State {
+    from_fn(|k| {
+        if k < card.words.into() {
+            k as u32 + 1
+        } else {
+            0
+        }
+    })
+}
+
+fn fill(name: &str, bytes: &'static [u8]) -> Subject {
+    let card = accept(bytes).unwrap();
+    let mut state = start(&card);
+    words(name, move |strip| {
+        let state = &mut state[..card.words.into()];
+        tiedraw::fill(black_box(bytes), state, strip, 0, strip.len()).unwrap();
+    })
 }
 
 fn check(name: &str, card: &'static [u8]) -> Subject {
-    subject(name, CALLS, move || {
+    Subject::call(name, CALLS, move || {
         tiedraw::check(black_box(card)).unwrap()
     })
 }
 
 fn step(name: &str, card: &'static [u8]) -> Subject {
     let mut state = [1, 2, 3, 4];
-    subject(name, CALLS, move || {
+    Subject::call(name, CALLS, move || {
         tiedraw::step(black_box(card), &mut state).unwrap()
     })
 }
 
 fn step_back(name: &str, card: &'static [u8]) -> Subject {
     let mut state = [1, 2, 3, 4];
-    subject(name, CALLS, move || {
+    Subject::call(name, CALLS, move || {
         tiedraw::step_back(black_box(card), &mut state).unwrap()
     })
 }
@@ -103,7 +93,7 @@ fn pick(name: &str, card: &'static [u8], count: u16, ties: u16) -> Subject {
     let times: Vec<u32> = (0..count)
         .map(|i| if i < ties { 300 } else { 400 })
         .collect();
-    subject(name, CALLS, move || {
+    Subject::call(name, CALLS, move || {
         black_box(tiedraw::pick(card, &mut state, black_box(&shovels), &times).unwrap());
     })
 }
@@ -112,101 +102,135 @@ fn pick(name: &str, card: &'static [u8], count: u16, ties: u16) -> Subject {
 
 /// The second program's step and word, for a card that it has read.
 fn second_program(name: &str, bytes: &[u8], steps: usize) -> Subject {
-    let card = reference::accept(bytes).unwrap();
+    let card = accept(bytes).unwrap();
     let mut state = vec![1, 2, 3, 4];
-    subject(name, steps, move || {
+    Subject::call(name, steps, move || {
         state = reference::step(black_box(&card), &state);
         black_box(reference::word(&card, &state));
     })
 }
 
-/// The table applied k times, for every entry.
-fn power(table: &[u8], k: u8) -> [u8; 16] {
-    let mut result = [0; 16];
-    for (x, entry) in result.iter_mut().enumerate() {
-        *entry = (0..k).fold(x as u8, |x, _| table[usize::from(x)]);
-    }
-    result
+/// Rust's fill, what depends on the card alone worked out beforehand.
+fn by_hand(name: &str, bytes: &[u8], fill: Fill) -> Subject {
+    let card = accept(bytes).unwrap();
+    let gear = Gear::new(&card);
+    let mut state = start(&card);
+    words(name, move |strip| fill(black_box(&gear), &mut state, strip))
 }
 
-/// A step column by column as one would write it by hand for speed: four words, the table's powers
-/// worked out beforehand, no allocation.
-fn step_by_hand(card: &Card, powers: &[[u8; 16]; 2], x: &[u32; 4]) -> [u32; 4] {
-    let selector = reference::selector(card, x);
-    let mut after = [0; 4];
-    for i in 0..card.width {
-        let bit = |k: usize| x[k] >> i & 1;
-        let column = bit(0) | bit(1) << 1 | bit(2) << 2 | bit(3) << 3;
-        let to = u32::from(powers[(selector >> i & 1) as usize][column as usize]);
-        for (k, word) in after.iter_mut().enumerate() {
-            *word |= (to >> k & 1) << i;
+/// Both of Rust's fills give the library's words and state, so that the same thing is timed.
+fn compare(name: &str, bytes: &[u8]) {
+    let card = accept(bytes).unwrap();
+    let mut state = start(&card);
+    let mut strip = [0; SPAN];
+    tiedraw::fill(bytes, &mut state[..card.words.into()], &mut strip, 0, SPAN).unwrap();
+    for fill in [fill_by_masks, fill_by_columns] {
+        let mut by_hand = (start(&card), [0; SPAN]);
+        fill(&Gear::new(&card), &mut by_hand.0, &mut by_hand.1);
+        assert!(by_hand == (state, strip), "words or state differ: {name}");
+    }
+}
+
+// ---- What is measured, and the goals.
+
+/// A ratio of two subjects, by their places, and the most that it may be, where there is a goal.
+struct Ratio {
+    name: String,
+    over: usize,
+    under: usize,
+    most: Option<f64>,
+}
+
+#[derive(Default)]
+struct Bench {
+    subjects: Vec<Subject>,
+    ratios: Vec<Ratio>,
+}
+
+impl Bench {
+    /// Gives the subject's place.
+    fn add(&mut self, subject: Subject) -> usize {
+        self.subjects.push(subject);
+        self.subjects.len() - 1
+    }
+
+    fn ratio(&mut self, name: &str, over: usize, under: usize, most: Option<f64>) {
+        self.ratios.push(Ratio {
+            name: name.to_string(),
+            over,
+            under,
+            most,
+        });
+    }
+
+    /// A card's fill beside both of Rust's; gives the places of the fill and of Rust's column by column.
+    fn add_fill(&mut self, name: &str, card: &'static [u8]) -> (usize, usize) {
+        let masks = format!("Rust by minterm masks, {name}: a word, the card's part worked out");
+        let columns = format!("Rust column by column, {name}: the same");
+        let library = self.add(fill(
+            &format!("fill: a word, of {SPAN} a call, {name}"),
+            card,
+        ));
+        let masks = self.add(by_hand(&masks, card, fill_by_masks));
+        let columns = self.add(by_hand(&columns, card, fill_by_columns));
+        let to = |what: &str| format!("fill on {name} to Rust {what}");
+        self.ratio(&to("by minterm masks"), library, masks, Some(1.0));
+        self.ratio(&to("column by column"), library, columns, Some(0.25));
+        (library, columns)
+    }
+
+    /// The draw and the worst powers; the fill on P1 and Rust's column by column stand at these places.
+    fn add_draw(&mut self, fill_p1: usize, columns: usize) {
+        let draw_p1 = self.add(draw("draw: read, check, step and word, P1", P1));
+        let draw_worst = self.add(draw("draw, worst powers", WORST_POWERS));
+        let fill_worst = self.add(fill("fill: a word, worst powers", WORST_POWERS));
+        let second = "second program, P1: step and word, the card already read";
+        let second = self.add(second_program(second, P1, STEPS));
+        for (name, over, under, most) in [
+            (
+                "draw on P1 to Rust column by column",
+                draw_p1,
+                columns,
+                None,
+            ),
+            ("draw on P1 to a word of fill", draw_p1, fill_p1, None),
+            (
+                "draw on P1 to the second program's step",
+                draw_p1,
+                second,
+                Some(2.0),
+            ),
+            (
+                "draw with the worst powers to draw on P1",
+                draw_worst,
+                draw_p1,
+                Some(2.0),
+            ),
+            (
+                "fill with the worst powers to fill on P1",
+                fill_worst,
+                fill_p1,
+                Some(1.05),
+            ),
+        ] {
+            self.ratio(name, over, under, most);
         }
     }
-    after
+
+    fn new() -> Bench {
+        let mut bench = Bench::default();
+        let places = FILLED.map(|(name, card)| bench.add_fill(name, card));
+        let (fill_p1, columns_p1) = places[0];
+        bench.add_draw(fill_p1, columns_p1);
+        bench.subjects.extend(others());
+        bench
+    }
 }
 
-fn by_hand(name: &str, bytes: &[u8]) -> Subject {
-    let card = reference::accept(bytes).unwrap();
-    let powers = [card.even_power, card.odd_power].map(|k| power(&card.table, k));
-    let mut state = [1, 2, 3, 4];
-    subject(name, STEPS, move || {
-        state = step_by_hand(black_box(&card), &powers, &state);
-        black_box(reference::word(&card, &state));
-    })
-}
-
-// ---- The report.
-
-/// A ratio, and whether it is within its target.
-fn within(name: &str, ratio: f64, most: f64) -> bool {
-    let held = ratio <= most;
-    let verdict = if held { "held" } else { "MISSED" };
-    println!("{ratio:>9.2}     {name}: at most {most:?}, {verdict}");
-    held
-}
-
-/// The ratios of the first six subjects, and whether all of them are within their targets.
-fn ratios(best: &[f64]) -> bool {
-    let [draw, draw_worst, fill, fill_worst, second, hand] = best[..6] else {
-        unreachable!("six subjects")
-    };
-    println!("{:>9.2}     draw on P1 to the step by hand", draw / hand);
-    println!("{:>9.2}     draw on P1 to a word of fill", draw / fill);
-    let rows = [
-        (
-            "draw on P1 to the second program's step",
-            draw / second,
-            2.0,
-        ),
-        (
-            "draw with the worst powers to draw on P1",
-            draw_worst / draw,
-            2.0,
-        ),
-        ("fill on P1 to the step by hand", fill / hand, 1.15),
-        (
-            "fill with the worst powers to fill on P1",
-            fill_worst / fill,
-            1.05,
-        ),
-    ];
-    let held = rows.map(|(name, ratio, most)| within(name, ratio, most));
-    !held.contains(&false)
-}
-
-/// The first six are those of the ratios.
-fn subjects() -> Vec<Subject> {
-    let second = "second program, P1: step and word, the card already read";
-    let hand = "Rust by hand, P1: the same, the table's powers already worked out";
+/// What is in no ratio.
+fn others() -> Vec<Subject> {
     vec![
-        draw("draw: read, check, step and word, P1", P1),
-        draw("draw, worst powers", WORST_POWERS),
-        fill(&format!("fill: a word, of {SPAN} a call, P1"), P1),
-        fill("fill: a word, worst powers", WORST_POWERS),
-        second_program(second, P1, STEPS),
-        by_hand(hand, P1),
         draw("draw, P2", P2),
-        fill("fill: a word, P2", P2),
         check("check: read and check, P1 of 1 byte", P1),
         check("check, P2 of 23 bytes", P2),
         step("step: read, check and step, P1", P1),
@@ -223,11 +247,43 @@ fn subjects() -> Vec<Subject> {
     ]
 }
 
+// ---- The report.
+
+/// Prints a ratio; whether it is within its goal, if it has one.
+fn holds(ratio: &Ratio, best: &[f64]) -> bool {
+    let value = best[ratio.over] / best[ratio.under];
+    match ratio.most {
+        Some(most) => within(&ratio.name, value, most),
+        None => {
+            println!("{value:>9.2}     {}", ratio.name);
+            true
+        }
+    }
+}
+
+/// Whether the step, and a fill of one word, take as long whatever the selector is.
+fn steady_calls() -> bool {
+    let card = accept(P1).unwrap();
+    let step = |state: &mut State| tiedraw::step(black_box(P1), state).unwrap();
+    let fill =
+        |state: &mut State| tiedraw::fill(black_box(P1), state, black_box(&mut [0]), 0, 1).unwrap();
+    let step = steady("step, P1", &card, 1.05, step);
+    let fill = steady("fill of one word, P1", &card, 1.05, fill);
+    step && fill
+}
+
 fn main() {
-    let mut subjects = subjects();
-    let best = measure(&mut subjects);
-    for (subject, best) in subjects.iter().zip(&best) {
+    FILLED.iter().for_each(|(name, card)| compare(name, card));
+    let mut bench = Bench::new();
+    let best = measure(&mut bench.subjects);
+    for (subject, best) in bench.subjects.iter().zip(&best) {
         println!("{best:>9.1} ns  {} ({} times)", subject.name, subject.calls);
     }
-    exit(i32::from(!ratios(&best)));
+    let held: Vec<bool> = bench
+        .ratios
+        .iter()
+        .map(|ratio| holds(ratio, &best))
+        .collect();
+    let steady = steady_calls();
+    exit(i32::from(held.contains(&false) || !steady));
 }

@@ -1,0 +1,157 @@
+//! The generator in Rust as one would write it by hand for speed, for any accepted card: what the library's fill is timed
+//! beside. All columns at once by minterm masks, and column by column, with the same selector and word.
+
+use reference::{mask, Card};
+use std::array::from_fn;
+use tiedraw::{MOST_WORDS, TABLE_SIZE};
+
+/// Words past the card's are 0.
+pub type State = [u32; MOST_WORDS];
+type Entries = [u32; TABLE_SIZE];
+
+/// What depends on the card alone, worked out once.
+pub struct Gear {
+    /// n
+    width: u32,
+    /// 2^n - 1
+    low: u32,
+    /// ones in each word past m
+    absent: State,
+    constant: u32,
+    /// 2^n - 1 where the selector has the term 2s, else 0
+    doubled: u32,
+    filter: u8,
+    /// places of the filter's turns, below n
+    turns: [u32; 5],
+    /// the table's even power, then its odd one
+    powers: [Entries; 2],
+}
+
+/// The table applied k times, for every entry; 0 past 2^m, which no column holds.
+fn power(table: &[u8], k: u8) -> Entries {
+    let image = |x: usize| (0..k).fold(x, |x, _| usize::from(table[x]));
+    from_fn(|x| if x < table.len() { image(x) as u32 } else { 0 })
+}
+
+impl Gear {
+    pub fn new(card: &Card) -> Gear {
+        let low = mask(card.width);
+        let turns = match card.filter {
+            1 => [9, 15, 7, 0, 0],
+            _ => [11, 14, 13, 22, 12],
+        };
+        Gear {
+            width: card.width.into(),
+            low,
+            absent: from_fn(|k| if k < card.words.into() { 0 } else { u32::MAX }),
+            constant: card.constant,
+            doubled: low * u32::from(card.sum_term),
+            filter: card.filter,
+            turns: turns.map(|places| places % u32::from(card.width)),
+            powers: [card.even_power, card.odd_power].map(|k| power(&card.table, k)),
+        }
+    }
+
+    fn selector(&self, x: &State) -> u32 {
+        let mut p = self.low;
+        let mut sum = 0u32;
+        for (word, absent) in x.iter().zip(&self.absent) {
+            p &= word | absent;
+            sum = sum.wrapping_add(*word);
+        }
+        (p.wrapping_add(self.constant) & self.low) ^ p ^ (sum << 1 & self.doubled)
+    }
+
+    fn add(&self, x: u32, y: u32) -> u32 {
+        x.wrapping_add(y) & self.low
+    }
+
+    /// Turned left within n bits, without a branch where the places are 0.
+    fn turned(&self, x: u32, places: u32) -> u32 {
+        (x << places & self.low) | (x >> 1 >> (self.width - 1 - places))
+    }
+
+    fn word(&self, x: &State) -> u32 {
+        let [a, b, c, d, e] = self.turns;
+        if self.filter == 2 {
+            let first = self.add(self.turned(x[0], a), x[1]);
+            let second = self.add(self.turned(x[0], c), x[2]);
+            let rest = self.add(self.turned(x[0], e), x[3]);
+            return self.add(
+                self.add(self.turned(first, b), self.turned(second, d)),
+                rest,
+            );
+        }
+        let inner = self.add(self.turned(x[0], a), x[1]);
+        let rest = self.add(self.turned(x[2], c), x[3]);
+        self.add(self.turned(inner, b), rest)
+    }
+}
+
+// ---- By minterm masks.
+
+/// The columns that hold c.
+fn holding(gear: &Gear, x: &State, c: u32) -> u32 {
+    let mut t = gear.low;
+    for (k, word) in x.iter().enumerate() {
+        t &= word ^ (c >> k & 1).wrapping_sub(1);
+    }
+    t
+}
+
+/// Image d put in at the columns t.
+fn put(after: &mut State, t: u32, d: u32) {
+    for (k, word) in after.iter_mut().enumerate() {
+        *word |= t & 0u32.wrapping_sub(d >> k & 1);
+    }
+}
+
+fn step_by_masks(gear: &Gear, x: &State) -> State {
+    let a = gear.selector(x);
+    let [even, odd] = &gear.powers;
+    let (mut u, mut v) = ([0; MOST_WORDS], [0; MOST_WORDS]);
+    for c in 0..TABLE_SIZE {
+        let t = holding(gear, x, c as u32);
+        put(&mut u, t, odd[c]);
+        put(&mut v, t, even[c]);
+    }
+    from_fn(|k| (u[k] & a) | (v[k] & !a))
+}
+
+// ---- Column by column.
+
+fn step_by_columns(gear: &Gear, x: &State) -> State {
+    let a = gear.selector(x);
+    let mut after = [0; MOST_WORDS];
+    for i in 0..gear.width {
+        let bit = |k: usize| x[k] >> i & 1;
+        let column = bit(0) | bit(1) << 1 | bit(2) << 2 | bit(3) << 3;
+        let to = gear.powers[(a >> i & 1) as usize][column as usize];
+        for (k, word) in after.iter_mut().enumerate() {
+            *word |= (to >> k & 1) << i;
+        }
+    }
+    after
+}
+
+// ---- A strip of words.
+
+/// Fills a strip and carries the state on.
+pub type Fill = fn(&Gear, &mut State, &mut [u32]);
+
+fn fill(gear: &Gear, state: &mut State, strip: &mut [u32], step: impl Fn(&Gear, &State) -> State) {
+    let mut x = *state;
+    for word in strip {
+        x = step(gear, &x);
+        *word = gear.word(&x);
+    }
+    *state = x;
+}
+
+pub fn fill_by_masks(gear: &Gear, state: &mut State, strip: &mut [u32]) {
+    fill(gear, state, strip, step_by_masks)
+}
+
+pub fn fill_by_columns(gear: &Gear, state: &mut State, strip: &mut [u32]) {
+    fill(gear, state, strip, step_by_columns)
+}
