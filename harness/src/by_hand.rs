@@ -10,7 +10,7 @@ pub type State = [u32; MOST_WORDS];
 type Entries = [u32; TABLE_SIZE];
 
 /// What depends on the card alone, worked out once.
-pub struct Gear {
+pub struct Setup {
     /// n
     width: u32,
     /// 2^n - 1
@@ -33,14 +33,14 @@ fn power(table: &[u8], k: u8) -> Entries {
     from_fn(|x| if x < table.len() { image(x) as u32 } else { 0 })
 }
 
-impl Gear {
-    pub fn new(card: &Card) -> Gear {
+impl Setup {
+    pub fn new(card: &Card) -> Setup {
         let low = mask(card.width);
         let turns = match card.filter {
             1 => [9, 15, 7, 0, 0],
             _ => [11, 14, 13, 22, 12],
         };
-        Gear {
+        Setup {
             width: card.width.into(),
             low,
             absent: from_fn(|k| if k < card.words.into() { 0 } else { u32::MAX }),
@@ -91,8 +91,8 @@ impl Gear {
 // ---- By minterm masks.
 
 /// The columns that hold c.
-fn holding(gear: &Gear, x: &State, c: u32) -> u32 {
-    let mut t = gear.low;
+fn holding(setup: &Setup, x: &State, c: u32) -> u32 {
+    let mut t = setup.low;
     for (k, word) in x.iter().enumerate() {
         t &= word ^ (c >> k & 1).wrapping_sub(1);
     }
@@ -106,12 +106,12 @@ fn put(after: &mut State, t: u32, d: u32) {
     }
 }
 
-fn step_by_masks(gear: &Gear, x: &State) -> State {
-    let a = gear.selector(x);
-    let [even, odd] = &gear.powers;
+fn step_by_masks(setup: &Setup, x: &State) -> State {
+    let a = setup.selector(x);
+    let [even, odd] = &setup.powers;
     let (mut u, mut v) = ([0; MOST_WORDS], [0; MOST_WORDS]);
     for c in 0..TABLE_SIZE {
-        let t = holding(gear, x, c as u32);
+        let t = holding(setup, x, c as u32);
         put(&mut u, t, odd[c]);
         put(&mut v, t, even[c]);
     }
@@ -120,13 +120,13 @@ fn step_by_masks(gear: &Gear, x: &State) -> State {
 
 // ---- Column by column.
 
-fn step_by_columns(gear: &Gear, x: &State) -> State {
-    let a = gear.selector(x);
+fn step_by_columns(setup: &Setup, x: &State) -> State {
+    let a = setup.selector(x);
     let mut after = [0; MOST_WORDS];
-    for i in 0..gear.width {
+    for i in 0..setup.width {
         let bit = |k: usize| x[k] >> i & 1;
         let column = bit(0) | bit(1) << 1 | bit(2) << 2 | bit(3) << 3;
-        let to = gear.powers[(a >> i & 1) as usize][column as usize];
+        let to = setup.powers[(a >> i & 1) as usize][column as usize];
         for (k, word) in after.iter_mut().enumerate() {
             *word |= (to >> k & 1) << i;
         }
@@ -137,21 +137,26 @@ fn step_by_columns(gear: &Gear, x: &State) -> State {
 // ---- A strip of words.
 
 /// Fills a strip and carries the state on.
-pub type Fill = fn(&Gear, &mut State, &mut [u32]);
+pub type Fill = fn(&Setup, &mut State, &mut [u32]);
 
-fn fill(gear: &Gear, state: &mut State, strip: &mut [u32], step: impl Fn(&Gear, &State) -> State) {
+fn fill(
+    setup: &Setup,
+    state: &mut State,
+    strip: &mut [u32],
+    step: impl Fn(&Setup, &State) -> State,
+) {
     let mut x = *state;
     for word in strip {
-        x = step(gear, &x);
-        *word = gear.word(&x);
+        x = step(setup, &x);
+        *word = setup.word(&x);
     }
     *state = x;
 }
 
-pub fn fill_by_masks(gear: &Gear, state: &mut State, strip: &mut [u32]) {
-    fill(gear, state, strip, step_by_masks)
+pub fn fill_by_masks(setup: &Setup, state: &mut State, strip: &mut [u32]) {
+    fill(setup, state, strip, step_by_masks)
 }
 
-pub fn fill_by_columns(gear: &Gear, state: &mut State, strip: &mut [u32]) {
-    fill(gear, state, strip, step_by_columns)
+pub fn fill_by_columns(setup: &Setup, state: &mut State, strip: &mut [u32]) {
+    fill(setup, state, strip, step_by_columns)
 }

@@ -1,6 +1,6 @@
 //! How long the library's calls take, beside Rust on the same machine in the same run. Prints nanoseconds a call, or a word of a fill, and ratios.
 
-use harness::by_hand::{fill_by_columns, fill_by_masks, Fill, Gear, State};
+use harness::by_hand::{fill_by_columns, fill_by_masks, Fill, Setup, State};
 use harness::jitter::steady;
 use harness::timing::{measure, within, Subject};
 use reference::{accept, Card};
@@ -113,9 +113,11 @@ fn second_program(name: &str, bytes: &[u8], steps: usize) -> Subject {
 /// Rust's fill, what depends on the card alone worked out beforehand.
 fn by_hand(name: &str, bytes: &[u8], fill: Fill) -> Subject {
     let card = accept(bytes).unwrap();
-    let gear = Gear::new(&card);
+    let setup = Setup::new(&card);
     let mut state = start(&card);
-    words(name, move |strip| fill(black_box(&gear), &mut state, strip))
+    words(name, move |strip| {
+        fill(black_box(&setup), &mut state, strip)
+    })
 }
 
 /// Both of Rust's fills give the library's words and state, so that the same thing is timed.
@@ -126,7 +128,7 @@ fn compare(name: &str, bytes: &[u8]) {
     tiedraw::fill(bytes, &mut state[..card.words.into()], &mut strip, 0, SPAN).unwrap();
     for fill in [fill_by_masks, fill_by_columns] {
         let mut by_hand = (start(&card), [0; SPAN]);
-        fill(&Gear::new(&card), &mut by_hand.0, &mut by_hand.1);
+        fill(&Setup::new(&card), &mut by_hand.0, &mut by_hand.1);
         assert!(by_hand == (state, strip), "words or state differ: {name}");
     }
 }
