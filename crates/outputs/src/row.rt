@@ -6,24 +6,55 @@ ghost use lib.ListN.{length, drop};
 ghost use Rattle.tsc.specs.Step.{orbit};
 ghost use Rattle.tsc.specs.Word.{orbitWords};
 ghost use Rattle.card_format.specs.Verdict.{Accepted};
+ghost use Rattle.columns.specs.Replace.{IsPower};
+ghost use Rattle.filters.specs.Turns.{turnsOf};
+ghost use Rattle.multiplexer.specs.Leaves.{HasLeaves};
+ghost use Rattle.selectors.specs.Terms.{IsTerms};
 ghost use Rattle.stepping.specs.State.{used, Holds, holding};
-use super::next;
+ghost use Rattle.outputs.specs.Output.{output};
+use super::next::Output;
+use columns::power::Powers;
+use filters::filter;
+use filters::filter::Turns;
+use multiplexer::leaves;
+use multiplexer::leaves::LEAVES;
+use multiplexer::tree;
+use selectors::selector;
+use selectors::selector::Terms;
 use stepping::step;
 use tsc::Card;
 use tsc::State;
 
-// The words of the next states of the orbit, so many of them, over the first words lent, and the last of these states. The table's powers are worked out
-// once. The fill calls it once nothing is refused, and so there is room.
+// The next state of the orbit with its word, by what a row works out once: the selector's terms, the leaves of the powers, the filter's rotations.
+fn next_in_row(card: Card, p: Powers, terms: Terms, leaves: [u32; LEAVES], turns: Turns, s: State) -> Output
+    requires { ⌜ Accepted card × Holds card s ⌝ }
+    requires { ⌜ IsPower card (card .«odd_power») (p .odd) × IsPower card (card .«even_power») (p .even) ⌝ }
+    requires { ⌜ IsTerms card terms × HasLeaves p leaves × (turns ≡ turnsOf card) ⌝ }
+    ensures { λ r. ⌜ r ≡ output card (used card s) ⌝ }
+{
+    let select = selector::selector_by(card, terms, s);
+    let after = tree::replace_columns(leaves, p, s, select, terms.width.low);
+    Output {
+        state: after,
+        word: filter::word_by(card, turns, after),
+    }
+}
+
+// The words of the next states of the orbit, so many of them, over the first words lent, and the last of these states. What the steps need of the card is
+// worked out once. The fill calls it once nothing is refused, and so there is room.
 pub fn fill_words(card: Card, s: State, count: usize, words: &mut [u32]) -> State
     requires { ⌜ Accepted card × Holds card s × (count ≤ length (now words)) ⌝ }
     ensures { λ r. ⌜ r ≡ holding (orbit card (used card s) count) ⌝ }
     ensures { λ _. ⌜ now (words .exit) ≡ orbitWords card (used card s) count ++ drop count (now (words .entry)) ⌝ }
 {
     let p = step::forward(card);
+    let terms = selector::terms_of(card);
+    let leaves = leaves::leaves_of(p);
+    let turns = filter::turns_of(card);
     let mut held = s;
     let mut k = 0;
     while k < count {
-        let drawn = next::next_output(card, p, held);
+        let drawn = next_in_row(card, p, terms, leaves, turns, held);
         words[k] = drawn.word;
         held = drawn.state;
         k += 1;

@@ -1,0 +1,71 @@
+use mathlib.Core.Path.{_≡_, refl, ap, _∙_}
+use Prim.Native.Nat.{_-_, _%_, _≤_}
+use native.Mathlib.Omega.{arith}
+use lib.ListN.{length, length-set}
+use Rattle.cycle.specs.Notation.{bit}
+use Rattle.tsc.specs.Constants.{mostWords}
+use Rattle.multiplexer.specs.Leaves.{leafCount}
+use Rattle.multiplexer.proofs.Picked.{Below, below-next, LeafAt, leaves-all}
+use Rattle.multiplexer.proofs.leaves.leaves_of.Statement.{statement}
+use Rattle.multiplexer.proofs.leaves.leaves_of.Tie as tie
+
+abbrev Inv-loop : tie.InvT-loop
+Inv-loop p out₀ j₀ out j = (j ≤ leafCount) × (length out ≡ leafCount) × Below (LeafAt p) j out
+
+abbrev μ-loop : tie.MeasureT-loop
+μ-loop p out₀ j₀ out j = leafCount - j
+
+loop-holds : tie.Need-loop-holds Inv-loop μ-loop
+loop-holds c = (omega arith, refl, λ j l. absurd (omega arith))
+
+image-at-requires : tie.Need-image-at-requires Inv-loop μ-loop
+image-at-requires c κs = omega arith
+
+cast-spread : tie.Need-cast-spread Inv-loop μ-loop
+cast-spread c = omega arith
+
+spread-requires : tie.Need-spread-requires Inv-loop μ-loop
+spread-requires c κs = omega arith
+
+mul-out : tie.Need-mul-out Inv-loop μ-loop
+mul-out c = omega arith
+
+array-write-out : tie.Need-array-write-out Inv-loop μ-loop
+array-write-out c = omega arith
+
+add-j : tie.Need-add-j Inv-loop μ-loop
+add-j c = omega arith
+
+loop-less : tie.Need-loop-less Inv-loop μ-loop
+loop-less c = omega arith
+
+loop-again : tie.Need-loop-again Inv-loop μ-loop
+loop-again c =
+    let l = c .before .before .before .loop in (
+      omega arith,
+      simp length-set (l .inv .1),
+      below-next (LeafAt (c .before .before .before .before .args .p)) (l .j) (c .spread .result) (l .out) (omega arith) (l .inv .2)
+          (λ i h. c .spread .ensures i h ∙ ap (bit (l .j % mostWords)) (c .before .image-at .ensures)),
+    )
+
+returns : tie.Need-returns Inv-loop μ-loop
+returns c =
+    let l = c .before .loop in
+    leaves-all (c .before .before .args .p) (l .out) (λ j h. l .inv .2 j (omega arith))
+
+pub leaves-of-spec : {M : Type 1} → statement M
+leaves-of-spec =
+    tie.close
+    (tie.spec
+    Inv-loop
+    μ-loop
+    loop-holds
+    image-at-requires
+    cast-spread
+    spread-requires
+    mul-out
+    array-write-out
+    add-j
+    loop-less
+    loop-again
+    returns)

@@ -1,0 +1,95 @@
+use mathlib.Core.Path.{_≡_, refl}
+use Prim.Native.Nat.{ℕ, _-_, _≤_}
+use native.Mathlib.Omega.{arith}
+use borrow.Author.Needs.{needs}
+use lib.ListN.{length, getD, length-set}
+use Rattle.cycle.specs.Notation.{bit}
+use Rattle.tsc.specs.Constants.{mostWords}
+use Rattle.multiplexer.proofs.Picked.{Below, below-next, picked-chosen, KeptAt, kept-and, kept-all}
+use Rattle.multiplexer.proofs.tree.replace_columns.Statement.{statement}
+use Rattle.multiplexer.proofs.tree.replace_columns.Tie as tie
+
+abbrev Inv-loop : tie.InvT-loop
+Inv-loop selector low f out₀ k₀ out k = (k ≤ mostWords) × (length (out .words) ≡ mostWords) × Below (KeptAt mostWords f (λ i. bit i selector) low) k (out .words)
+
+abbrev μ-loop : tie.MeasureT-loop
+μ-loop selector low f out₀ k₀ out k = mostWords - k
+
+looked-up-requires : tie.Need-looked-up-requires Inv-loop μ-loop
+looked-up-requires c κs = search needs
+
+loop-holds : tie.Need-loop-holds Inv-loop μ-loop
+loop-holds c = (omega arith, refl, λ j l. absurd (omega arith))
+
+add-join : tie.Need-add-join Inv-loop μ-loop
+add-join c = omega arith
+
+mul-join : tie.Need-mul-join Inv-loop μ-loop
+mul-join c = omega arith
+
+array-read-join : tie.Need-array-read-join Inv-loop μ-loop
+array-read-join c = omega arith
+
+mul-join-2 : tie.Need-mul-join-2 Inv-loop μ-loop
+mul-join-2 c = omega arith
+
+array-read-join-2 : tie.Need-array-read-join-2 Inv-loop μ-loop
+array-read-join-2 c = omega arith
+
+join-requires : tie.Need-join-requires Inv-loop μ-loop
+join-requires c κs = search needs
+
+mul-out : tie.Need-mul-out Inv-loop μ-loop
+mul-out c = omega arith
+
+element-write-out : tie.Need-element-write-out Inv-loop μ-loop
+element-write-out c = omega arith
+
+add-k : tie.Need-add-k Inv-loop μ-loop
+add-k c = omega arith
+
+loop-less : tie.Need-loop-less Inv-loop μ-loop
+loop-less c = omega arith
+
+loop-again : tie.Need-loop-again Inv-loop μ-loop
+loop-again c =
+    let a = c .before .before .before .before .args in
+    let f = c .before .before .before .looked-up .result in
+    let l = c .before .before .loop in
+    let by : ℕ → ℕ = λ i. bit i (a .selector) in
+    let y = c .join .result in (
+      omega arith,
+      simp length-set (l .inv .1),
+      below-next (KeptAt mostWords f by (a .low)) (l .k) _ (l .out .words) (omega arith) (l .inv .2)
+          (kept-and mostWords f by (a .low) (l .k) y (picked-chosen mostWords (l .k) (a .selector) y f (c .join .ensures))),
+    )
+
+returns : tie.Need-returns Inv-loop μ-loop
+returns c k h =
+    let s = c .before .before .before in
+    let a = s .args in
+    let f = c .before .before .looked-up in
+    let l = c .before .loop in
+    let size : length (s .args .s .words) ≡ mostWords = search needs in
+    kept-all (a .p) (a .leaves) (a .s .words) (f .result) (a .selector) (a .low) k (getD (l .out .words) k 0) (s .pre) size (f .ensures) h (l .inv .2 k (omega arith))
+
+pub replace-columns-spec : {M : Type 1} → statement M
+replace-columns-spec =
+    tie.close
+    (tie.spec
+    Inv-loop
+    μ-loop
+    looked-up-requires
+    loop-holds
+    add-join
+    mul-join
+    array-read-join
+    mul-join-2
+    array-read-join-2
+    join-requires
+    mul-out
+    element-write-out
+    add-k
+    loop-less
+    loop-again
+    returns)
