@@ -9,11 +9,9 @@ use native.Mathlib.Omega.{arith}
 use borrow.Author.Tests.{eq-eqb, ne-eqb, lt-ltb, le-ltb}
 use lib.Bits.{bitAnd, bitOr, bitXor}
 use lib.Dec.{eqb, ltb}
-use lib.ListN.{length, getD, set, replicate}
-use lib.Seq.{getD-set-same, getD-set-other}
+use lib.ListN.{length, getD, replicate}
 use Rattle.cycle.specs.Notation.{one, bit}
 use Rattle.cycle.proofs.Bits.{bit-lt, bit-zero, bit-times, bit-and, bit-or, bit-xor, bit-not}
-use Rattle.cycle.proofs.Every.{extend}
 use Rattle.card_format.proofs.Lists.{getD-filler}
 use Rattle.tsc.specs.Columns.{column}
 use Rattle.tsc.proofs.LowWords.{bit-column}
@@ -63,11 +61,6 @@ holds-next w m low c t y k ws pos lk lm ly i l h b =
     ∙ ap (λ (xs : List ℕ). holds low d xs i) (sym (words-next k m ws pos lk lm))
 
 -- ---- an entry's image put in, word after word
-
-pub columns-next : (m v : ℕ) (ws : List ℕ) (f : ℕ → ℕ) → m < length ws → HasColumns m ws f → HasBits v (λ i. bit m (f i)) → HasColumns (m + 1) (set ws m v) f
-columns-next m v ws f l h b =
-    extend (λ k. HasBits (getD (set ws m v) k 0) (λ i. bit k (f i))) m (λ k lk. rw (getD-set-other ws m k v 0 (λ e. omega arith)) (h k lk))
-    (rw (getD-set-same ws m v 0 l) b)
 
 -- y has the image's bit k in place i
 pub bit-put : (k t y image : ℕ) (ws : List ℕ) (i : ℕ) → bit i y ≡ bit k image → bit i (bitOr (getD ws k 0) (bitAnd t y)) ≡ bit k (bitOr (column i ws) (bit i t * image))

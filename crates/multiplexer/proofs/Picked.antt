@@ -7,30 +7,19 @@ use native.Mathlib.Nat.{mul-zero, mul-one, mul-comm, mul-add, mul-assoc, pow-suc
 use native.Mathlib.Omega.{arith}
 use lib.Bits.{bitAnd}
 use lib.Dec.{eqb}
-use lib.ListN.{length, getD, set}
-use lib.Seq.{getD-set-same, getD-set-other, take-all}
+use lib.ListN.{length, getD}
+use lib.Seq.{take-all}
 use Rattle.cycle.specs.Notation.{bit}
 use Rattle.cycle.proofs.Bits.{bit-lt, bit-times, bit-and}
-use Rattle.cycle.proofs.Every.{extend}
 use Rattle.cycle.proofs.Parity.{bit-cases}
 use Rattle.tsc.specs.Constants.{mostWords, widestWidth}
 use Rattle.tsc.specs.Columns.{column}
 use Rattle.tsc.proofs.Columns.{column-lt}
 use Rattle.words.specs.Masks.{HasBits}
-use Rattle.words.proofs.Words.{wordsFrom, words-none, words-next}
+use Rattle.words.proofs.Words.{wordsFrom, words-none, words-next, Below}
 use Rattle.columns.specs.declared.power.Powers.{Powers}
 use Rattle.columns.specs.Replace.{imageOf}
 use Rattle.multiplexer.specs.Leaves.{leafCount, HasLeaves, PickedAt, HasPicked}
-
--- ---- words filled in one by one
-
--- P j of word j of t, for the first n words
-abbrev pub Below : (ℕ → ℕ → Type 0) → ℕ → List ℕ → Type 0
-Below P n t = (j : ℕ) → j < n → P j (getD t j 0)
-
-pub below-next : (P : ℕ → ℕ → Type 0) (n v : ℕ) (t : List ℕ) → n < length t → Below P n t → P n v → Below P (n + 1) (set t n v)
-below-next P n v t l h b =
-    extend (λ j. P j (getD (set t n v) j 0)) n (λ j lj. rw (getD-set-other t n j v 0 (λ e. omega arith)) (h j lj)) (rw (getD-set-same t n v 0 l) b)
 
 -- ---- the leaves
 

@@ -26,7 +26,14 @@ use tsc::Card;
 use tsc::State;
 
 // The next state of the orbit with its word, by what a row works out once: the selector's terms, the leaves of the powers, the filter's rotations.
-fn next_in_row(card: Card, p: Powers, terms: Terms, leaves: [u32; LEAVES], turns: Turns, s: State) -> Output
+fn next_in_row(
+    card: Card,
+    p: Powers,
+    terms: Terms,
+    leaves: [u32; LEAVES],
+    turns: Turns,
+    s: State,
+) -> Output
     requires { ⌜ Accepted card × Holds card s ⌝ }
     requires { ⌜ IsPower card (card .«odd_power») (p .odd) × IsPower card (card .«even_power») (p .even) ⌝ }
     requires { ⌜ IsTerms card terms × HasLeaves p leaves × (turns ≡ turnsOf card) ⌝ }

@@ -13,6 +13,7 @@ use lib.ListN.{length, getD}
 use lib.Pow.{pow-mono, ones-lt}
 use Rattle.cycle.specs.Notation.{bit}
 use Rattle.cycle.proofs.Bits.{bit-past, bit-ones, mod-pow-mod}
+use Rattle.tsc.specs.Constants.{widestWidth}
 use Rattle.tsc.specs.Selector.{andWords, sumWords}
 use Rattle.words.proofs.Masks.{spread-is}
 use Rattle.words.proofs.Words.{wordsFrom, words-past, words-next}
@@ -49,6 +50,10 @@ module _ (w m : ℕ) (ws : List ℕ) (few : m ≤ length ws) (k : ℕ) (pos : 0 
       (ap (λ (x : ℕ). (x + 0 % 2 ^ w) % 2 ^ w) (ap (bitAnd (getD ws (k - 1) 0)) (sub-self (2 ^ w - 1)) ∙ and-zero-r (getD ws (k - 1) 0)) ∙ add-mod-mod 0 0 (2 ^ w))
 
 -- ---- the masks
+
+-- v is the mask of word k
+abbrev pub AbsentAt : ℕ → ℕ → ℕ → Type 0
+AbsentAt m k v = v ≡ cond (ltb k m) 0 (2 ^ widestWidth - 1)
 
 -- word k's mask: the complement of bit k of 2^m - 1, spread
 pub absent-mask : (w m k r : ℕ) → r < 2 ^ w → ((i : ℕ) → i < w → bit i r ≡ bit k (2 ^ m - 1)) → (2 ^ w - 1) - r ≡ cond (ltb k m) 0 (2 ^ w - 1)

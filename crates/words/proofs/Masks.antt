@@ -1,15 +1,15 @@
 -- What the functions on masks do in each place.
-use mathlib.Core.Path.{_≡_, refl, sym, ap, ap₂, _∙_}
+use mathlib.Core.Path.{_≡_, refl, sym, ap, _∙_}
 use mathlib.Core.Bool.{Bool, true, false, cond}
-use Prim.Native.Nat.{ℕ, suc, _-_, _*_, _^_, _<_, max}
+use Prim.Native.Nat.{ℕ, suc, _+_, _-_, _*_, _%_, _^_, _<_}
 use native.Mathlib.Nat.{zero-mul, one-mul, mul-one, mul-le-mul-right, le-of-suc-le-suc, pow-suc}
 use native.Mathlib.Decide.{ℕ-discrete}
 use native.Mathlib.Omega.{arith}
-use lib.Bits.{bitAnd, bitOr}
+use lib.Bits.{bitAnd, bitXor}
 use lib.Dec.{eqb}
 use lib.Pow.{pow-pos, pow-mono, ones-lt}
 use Rattle.cycle.specs.Notation.{bit}
-use Rattle.cycle.proofs.Bits.{bit-lt, bit-and, bit-or, bit-not, bit-times, bit-ones, bit-elsewhere, bits-ext}
+use Rattle.cycle.proofs.Bits.{bit-lt, bit-and, bit-xor, bit-times, bit-ones, bit-elsewhere, bits-ext}
 use Rattle.cycle.proofs.Parity.{bit-cases}
 
 -- a bit in every place
@@ -22,11 +22,11 @@ spread-is w b r l lr h = bits-ext w r (b * (2 ^ w - 1)) lr (bit-cases (λ b. b *
     (λ i li. h i li ∙ sym (bit-spread w b i l li))
 
 -- a choice, by a mask and its complement
-pub bit-join : (w x f g i : ℕ) → x < 2 ^ w → i < w → bit i (bitOr (bitAnd f x) (bitAnd g ((2 ^ w - 1) - x))) ≡ cond (eqb (bit i x) 1) (bit i f) (bit i g)
-bit-join w x f g i l h =
-    bit-or i (bitAnd f x) (bitAnd g ((2 ^ w - 1) - x))
-    ∙ ap₂ max (bit-and i f x) (bit-and i g ((2 ^ w - 1) - x) ∙ ap (λ (a : ℕ). bit i g * a) (bit-not w i x l h))
-    ∙ bit-cases (λ z. max (bit i f * z) (bit i g * (1 - z)) ≡ cond (eqb z 1) (bit i f) (bit i g)) (omega arith) (omega arith) (bit i x) (bit-lt i x)
+pub bit-join : (x f g i : ℕ) → bit i (bitXor g (bitAnd (bitXor f g) x)) ≡ cond (eqb (bit i x) 1) (bit i f) (bit i g)
+bit-join x f g i =
+    bit-xor i g (bitAnd (bitXor f g) x) ∙ ap (λ (a : ℕ). (bit i g + a) % 2) (bit-and i (bitXor f g) x ∙ ap (λ (a : ℕ). a * bit i x) (bit-xor i f g))
+    ∙ bit-cases (λ z. (bit i g + (bit i f + bit i g) % 2 * z) % 2 ≡ cond (eqb z 1) (bit i f) (bit i g)) (omega (arith, bit-lt i g)) (omega (arith, bit-lt i f, bit-lt i g))
+    (bit i x) (bit-lt i x)
 
 pub cond-ap : {A : Type 0} (f : A → ℕ) (b : Bool) (x y : A) → cond b (f x) (f y) ≡ f (cond b x y)
 cond-ap f true x y = refl

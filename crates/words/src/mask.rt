@@ -23,9 +23,10 @@ pub fn spread(x: u32, k: u32) -> u32
     bit_of(x, k) * 0xffff_ffff
 }
 
-// In each place f where x has a 1, and g where it has a 0: joined by the mask x and its complement.
+// In each place f where x has a 1, and g where it has a 0: f by the mask x, g by its complement. This is (f & x) | (g & !x) in the form that is compiled
+// best.
 pub fn join(x: u32, f: u32, g: u32) -> u32
     ensures { λ r. ⌜ HasBits r (λ i. cond (eqb (bit i x) 1) (bit i f) (bit i g)) ⌝ }
 {
-    (f & x) | (g & !x)
+    g ^ ((f ^ g) & x)
 }

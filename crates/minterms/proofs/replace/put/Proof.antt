@@ -10,8 +10,10 @@ use Rattle.cycle.specs.Notation.{bit}
 use Rattle.tsc.specs.declared.State.{State}
 use Rattle.tsc.specs.Constants.{mostWords}
 use Rattle.tsc.specs.Columns.{column}
+use Rattle.words.specs.Masks.{HasBits}
 use Rattle.columns.specs.Replace.{HasColumns}
-use Rattle.minterms.proofs.Parted.{columns-next, bit-put}
+use Rattle.words.proofs.Words.{below-next}
+use Rattle.minterms.proofs.Parted.{bit-put}
 use Rattle.words.proofs.Masks.{cond-ap}
 use Rattle.minterms.proofs.replace.put.Statement.{statement}
 use Rattle.minterms.proofs.replace.put.Tie as tie
@@ -69,7 +71,7 @@ loop-again c =
       omega arith,
       l .inv .1,
       simp length-set (l .inv .2),
-      columns-next (l .k) _ (l .out .words) (column-put (a .t1) (a .t) (a .selector) (a .odd) (a .even)) (omega arith) (l .inv .3) (λ i h.
+      below-next (λ k v. HasBits v (λ i. bit k (column-put (a .t1) (a .t) (a .selector) (a .odd) (a .even) i))) (l .k) _ (l .out .words) (omega arith) (l .inv .3) (λ i h.
           let selected = eqb (bit i (a .selector)) 1 in
           bit-put (l .k) (a .t) (c .join .result) (cond selected (a .odd) (a .even)) (a .t1 .words) i
           (c .join .ensures i h ∙ ap₂ (cond selected) (c .before .before .before .spread .ensures i h) (c .before .before .spread2 .ensures i h)

@@ -5,7 +5,8 @@ use lib.ListN.{length, length-set}
 use Rattle.cycle.specs.Notation.{bit}
 use Rattle.tsc.specs.Constants.{mostWords}
 use Rattle.multiplexer.specs.Leaves.{leafCount}
-use Rattle.multiplexer.proofs.Picked.{Below, below-next, LeafAt, leaves-all}
+use Rattle.words.proofs.Words.{Below, below-next}
+use Rattle.multiplexer.proofs.Picked.{LeafAt, leaves-all}
 use Rattle.multiplexer.proofs.leaves.leaves_of.Statement.{statement}
 use Rattle.multiplexer.proofs.leaves.leaves_of.Tie as tie
 

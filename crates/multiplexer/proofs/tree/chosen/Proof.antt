@@ -5,7 +5,8 @@ use borrow.Author.Needs.{needs}
 use lib.ListN.{length, length-set}
 use Rattle.cycle.specs.Notation.{bit}
 use Rattle.multiplexer.specs.Leaves.{leafCount, PickedAt}
-use Rattle.multiplexer.proofs.Picked.{Below, below-next, picked-chosen}
+use Rattle.words.proofs.Words.{Below, below-next}
+use Rattle.multiplexer.proofs.Picked.{picked-chosen}
 use Rattle.multiplexer.proofs.tree.chosen.Statement.{statement}
 use Rattle.multiplexer.proofs.tree.chosen.Tie as tie
 

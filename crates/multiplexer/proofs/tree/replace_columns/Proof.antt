@@ -5,7 +5,8 @@ use borrow.Author.Needs.{needs}
 use lib.ListN.{length, getD, length-set}
 use Rattle.cycle.specs.Notation.{bit}
 use Rattle.tsc.specs.Constants.{mostWords}
-use Rattle.multiplexer.proofs.Picked.{Below, below-next, picked-chosen, KeptAt, kept-and, kept-all}
+use Rattle.words.proofs.Words.{Below, below-next}
+use Rattle.multiplexer.proofs.Picked.{picked-chosen, KeptAt, kept-and, kept-all}
 use Rattle.multiplexer.proofs.tree.replace_columns.Statement.{statement}
 use Rattle.multiplexer.proofs.tree.replace_columns.Tie as tie
 

@@ -1,21 +1,18 @@
 use mathlib.Core.Path.{_≡_, ap, _∙_}
-use mathlib.Core.Bool.{cond}
 use Prim.Native.Nat.{ℕ, _-_, _*_, _%_, _^_, _<_, _≤_}
 use native.Mathlib.Omega.{arith}
-use lib.Dec.{ltb}
-use lib.ListN.{length, getD, set, length-set}
+use lib.ListN.{length, length-set}
 use lib.Pow.{pow-pos, pow-mono}
-use lib.Seq.{getD-set-same, getD-set-other}
 use Rattle.cycle.specs.Notation.{bit}
-use Rattle.cycle.proofs.Every.{extend}
-use Rattle.tsc.specs.Constants.{mostWords, widestWidth}
-use Rattle.selectors.proofs.Masked.{absent-mask}
+use Rattle.tsc.specs.Constants.{mostWords}
+use Rattle.words.proofs.Words.{Below, below-next}
+use Rattle.selectors.proofs.Masked.{AbsentAt, absent-mask}
 use Rattle.selectors.proofs.selector.absent_words.Statement.{statement}
 use Rattle.selectors.proofs.selector.absent_words.Tie as tie
 
 abbrev Inv-loop : tie.InvT-loop
 Inv-loop m present absent₀ k₀ absent k =
-    (k ≤ mostWords) × (length absent ≡ mostWords) × ((j : ℕ) → j < k → getD absent j 0 ≡ cond (ltb j m) 0 (2 ^ widestWidth - 1))
+    (k ≤ mostWords) × (length absent ≡ mostWords) × Below (AbsentAt m) k absent
 
 abbrev μ-loop : tie.MeasureT-loop
 μ-loop m present absent₀ k₀ absent k = mostWords - k
@@ -59,13 +56,8 @@ loop-again c =
     let s = c .before .before .before in
     let m = s .args .m in
     let l = c .before .before .loop in
-    let mask = (2 ^ widestWidth - 1) - c .spread .result in
-    let made = absent-mask 32 m (l .k) (c .spread .result) (omega arith) (λ i h. c .spread .ensures i h ∙ ap (bit (l .k)) (present s .1)) in (
-      omega arith,
-      simp length-set (l .inv .1),
-      extend (λ j. getD (set (l .absent) (l .k) mask) j 0 ≡ cond (ltb j m) 0 (2 ^ widestWidth - 1)) (l .k)
-          (λ j h. getD-set-other (l .absent) (l .k) j mask 0 (λ e. omega arith) ∙ l .inv .2 j h) (getD-set-same (l .absent) (l .k) mask 0 (omega arith) ∙ made),
-    )
+    let made = absent-mask 32 m (l .k) (c .spread .result) (omega arith) (λ i h. c .spread .ensures i h ∙ ap (bit (l .k)) (present s .1)) in
+    (omega arith, simp length-set (l .inv .1), below-next (AbsentAt m) (l .k) _ (l .absent) (omega arith) (l .inv .2) made)
 
 returns : tie.Need-returns Inv-loop μ-loop
 returns c k h = c .before .loop .inv .2 k (omega arith)
