@@ -16,7 +16,7 @@ STEP = "stepping::step::next_state"
 LOOPED = ["tiedraw_fill", "tiedraw_step_back"]
 OUTSIDE = ["memcpy", "memset"]
 # The one branch let pass: the word asks the card, never the state, which of two filters it has.
-FILTER = ("filters::filter::word_by", "cmpb $0x2,")
+FILTER = ("filters::filter::word_by", ("cmp $0x2,", "cmpb $0x2,"))
 
 NAME = re.compile(r"[0-9a-f]+ <(.*)>:$")
 INSTRUCTION = re.compile(r" *([0-9a-f]+):\t([^#]*)")
@@ -155,8 +155,8 @@ def plain_faults(ways, place):
 
 def lets_pass(name, ways, place):
     """Whether this is the branch on the card's filter."""
-    function, comparison = FILTER
-    compared = [ways.at[before].text.startswith(comparison) for before in ways.before[place]]
+    function, comparisons = FILTER
+    compared = [ways.at[before].text.startswith(comparisons) for before in ways.before[place]]
     return name == function and compared == [True]
 
 

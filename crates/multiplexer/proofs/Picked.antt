@@ -7,7 +7,7 @@ use native.Mathlib.Nat.{mul-zero, mul-one, mul-comm, mul-add, mul-assoc, pow-suc
 use native.Mathlib.Omega.{arith}
 use lib.Bits.{bitAnd}
 use lib.Dec.{eqb}
-use lib.ListN.{length, getD}
+use lib.ListN.{length, getD, set, length-set}
 use lib.Seq.{take-all}
 use Rattle.cycle.specs.Notation.{bit}
 use Rattle.cycle.proofs.Bits.{bit-lt, bit-times, bit-and}
@@ -16,25 +16,47 @@ use Rattle.tsc.specs.Constants.{mostWords, widestWidth}
 use Rattle.tsc.specs.Columns.{column}
 use Rattle.tsc.proofs.Columns.{column-lt}
 use Rattle.words.specs.Masks.{HasBits}
-use Rattle.words.proofs.Words.{wordsFrom, words-none, words-next, Below}
+use Rattle.words.proofs.Words.{wordsFrom, words-none, words-next, Below, below-next}
 use Rattle.columns.specs.declared.power.Powers.{Powers}
 use Rattle.columns.specs.Replace.{imageOf}
-use Rattle.multiplexer.specs.Leaves.{leafCount, HasLeaves, PickedAt, HasPicked}
+use Rattle.multiplexer.specs.Leaves.{leafCount, HasImages, HasLeaves, PickedAt, HasPicked}
+
+-- ---- the images
+
+-- v is image number e
+abbrev pub ImageAt : Powers → ℕ → ℕ → Type 0
+ImageAt p e v = v ≡ imageOf p (e % 2) (e / 2)
+
+-- both images of entry c put in
+pub images-next : (p : Powers) (c : ℕ) (t : List ℕ) → 2 * c + 1 < length t → Below (ImageAt p) (2 * c) t
+    → Below (ImageAt p) (2 * (c + 1)) (set (set t (2 * c) (getD (p .even) c 0)) (2 * c + 1) (getD (p .odd) c 0))
+images-next p c t l h =
+    let next : 2 * c + 1 + 1 ≡ 2 * (c + 1) = omega arith in
+    let half : 2 * c / 2 ≡ c = omega arith in
+    let low : 2 * c % 2 ≡ 0 = omega arith in
+    let half' : (2 * c + 1) / 2 ≡ c = omega arith in
+    let high : (2 * c + 1) % 2 ≡ 1 = omega arith in
+    let even : ImageAt p (2 * c) (getD (p .even) c 0) = rw (half, low) refl in
+    let odd : ImageAt p (2 * c + 1) (getD (p .odd) c 0) = rw (half', high) refl in
+    subst (λ (n : ℕ). Below (ImageAt p) n (set (set t (2 * c) (getD (p .even) c 0)) (2 * c + 1) (getD (p .odd) c 0))) next
+    (below-next (ImageAt p) (2 * c + 1) (getD (p .odd) c 0) (set t (2 * c) (getD (p .even) c 0)) (rw (length-set t (2 * c) (getD (p .even) c 0)) l)
+    (below-next (ImageAt p) (2 * c) (getD (p .even) c 0) t (omega arith) h even) odd)
 
 -- ---- the leaves
 
--- v has bit j % m of image number j / m in every place
-abbrev pub LeafAt : Powers → ℕ → ℕ → Type 0
-LeafAt p j v = HasBits v (λ i. bit (j % mostWords) (imageOf p (j / mostWords % 2) (j / mostWords / 2)))
+-- v has bit j % m of word j / m of t in every place
+abbrev pub LeafAt : List ℕ → ℕ → ℕ → Type 0
+LeafAt t j v = HasBits v (λ i. bit (j % mostWords) (getD t (j / mostWords) 0))
 
-pub leaves-all : (p : Powers) (t : List ℕ) → Below (LeafAt p) leafCount t → HasLeaves p t
-leaves-all p t h s c k ls lc lk i l =
+pub leaves-all : (p : Powers) (images t : List ℕ) → HasImages p images → Below (LeafAt images) leafCount t → HasLeaves p t
+leaves-all p images t e h s c k ls lc lk i l =
     let j : ℕ = k + mostWords * (s + 2 * c) in
     let place : j % mostWords ≡ k = omega arith in
     let number : j / mostWords ≡ s + 2 * c = omega arith in
     let low : (s + 2 * c) % 2 ≡ s = omega arith in
     let high : (s + 2 * c) / 2 ≡ c = omega arith in
-    h j (omega arith) i l ∙ ap₂ (λ (b e : ℕ). bit b (imageOf p (e % 2) (e / 2))) place number ∙ ap₂ (λ (b d : ℕ). bit k (imageOf p b d)) low high
+    h j (omega arith) i l ∙ ap₂ (λ (b e : ℕ). bit b (getD images e 0)) place number
+    ∙ ap (bit k) (e (s + 2 * c) (omega arith) ∙ ap₂ (imageOf p) low high)
 
 -- ---- rows picked
 

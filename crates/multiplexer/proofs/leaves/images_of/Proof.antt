@@ -1,0 +1,90 @@
+use mathlib.Core.Path.{_≡_, refl}
+use Prim.Native.Nat.{ℕ, _*_, _-_, _^_, _≤_}
+use native.Mathlib.Omega.{arith}
+use borrow.Author.Needs.{needs}
+use lib.ListN.{length, length-set}
+use Rattle.tsc.specs.Constants.{mostWords}
+use Rattle.words.proofs.Words.{Below}
+use Rattle.multiplexer.proofs.Picked.{ImageAt, images-next}
+use Rattle.multiplexer.proofs.leaves.images_of.Statement.{statement}
+use Rattle.multiplexer.proofs.leaves.images_of.Tie as tie
+
+abbrev Inv-loop : tie.InvT-loop
+Inv-loop p out₀ c₀ out c = (c ≤ 2 ^ mostWords) × (length out ≡ 2 * 2 ^ mostWords) × Below (ImageAt p) (2 * c) out
+
+abbrev μ-loop : tie.MeasureT-loop
+μ-loop p out₀ c₀ out c = 2 ^ mostWords - c
+
+loop-holds : tie.Need-loop-holds Inv-loop μ-loop
+loop-holds c = (omega arith, refl, λ j l. absurd (omega arith))
+
+element-copy-out-out : tie.Need-element-copy-out-out Inv-loop μ-loop
+element-copy-out-out c = omega arith
+
+cast-out : tie.Need-cast-out Inv-loop μ-loop
+cast-out c = search needs
+
+mul-out : tie.Need-mul-out Inv-loop μ-loop
+mul-out c = omega arith
+
+mul-out-2 : tie.Need-mul-out-2 Inv-loop μ-loop
+mul-out-2 c = omega arith
+
+array-write-out : tie.Need-array-write-out Inv-loop μ-loop
+array-write-out c = omega arith
+
+element-copy-out-out-2 : tie.Need-element-copy-out-out-2 Inv-loop μ-loop
+element-copy-out-out-2 c = omega arith
+
+cast-out-2 : tie.Need-cast-out-2 Inv-loop μ-loop
+cast-out-2 c = search needs
+
+mul-out-3 : tie.Need-mul-out-3 Inv-loop μ-loop
+mul-out-3 c = omega arith
+
+add-out : tie.Need-add-out Inv-loop μ-loop
+add-out c = omega arith
+
+mul-out-4 : tie.Need-mul-out-4 Inv-loop μ-loop
+mul-out-4 c = omega arith
+
+array-write-out-2 : tie.Need-array-write-out-2 Inv-loop μ-loop
+array-write-out-2 c = omega arith
+
+add-c : tie.Need-add-c Inv-loop μ-loop
+add-c c = omega arith
+
+loop-less : tie.Need-loop-less Inv-loop μ-loop
+loop-less c = omega arith
+
+loop-again : tie.Need-loop-again Inv-loop μ-loop
+loop-again c =
+    let p = c .before .before .before .before .args .t1 in
+    let l = c .before .before .before .loop in
+    (omega arith, simp (length-set, length-set) (l .inv .1), images-next p (l .c) (l .out) (omega arith) (l .inv .2))
+
+returns : tie.Need-returns Inv-loop μ-loop
+returns c e h = c .before .loop .inv .2 e (omega arith)
+
+pub images-of-spec : {M : Type 1} → statement M
+images-of-spec =
+    tie.close
+    (tie.spec
+    Inv-loop
+    μ-loop
+    loop-holds
+    element-copy-out-out
+    cast-out
+    mul-out
+    mul-out-2
+    array-write-out
+    element-copy-out-out-2
+    cast-out-2
+    mul-out-3
+    add-out
+    mul-out-4
+    array-write-out-2
+    add-c
+    loop-less
+    loop-again
+    returns)
