@@ -4,7 +4,8 @@
 
 A loop end is a conditional jump of which one way stays in the innermost loop around it and the other leaves that loop; a
 loop has one. That it goes backward is not enough: compilers put the end of a branch before its start. Held to this are
-one step as a whole, the loops of many steps and of the step back, and whatever these call.
+one step as a whole, which step, draw and pick must call, the loops of many steps and of the step back, and whatever these
+call.
 """
 
 import collections
@@ -13,6 +14,7 @@ import subprocess
 import sys
 
 STEP = "stepping::step::next_state"
+CALLERS = ["tiedraw_step", "tiedraw_draw", "tiedraw_pick"]
 LOOPED = ["tiedraw_fill", "tiedraw_step_back"]
 OUTSIDE = ["memcpy", "memset"]
 # The one branch let pass: the word asks the card, never the state, which of two filters it has.
@@ -206,6 +208,10 @@ class Check:
         ways = Ways(self.body(name))
         self.hold(name, ways, ways.reached, loops_in(ways, ways.reached), "all of it")
 
+    def calls_step(self, name):
+        """Whether a function calls the step: it has no step of its own then."""
+        return any(instruction.calls() and instruction.callee() == STEP for instruction in self.body(name))
+
     def hold_loops(self, name):
         ways = Ways(self.body(name))
         loops = loops_in(ways, ways.reached)
@@ -219,6 +225,9 @@ def main(archive):
     try:
         check = Check(disassembled(archive))
         check.hold_function(STEP)
+        for name in CALLERS:
+            if not check.calls_step(name):
+                raise Unexpected(f"{name}: does not call {STEP}")
         for name in LOOPED:
             check.hold_loops(name)
     except (Unexpected, OSError, subprocess.CalledProcessError) as error:
