@@ -28,7 +28,7 @@ use Rattle.columns.specs.Replace.{IsPower, imageOf}
 abbrev pub stands : Card → ℕ → ℕ
 stands card j = iterate (entry card) j 0
 
-pub stands-lt : (card : Card) → WellFormed card → (j : ℕ) → stands card j < 2 ^ card .words
+stands-lt : (card : Card) → WellFormed card → (j : ℕ) → stands card j < 2 ^ card .words
 stands-lt card wf j = iterate-below (2 ^ card .words) (entry card) (wf .entries) j 0 (pow-pos (card .words))
 
 pub stands-few : (card : Card) → WellFormed card → card .words ≤ mostWords → (j : ℕ) → stands card j < 2 ^ mostWords
@@ -45,7 +45,7 @@ pub record Filled (card : Card) (k j : ℕ) (t : List ℕ) : Type 0 where
   pub done : (i : ℕ) → i < j → getD t (stands card i) 0 ≡ iterate (entry card) k (stands card i)
   pub unused : (x : ℕ) → 2 ^ card .words ≤ x → getD t x 0 ≡ 0
 
-pub filled-none : (card : Card) (k : ℕ) → Filled card k 0 (replicate (2 ^ mostWords) 0)
+filled-none : (card : Card) (k : ℕ) → Filled card k 0 (replicate (2 ^ mostWords) 0)
 filled-none card k =
     record {
       size = length-replicate {A = ℕ} (2 ^ mostWords) 0;

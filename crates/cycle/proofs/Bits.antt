@@ -4,7 +4,7 @@ use Prim.Native.Nat.{ℕ, zero, suc, _+_, _-_, _*_, _/_, _%_, _^_, _≤_, _<_, m
 use native.Mathlib.Nat.{lt-of-lt-of-le, mod-lt, mod-eq-of-lt, zero-mul, mul-zero, one-mul, mul-assoc, mul-add, add-right-comm, add-mul-div-right, mod-add-div', pow-suc, pow-succ', zero-div, div-div-eq-div-mul, div-eq-of-lt}
 use native.Mathlib.Omega.{arith}
 use lib.Bits.{bitAnd, bitOr, bitXor, differ, and-step, or-step, xor-step, and-shr, or-shr, xor-shr, and-mask, xor-add-and}
-use lib.Pow.{pow-pos, pow-mono, shl-shr, field, mod-mod-pow, ones-split, high, ones-lt}
+use lib.Pow.{pow-pos, pow-mono, field, mod-mod-pow, ones-split, high, ones-lt}
 use Rattle.cycle.specs.Notation.{bit}
 use Rattle.cycle.proofs.Parity.{two-pos, bit-cases, bits-cases}
 use Rattle.cycle.proofs.Digits.{fromDigits-ext, fromDigits-of}
@@ -27,10 +27,7 @@ bit-times i b x l =
 pub bit-suc : (i x : ℕ) → bit (suc i) x ≡ bit i (x / 2)
 bit-suc i x = ap (λ (a : ℕ). x / a % 2) (pow-succ' 2 i) ∙ ap (λ (a : ℕ). a % 2) (sym (div-div-eq-div-mul x 2 (2 ^ i)))
 
--- a bit put into place i is there, and nowhere else
-pub bit-there : (i b : ℕ) → b < 2 → bit i (b * 2 ^ i) ≡ b
-bit-there i b l = ap (λ (a : ℕ). a % 2) (shl-shr b i) ∙ mod-eq-of-lt l
-
+-- a bit put into place i is nowhere else
 pub bit-elsewhere : (i j b : ℕ) → b < 2 → ¬ j ≡ i → bit j (b * 2 ^ i) ≡ 0
 bit-elsewhere i j b l ne = bit-times j b (2 ^ i) l ∙ ap (λ (a : ℕ). b * a) (none i j ne) ∙ mul-zero b
   where

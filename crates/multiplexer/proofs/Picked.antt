@@ -70,7 +70,7 @@ picked-chosen n j x v t h i l =
     h i l ∙ bit-cases (λ b. cond (eqb b 1) (at (n + j)) (at j) ≡ at (j + n * b)) lower upper (bit i x) (bit-lt i x)
 
 -- of a row that f picks, the half that the bits of x pick
-pub picked-half : (n j x : ℕ) (t r : List ℕ) (f : ℕ → ℕ) → j < n → HasPicked (2 * n) t f r → (i : ℕ) → i < widestWidth
+picked-half : (n j x : ℕ) (t r : List ℕ) (f : ℕ → ℕ) → j < n → HasPicked (2 * n) t f r → (i : ℕ) → i < widestWidth
     → bit i (getD r (j + n * bit i x) 0) ≡ bit i (getD t (j + n * (bit i x + 2 * f i)) 0)
 picked-half n j x t r f lj h i l = h (j + n * bit i x) in-row i l ∙ ap (λ (a : ℕ). bit i (getD t a 0)) place
   where

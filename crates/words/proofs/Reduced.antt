@@ -1,8 +1,8 @@
--- Numbers of n bits held in w bits, for every n and w.
+-- Widths, and the ones of n bits made of w ones, for every n and w.
 use mathlib.Core.Path.{_≡_, refl, sym, ap, _∙_}
-use Prim.Native.Nat.{ℕ, _+_, _/_, _%_, _-_, _^_, _<_, _≤_}
+use Prim.Native.Nat.{ℕ, _+_, _/_, _-_, _^_, _<_, _≤_}
 use native.Mathlib.Omega.{arith}
-use lib.Pow.{high, low, ones-lt, ones-split}
+use lib.Pow.{high, ones-lt, ones-split}
 use Rattle.tsc.specs.Constants.{widestWidth}
 use Rattle.words.specs.declared.arithmetic.Width.{Width}
 use Rattle.words.specs.Widths.{widthOf, IsWidth}
@@ -16,9 +16,3 @@ pub ones-shifted : (n w : ℕ) → n ≤ w → (2 ^ w - 1) / 2 ^ (w - n) ≡ 2 ^
 ones-shifted n w h =
     let e : n + (w - n) ≡ w = omega arith in
     ap (λ (m : ℕ). (2 ^ m - 1) / 2 ^ (w - n)) (sym e) ∙ ap (λ (m : ℕ). m / 2 ^ (w - n)) (ones-split n (w - n)) ∙ high (2 ^ n - 1) (w - n) (ones-lt (w - n))
-
--- w ones, reduced to n
-pub ones-reduced : (n w : ℕ) → n ≤ w → (2 ^ w - 1) % 2 ^ n ≡ 2 ^ n - 1
-ones-reduced n w h =
-    let e : (w - n) + n ≡ w = omega arith in
-    ap (λ (m : ℕ). (2 ^ m - 1) % 2 ^ n) (sym e) ∙ ap (λ (m : ℕ). m % 2 ^ n) (ones-split (w - n) n) ∙ low (2 ^ (w - n) - 1) n (ones-lt n)
