@@ -40,13 +40,8 @@ pub fn replace_columns(p: Powers, s: State, selector: u32, low: u32) -> State
     while c < TABLE_SIZE {
         let odd = p.odd[c] as u32;
         let even = p.even[c] as u32;
-        out = put(
-            out,
-            minterm::minterm_of(low, s, c as u32),
-            selector,
-            odd,
-            even,
-        );
+        let holders = minterm::minterm_of(low, s, c as u32);
+        out = put(out, holders, selector, odd, even);
         c += 1;
     }
     out
