@@ -21,8 +21,8 @@ pub struct Setup {
     /// 2^n - 1 where the selector has the term 2s, else 0
     doubled: u32,
     filter: u8,
-    /// places of the filter's turns, below n
-    turns: [u32; 5],
+    /// places of the filter's rotations, below n
+    rotations: [u32; 5],
     /// the table's even power, then its odd one
     powers: [Entries; 2],
 }
@@ -36,7 +36,7 @@ fn power(table: &[u8], k: u8) -> Entries {
 impl Setup {
     pub fn new(card: &Card) -> Setup {
         let low = mask(card.width);
-        let turns = match card.filter {
+        let rotations = match card.filter {
             1 => [9, 15, 7, 0, 0],
             _ => [11, 14, 13, 22, 12],
         };
@@ -47,7 +47,7 @@ impl Setup {
             constant: card.constant,
             doubled: low * u32::from(card.sum_term),
             filter: card.filter,
-            turns: turns.map(|places| places % u32::from(card.width)),
+            rotations: rotations.map(|places| places % u32::from(card.width)),
             powers: [card.even_power, card.odd_power].map(|k| power(&card.table, k)),
         }
     }
@@ -66,25 +66,25 @@ impl Setup {
         x.wrapping_add(y) & self.low
     }
 
-    /// Turned left within n bits, without a branch where the places are 0.
-    fn turned(&self, x: u32, places: u32) -> u32 {
+    /// Rotated left within n bits, without a branch where the places are 0.
+    fn rotated(&self, x: u32, places: u32) -> u32 {
         (x << places & self.low) | (x >> 1 >> (self.width - 1 - places))
     }
 
     fn word(&self, x: &State) -> u32 {
-        let [a, b, c, d, e] = self.turns;
+        let [a, b, c, d, e] = self.rotations;
         if self.filter == 2 {
-            let first = self.add(self.turned(x[0], a), x[1]);
-            let second = self.add(self.turned(x[0], c), x[2]);
-            let rest = self.add(self.turned(x[0], e), x[3]);
+            let first = self.add(self.rotated(x[0], a), x[1]);
+            let second = self.add(self.rotated(x[0], c), x[2]);
+            let rest = self.add(self.rotated(x[0], e), x[3]);
             return self.add(
-                self.add(self.turned(first, b), self.turned(second, d)),
+                self.add(self.rotated(first, b), self.rotated(second, d)),
                 rest,
             );
         }
-        let inner = self.add(self.turned(x[0], a), x[1]);
-        let rest = self.add(self.turned(x[2], c), x[3]);
-        self.add(self.turned(inner, b), rest)
+        let inner = self.add(self.rotated(x[0], a), x[1]);
+        let rest = self.add(self.rotated(x[2], c), x[3]);
+        self.add(self.rotated(inner, b), rest)
     }
 }
 

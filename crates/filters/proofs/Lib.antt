@@ -1,2 +1,2 @@
 -- Laws for the filters.
-pub mod Turned
+pub mod Rotated

@@ -1,2 +1,2 @@
 -- What the filters need of a card. The filters themselves are defined in crate tsc.
-pub mod Turns
+pub mod Rotations

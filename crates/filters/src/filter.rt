@@ -5,7 +5,7 @@ ghost use Prim.Native.Nat.{ℕ, _^_, _<_, _≤_};
 ghost use lib.ListN.{getD};
 ghost use Rattle.tsc.specs.Constants.{mostWords, widestWidth};
 ghost use Rattle.tsc.specs.Word.{filter1, filter2, word};
-ghost use Rattle.filters.specs.Turns.{rotations1, rotations2, placesBy, turnsOf, HasTurns};
+ghost use Rattle.filters.specs.Rotations.{rotations1, rotations2, placesBy, rotationsOf, HasRotations};
 use tsc::Card;
 use tsc::State;
 use words::arithmetic::Width;
@@ -14,7 +14,7 @@ use words::arithmetic::rotate_left;
 use words::arithmetic::width_of;
 
 // What the filter of a card needs, worked out once for all the words of a call: the width, and by how many places each rotation goes, modulo n.
-pub struct Turns {
+pub struct Rotations {
     pub width: Width,
     pub places: [u32; 5],
 }
@@ -28,29 +28,29 @@ fn places_by(n: u32, a: u32, b: u32, c: u32, d: u32, e: u32) -> [u32; 5]
 }
 
 // The rotations of a card's filter, in the order of (15) and (20).
-pub fn turns_of(card: Card) -> Turns
+pub fn rotations_of(card: Card) -> Rotations
     requires { ⌜ (0 < card .width) × (card .width ≤ widestWidth) ⌝ }
-    ensures { λ r. ⌜ r ≡ turnsOf card ⌝ }
+    ensures { λ r. ⌜ r ≡ rotationsOf card ⌝ }
 {
     let n = card.width as u32;
     let w = width_of(n);
     if card.filter != 2 {
         let p = places_by(n, 9, 15, 7, 0, 0);
-        return Turns {
+        return Rotations {
             width: w,
             places: p,
         };
     }
     let p = places_by(n, 11, 14, 13, 22, 12);
-    Turns {
+    Rotations {
         width: w,
         places: p,
     }
 }
 
 // Filter 1, document 002 (15).
-fn filter_1(t: Turns, s: State) -> u32
-    requires { ⌜ HasTurns t rotations1 ⌝ }
+fn filter_1(t: Rotations, s: State) -> u32
+    requires { ⌜ HasRotations t rotations1 ⌝ }
     requires { ⌜ ((k : ℕ) → k < mostWords → getD (s .words) k 0 < 2 ^ t .width .bits) ⌝ }
     ensures { λ r. ⌜ r ≡ filter1 (t .width .bits) (λ k. getD (s .words) k 0) ⌝ }
 {
@@ -61,8 +61,8 @@ fn filter_1(t: Turns, s: State) -> u32
 }
 
 // Filter 2, document 002 (20).
-fn filter_2(t: Turns, s: State) -> u32
-    requires { ⌜ HasTurns t rotations2 ⌝ }
+fn filter_2(t: Rotations, s: State) -> u32
+    requires { ⌜ HasRotations t rotations2 ⌝ }
     requires { ⌜ ((k : ℕ) → k < mostWords → getD (s .words) k 0 < 2 ^ t .width .bits) ⌝ }
     ensures { λ r. ⌜ r ≡ filter2 (t .width .bits) (λ k. getD (s .words) k 0) ⌝ }
 {
@@ -83,10 +83,10 @@ fn filter_2(t: Turns, s: State) -> u32
 }
 
 // The word of a state, as `word_of` gives it, by rotations that the caller has worked out.
-pub fn word_by(card: Card, t: Turns, s: State) -> u32
+pub fn word_by(card: Card, t: Rotations, s: State) -> u32
     requires { ⌜ (0 < card .width) × (card .width ≤ widestWidth) ⌝ }
     requires { ⌜ ((k : ℕ) → k < mostWords → getD (s .words) k 0 < 2 ^ card .width) ⌝ }
-    requires { ⌜ t ≡ turnsOf card ⌝ }
+    requires { ⌜ t ≡ rotationsOf card ⌝ }
     ensures { λ r. ⌜ r ≡ word card (s .words) ⌝ }
 {
     if card.filter == 2 {
@@ -101,5 +101,5 @@ pub fn word_of(card: Card, s: State) -> u32
     requires { ⌜ ((k : ℕ) → k < mostWords → getD (s .words) k 0 < 2 ^ card .width) ⌝ }
     ensures { λ r. ⌜ r ≡ word card (s .words) ⌝ }
 {
-    word_by(card, turns_of(card), s)
+    word_by(card, rotations_of(card), s)
 }

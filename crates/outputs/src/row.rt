@@ -7,7 +7,7 @@ ghost use Rattle.tsc.specs.Step.{orbit};
 ghost use Rattle.tsc.specs.Word.{orbitWords};
 ghost use Rattle.card_format.specs.Verdict.{Accepted};
 ghost use Rattle.columns.specs.Replace.{IsPower};
-ghost use Rattle.filters.specs.Turns.{turnsOf};
+ghost use Rattle.filters.specs.Rotations.{rotationsOf};
 ghost use Rattle.multiplexer.specs.Leaves.{HasLeaves};
 ghost use Rattle.selectors.specs.Terms.{IsTerms};
 ghost use Rattle.stepping.specs.State.{used, Holds, holding};
@@ -15,7 +15,7 @@ ghost use Rattle.outputs.specs.Output.{output};
 use super::next::Output;
 use columns::power::Powers;
 use filters::filter;
-use filters::filter::Turns;
+use filters::filter::Rotations;
 use multiplexer::leaves;
 use multiplexer::leaves::LEAVES;
 use multiplexer::tree;
@@ -31,19 +31,19 @@ fn next_in_row(
     p: Powers,
     terms: Terms,
     leaves: [u32; LEAVES],
-    turns: Turns,
+    rotations: Rotations,
     s: State,
 ) -> Output
     requires { ⌜ Accepted card × Holds card s ⌝ }
     requires { ⌜ IsPower card (card .«odd_power») (p .odd) × IsPower card (card .«even_power») (p .even) ⌝ }
-    requires { ⌜ IsTerms card terms × HasLeaves p leaves × (turns ≡ turnsOf card) ⌝ }
+    requires { ⌜ IsTerms card terms × HasLeaves p leaves × (rotations ≡ rotationsOf card) ⌝ }
     ensures { λ r. ⌜ r ≡ output card (used card s) ⌝ }
 {
     let select = selector::selector_by(card, terms, s);
     let after = tree::replace_columns(leaves, p, s, select, terms.width.low);
     Output {
         state: after,
-        word: filter::word_by(card, turns, after),
+        word: filter::word_by(card, rotations, after),
     }
 }
 
@@ -57,11 +57,11 @@ pub fn fill_words(card: Card, s: State, count: usize, words: &mut [u32]) -> Stat
     let p = step::forward(card);
     let terms = selector::terms_of(card);
     let leaves = leaves::leaves_of(p);
-    let turns = filter::turns_of(card);
+    let rotations = filter::rotations_of(card);
     let mut held = s;
     let mut k = 0;
     while k < count {
-        let drawn = next_in_row(card, p, terms, leaves, turns, held);
+        let drawn = next_in_row(card, p, terms, leaves, rotations, held);
         words[k] = drawn.word;
         held = drawn.state;
         k += 1;

@@ -1,15 +1,15 @@
 use mathlib.Core.Path.{_≡_, ap}
 use borrow.Author.Tests.{eq-eqb, ne-eqb}
 use Rattle.tsc.specs.Word.{word}
-use Rattle.filters.specs.declared.filter.Turns.{Turns}
-use Rattle.filters.specs.Turns.{rotations1, rotations2}
-use Rattle.filters.proofs.Turned.{chosen}
+use Rattle.filters.specs.declared.filter.Rotations.{Rotations}
+use Rattle.filters.specs.Rotations.{rotations1, rotations2}
+use Rattle.filters.proofs.Rotated.{chosen}
 use Rattle.filters.proofs.filter.word_by.Statement.{statement}
 use Rattle.filters.proofs.filter.word_by.Tie as tie
 
 -- the turns are of the card's width
 bits : (c : tie.Start) → c .args .t .width .bits ≡ c .args .card .width
-bits c = ap (λ (a : Turns). a .width .bits) (c .pre .1 .1)
+bits c = ap (λ (a : Rotations). a .width .bits) (c .pre .1 .1)
 
 filter-2-requires : tie.Need-filter-2-requires
 filter-2-requires c κs =

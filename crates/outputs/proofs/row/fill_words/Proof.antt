@@ -9,10 +9,10 @@ use Rattle.outputs.proofs.row.fill_words.Statement.{statement}
 use Rattle.outputs.proofs.row.fill_words.Tie as tie
 
 abbrev Inv-loop : tie.InvT-loop
-Inv-loop card count words₀ p terms leaves turns held₀ k₀ words held k = Written card (used card held₀) count words₀ k held words
+Inv-loop card count words₀ p terms leaves rotations held₀ k₀ words held k = Written card (used card held₀) count words₀ k held words
 
 abbrev μ-loop : tie.MeasureT-loop
-μ-loop card count words₀ p terms leaves turns held₀ k₀ words held k = count - k
+μ-loop card count words₀ p terms leaves rotations held₀ k₀ words held k = count - k
 
 -- the call, from its loop
 abbrev started : tie.At-loop Inv-loop μ-loop → tie.Start Inv-loop μ-loop
@@ -31,8 +31,8 @@ terms-of-requires c κs = let s = c .before .before in sized (s .args .card) (s 
 leaves-of-requires : tie.Need-leaves-of-requires Inv-loop μ-loop
 leaves-of-requires c κs = tt
 
-turns-of-requires : tie.Need-turns-of-requires Inv-loop μ-loop
-turns-of-requires c κs = let s = c .before .before .before .before in let z = sized (s .args .card) (s .pre .0) in (z .0, z .1)
+rotations-of-requires : tie.Need-rotations-of-requires Inv-loop μ-loop
+rotations-of-requires c κs = let s = c .before .before .before .before in let z = sized (s .args .card) (s .pre .0) in (z .0, z .1)
 
 loop-holds : tie.Need-loop-holds Inv-loop μ-loop
 loop-holds c = let s = c .before .before .before .before .before in written-none _ _ _ _ (s .pre .2) _ (s .pre .1 .1)
@@ -41,11 +41,11 @@ next-in-row-requires : tie.Need-next-in-row-requires Inv-loop μ-loop
 next-in-row-requires c κs =
     let at = c .before in
     let s = started at in
-    let turns = at .before in
-    let leaves = turns .before in
+    let rotations = at .before in
+    let leaves = rotations .before in
     let terms = leaves .before in (
       (s .pre .0, written-holds _ _ _ _ (s .pre .2) (s .pre .1 .0) _ _ _ (at .loop .inv)),
-      (terms .before .forward .ensures, (terms .terms-of .ensures, leaves .leaves-of .ensures, turns .turns-of .ensures)),
+      (terms .before .forward .ensures, (terms .terms-of .ensures, leaves .leaves-of .ensures, rotations .rotations-of .ensures)),
     )
 
 mul-words : tie.Need-mul-words Inv-loop μ-loop
@@ -86,7 +86,7 @@ fill-words-spec =
     forward-requires
     terms-of-requires
     leaves-of-requires
-    turns-of-requires
+    rotations-of-requires
     loop-holds
     next-in-row-requires
     mul-words

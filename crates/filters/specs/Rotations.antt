@@ -6,7 +6,7 @@ use Prim.Native.Nat.{ℕ, _%_}
 use lib.Dec.{eqb}
 use Rattle.tsc.specs.declared.Card.{Card}
 use Rattle.words.specs.Widths.{widthOf, IsWidth}
-use Rattle.filters.specs.declared.filter.Turns.{Turns}
+use Rattle.filters.specs.declared.filter.Rotations.{Rotations}
 
 -- document 002 (15), with three rotations
 abbrev pub rotations1 : List ℕ
@@ -19,12 +19,12 @@ rotations2 = 11 ∷ 14 ∷ 13 ∷ 22 ∷ 12 ∷ []
 abbrev pub placesBy : ℕ → List ℕ → List ℕ
 placesBy n rotations = map (λ k. k % n) rotations
 
-abbrev pub turnsBy : ℕ → List ℕ → Turns
-turnsBy n rotations = record { width = widthOf n; places = placesBy n rotations }
+abbrev pub rotationsBy : ℕ → List ℕ → Rotations
+rotationsBy n rotations = record { width = widthOf n; places = placesBy n rotations }
 
-abbrev pub turnsOf : Card → Turns
-turnsOf card = turnsBy (card .width) (cond (eqb (card .filter) 2) rotations2 rotations1)
+abbrev pub rotationsOf : Card → Rotations
+rotationsOf card = rotationsBy (card .width) (cond (eqb (card .filter) 2) rotations2 rotations1)
 
 -- t holds these rotations
-abbrev pub HasTurns : Turns → List ℕ → Type 0
-HasTurns t rotations = IsWidth (t .width) × (t .places ≡ placesBy (t .width .bits) rotations)
+abbrev pub HasRotations : Rotations → List ℕ → Type 0
+HasRotations t rotations = IsWidth (t .width) × (t .places ≡ placesBy (t .width .bits) rotations)

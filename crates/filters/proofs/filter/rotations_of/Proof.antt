@@ -4,12 +4,12 @@ use Prim.Native.Nat.{ℕ}
 use borrow.Author.Tests.{eq-eqb, ne-eqb}
 use native.Mathlib.Omega.{arith}
 use Rattle.words.specs.declared.arithmetic.Width.{Width}
-use Rattle.filters.specs.declared.filter.Turns.{Turns}
-use Rattle.filters.proofs.filter.turns_of.Statement.{statement}
-use Rattle.filters.proofs.filter.turns_of.Tie as tie
+use Rattle.filters.specs.declared.filter.Rotations.{Rotations}
+use Rattle.filters.proofs.filter.rotations_of.Statement.{statement}
+use Rattle.filters.proofs.filter.rotations_of.Tie as tie
 
 -- what is made of a width and of places
-abbrev made : Width → List ℕ → Turns
+abbrev made : Width → List ℕ → Rotations
 made w p = record { width = w; places = p }
 
 cast-n : tie.Need-cast-n
@@ -30,5 +30,5 @@ places-by-requires-2 c κs = omega arith
 returns-2 : tie.Need-returns-2
 returns-2 c = rw (eq-eqb _ _ (c .before .if1 .left)) (ap₂ made (c .before .before .before .width-of .ensures) (c .places-by2 .ensures))
 
-pub turns-of-spec : {M : Type 1} → statement M
-turns-of-spec = tie.close (tie.spec cast-n width-of-requires places-by-requires returns places-by-requires-2 returns-2)
+pub rotations-of-spec : {M : Type 1} → statement M
+rotations-of-spec = tie.close (tie.spec cast-n width-of-requires places-by-requires returns places-by-requires-2 returns-2)
