@@ -15,12 +15,11 @@ use Rattle.cycle.proofs.Bits.{bit-lt, bit-zero, bit-times, bit-and, bit-or, bit
 use Rattle.card_format.proofs.Lists.{getD-filler}
 use Rattle.tsc.specs.Columns.{column}
 use Rattle.tsc.proofs.LowWords.{bit-column}
-use Rattle.words.proofs.Words.{wordsFrom, words-next}
-use Rattle.columns.specs.declared.power.Powers.{Powers}
-use Rattle.columns.specs.Replace.{imageOf}
-use Rattle.columns.specs.Replace.{HasColumns}
 use Rattle.words.specs.Masks.{HasBits}
 use Rattle.words.proofs.Masks.{cond-ap}
+use Rattle.words.proofs.Words.{wordsFrom, words-next}
+use Rattle.columns.specs.declared.power.Powers.{Powers}
+use Rattle.columns.specs.Replace.{HasColumns, imageOf}
 
 -- ---- the mask of an entry, from the last word to the first
 
