@@ -114,7 +114,8 @@ run-test: target/program/tiedraw-inspect ## what `make run` makes of CARD and FI
 install-test: lib ## install, dist and uninstall tried in an empty folder, and the example built there by pkg-config alone
 	@bash tools/install-test.sh
 
-jumps: lib ## the step in the archive: no conditional jump but loop ends, no division
+jumps: lib ## the step in the archive: no conditional jump but loop ends, no division; and that the check would find them
+	@cd harness && python3 -m unittest --quiet test_jumps
 	@python3 harness/jumps.py target/lib/libtiedraw.a
 
 vectors: ## the second program against the papers' cases and the stored inputs and outputs

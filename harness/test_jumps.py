@@ -1,0 +1,83 @@
+"""The check of jumps tried on small archives: one that it must let pass, and such as it must find fault with."""
+
+import contextlib
+import io
+import pathlib
+import subprocess
+import tempfile
+import unittest
+
+import jumps
+
+LOOP = "mov $4,%ecx\n1: dec %ecx\njne 1b\nret"
+CALL = f'call "{jumps.STEP}"\nret'
+GOOD = {
+    jumps.STEP: "xor %eax,%eax\nret",
+    **{name: CALL for name in jumps.CALLERS},
+    **{name: LOOP for name in jumps.LOOPED},
+}
+BRANCH = "test %eax,%eax\nje 2f\ninc %eax\n2: "
+# the branch's end stands before its start, so that it jumps backward
+BACKWARD = "mov $4,%ecx\njmp 1f\n3: inc %eax\njmp 2f\n1: test %eax,%eax\njne 3b\n2: dec %ecx\njne 1b\nret"
+
+
+def archive(functions, folder):
+    """Each function in a section of its own, as the compiler lays them out."""
+    source = "".join(
+        f'.section ".text.{name}","ax",@progbits\n.type "{name}",@function\n"{name}":\n{body}\n'
+        for name, body in functions.items()
+    )
+    path = pathlib.Path(folder)
+    (path / "code.s").write_text(source)
+    subprocess.run(["gcc", "-c", "code.s"], cwd=folder, check=True)
+    subprocess.run(["ar", "rc", "code.a", "code.o"], cwd=folder, check=True)
+    return str(path / "code.a")
+
+
+def found(**changed):
+    """What the check says of the good functions with some of them changed; None where it lets them pass."""
+    functions = GOOD | {name.replace("__", "::"): body for name, body in changed.items()}
+    functions = {name: body for name, body in functions.items() if body is not None}
+    with tempfile.TemporaryDirectory() as folder, contextlib.redirect_stdout(io.StringIO()):
+        try:
+            jumps.main(archive(functions, folder))
+        except SystemExit as refused:
+            return refused.code
+    return None
+
+
+class Jumps(unittest.TestCase):
+    def test_loops_and_calls_pass(self):
+        self.assertIsNone(found())
+
+    def test_a_step_that_branches(self):
+        self.assertIn("a branch", found(stepping__step__next_state=BRANCH + "ret"))
+
+    def test_a_step_that_divides(self):
+        self.assertIn("a division", found(stepping__step__next_state="div %ecx\nret"))
+
+    def test_a_branch_in_what_the_step_calls(self):
+        other = {"stepping__step__next_state": 'call "other"\nret', "other": BRANCH + "ret"}
+        self.assertIn("a branch", found(**other))
+
+    def test_a_branch_in_a_loop(self):
+        body = f"mov $4,%ecx\n1: {BRANCH}dec %ecx\njne 1b\nret"
+        self.assertIn("a branch", found(tiedraw_fill=body))
+
+    def test_a_branch_that_jumps_backward(self):
+        self.assertIn("a branch", found(tiedraw_step_back=BACKWARD))
+
+    def test_a_loop_with_two_ends(self):
+        body = "mov $4,%ecx\n1: test %eax,%eax\nje 2f\ndec %ecx\njne 1b\n2: ret"
+        self.assertIn("a second time", found(tiedraw_fill=body))
+
+    def test_a_caller_with_a_step_of_its_own(self):
+        self.assertIn("does not call", found(tiedraw_draw="ret"))
+
+    def test_what_is_not_there(self):
+        self.assertIn("not in the archive", found(tiedraw_pick=None))
+        self.assertIn("no loop", found(tiedraw_fill="ret"))
+
+
+if __name__ == "__main__":
+    unittest.main()
