@@ -4,8 +4,9 @@
 
 A loop end is a conditional jump of which one way stays in the innermost loop around it and the other leaves that loop; a
 loop has one. That it goes backward is not enough: compilers put the end of a branch before its start. Held to this are
-one step as a whole, which step, draw and pick must call, the loops of many steps and of the step back, and whatever these
-call.
+one step as a whole, which step and draw must call, the loops of many steps and of the step back, and whatever these call.
+The loop in which a pick tries words may end at several places, and has the one division that makes a rank; it branches
+nowhere else.
 """
 
 import collections
@@ -14,9 +15,13 @@ import subprocess
 import sys
 
 STEP = "stepping::step::next_state"
-CALLERS = ["tiedraw_step", "tiedraw_draw", "tiedraw_pick"]
+CALLERS = ["tiedraw_step", "tiedraw_draw"]
 LOOPED = ["tiedraw_fill", "tiedraw_step_back"]
+# A pick asks of each word whether it decides, and divides by the number of ties.
+TRIED = "tiedraw_pick"
 OUTSIDE = ["memcpy", "memset"]
+# more masks than this are a step's
+MASKED = 20
 # The one branch let pass: the word asks the card, never the state, which of two filters it has.
 FILTER = ("filters::filter::word_by", ("cmp $0x2,", "cmpb $0x2,"))
 
@@ -212,6 +217,22 @@ class Check:
         """Whether a function calls the step: it has no step of its own then."""
         return any(instruction.calls() and instruction.callee() == STEP for instruction in self.body(name))
 
+    def hold_tries(self, name):
+        """Holds the loop of a function in which whole words are masked, that is, in which steps are made."""
+        ways = Ways(self.body(name))
+        masked = lambda loop: sum(ways.at[place].kind in ("pand", "pandn") for place in loop) > MASKED
+        loops = [loop for loop in loops_in(ways, ways.reached) if masked(loop)]
+        if len(loops) != 1:
+            raise Unexpected(f"{name}: {len(loops)} loops with steps")
+        jumps = [place for place in sorted(loops[0]) if ways.at[place].conditional()]
+        inside = [place for place in jumps if not ways.after[place] - loops[0]]
+        divisions = sum("div" in ways.at[place].kind for place in loops[0])
+        told = f"{len(loops[0])} instructions, ends {len(jumps) - len(inside)}, divisions {divisions}"
+        wrong = bool(inside) or divisions > 1
+        print(f"{name}, loop {min(loops[0]):x} to {max(loops[0]):x}: {told}, {'FAULTS' if wrong else 'held'}", flush=True)
+        self.faults += [f"{name}, {place:x}: {ways.at[place].text}: a branch" for place in inside]
+        self.faults += [f"{name}: {divisions} divisions in its loop"] if divisions > 1 else []
+
     def hold_loops(self, name):
         ways = Ways(self.body(name))
         loops = loops_in(ways, ways.reached)
@@ -230,6 +251,7 @@ def main(archive):
                 raise Unexpected(f"{name}: does not call {STEP}")
         for name in LOOPED:
             check.hold_loops(name)
+        check.hold_tries(TRIED)
     except (Unexpected, OSError, subprocess.CalledProcessError) as error:
         sys.exit(f"jumps: {error}")
     if check.faults:

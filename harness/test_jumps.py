@@ -11,10 +11,14 @@ import jumps
 
 LOOP = "mov $4,%ecx\n1: dec %ecx\njne 1b\nret"
 CALL = f'call "{jumps.STEP}"\nret'
+# words tried: masks, a division, and an end in the middle
+MASKS = "pand %xmm0,%xmm1\n" * (jumps.MASKED + 1)
+TRIES = f"1: {MASKS}test %eax,%eax\nje 2f\ndiv %ecx\ndec %ecx\njne 1b\n2: ret"
 GOOD = {
     jumps.STEP: "xor %eax,%eax\nret",
     **{name: CALL for name in jumps.CALLERS},
     **{name: LOOP for name in jumps.LOOPED},
+    jumps.TRIED: TRIES,
 }
 BRANCH = "test %eax,%eax\nje 2f\ninc %eax\n2: "
 # the branch's end stands before its start, so that it jumps backward
@@ -74,8 +78,15 @@ class Jumps(unittest.TestCase):
     def test_a_caller_with_a_step_of_its_own(self):
         self.assertIn("does not call", found(tiedraw_draw="ret"))
 
+    def test_a_pick_that_branches_between_words(self):
+        self.assertIn("a branch", found(tiedraw_pick=f"1: {MASKS}test %eax,%eax\nje 2f\ninc %eax\n2: dec %ecx\njne 1b\nret"))
+
+    def test_a_pick_that_divides_more_than_once(self):
+        self.assertIn("2 divisions", found(tiedraw_pick=f"1: {MASKS}div %ecx\ndiv %ecx\ndec %ecx\njne 1b\nret"))
+
     def test_what_is_not_there(self):
         self.assertIn("not in the archive", found(tiedraw_pick=None))
+        self.assertIn("0 loops with steps", found(tiedraw_pick=LOOP))
         self.assertIn("no loop", found(tiedraw_fill="ret"))
 
 

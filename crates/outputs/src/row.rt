@@ -16,6 +16,7 @@ use super::next::Output;
 use columns::power::Powers;
 use filters::filter;
 use filters::filter::Rotations;
+use minterms::replace;
 use multiplexer::leaves;
 use multiplexer::leaves::LEAVES;
 use multiplexer::tree;
@@ -25,7 +26,23 @@ use stepping::step;
 use tsc::Card;
 use tsc::State;
 
-// The next state of the orbit with its word, by what a row works out once: the selector's terms, the leaves of the powers, the filter's rotations.
+// The next state of the orbit with its word, by what a call works out once: the selector's terms and the filter's rotations. For a call of few words, as the
+// rank of a pick, which has an accepted card.
+pub fn next_of_few(card: Card, p: Powers, terms: Terms, rotations: Rotations, s: State) -> Output
+    requires { ⌜ Accepted card × Holds card s ⌝ }
+    requires { ⌜ IsPower card (card .«odd_power») (p .odd) × IsPower card (card .«even_power») (p .even) ⌝ }
+    requires { ⌜ IsTerms card terms × (rotations ≡ rotationsOf card) ⌝ }
+    ensures { λ r. ⌜ r ≡ output card (used card s) ⌝ }
+{
+    let select = selector::selector_by(card, terms, s);
+    let after = replace::replace_columns(p, s, select, terms.width.low);
+    Output {
+        state: after,
+        word: filter::word_by(card, rotations, after),
+    }
+}
+
+// The same for the many words of a row, by the leaves of the powers too.
 fn next_in_row(
     card: Card,
     p: Powers,

@@ -10,7 +10,9 @@ ghost use Rattle.stepping.specs.State.{used, Holds};
 ghost use Rattle.samples.specs.Samples.{mostTaken};
 ghost use Rattle.sample.specs.Drawn.{sample};
 use super::many;
-use outputs::next;
+use filters::filter;
+use outputs::row;
+use selectors::selector;
 use stepping::step;
 use tsc::Card;
 use tsc::State;
@@ -58,10 +60,12 @@ pub fn draw_rank(card: Card, s: State, k: u32) -> Sample
         };
     }
     let p = step::forward(card);
+    let terms = selector::terms_of(card);
+    let rotations = filter::rotations_of(card);
     let mut held = s;
     let mut taken: u8 = 0;
     loop {
-        let drawn = next::next_output(card, p, held);
+        let drawn = row::next_of_few(card, p, terms, rotations, held);
         held = drawn.state;
         taken += 1;
         if decides(card.width as u32, drawn.word, k, taken) {
