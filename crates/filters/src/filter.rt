@@ -82,7 +82,7 @@ fn filter_2(t: Rotations, s: State) -> u32
     )
 }
 
-// The word of a state, as `word_of` gives it, by rotations that the caller has worked out.
+// The word of a state, as `word_of` gives it, by rotations that callers have from `rotations_of`.
 pub fn word_by(card: Card, t: Rotations, s: State) -> u32
     requires { ⌜ (0 < card .width) × (card .width ≤ widestWidth) ⌝ }
     requires { ⌜ ((k : ℕ) → k < mostWords → getD (s .words) k 0 < 2 ^ card .width) ⌝ }

@@ -1,4 +1,4 @@
-// The minterm of an entry: the columns that hold it, as a mask.
+// The minterm of an entry: the columns that hold it, as a mask. Callers go through the entries of a table.
 ghost use Prim.Native.Nat.{_*_, _^_, _<_};
 ghost use lib.Dec.{eqb};
 ghost use Rattle.cycle.specs.Notation.{one, bit};

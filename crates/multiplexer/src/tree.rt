@@ -41,7 +41,7 @@ fn looked_up(leaves: [u32; LEAVES], s: State) -> [u32; LEAVES]
     f
 }
 
-// The columns in `low`, each put through the power that its selector bit picks.
+// The columns in `low`, each put through the power that its selector bit picks. Callers have the leaves of these powers from `leaves_of`.
 pub fn replace_columns(leaves: [u32; LEAVES], p: Powers, s: State, selector: u32, low: u32) -> State
     requires { ⌜ HasLeaves p leaves ⌝ }
     ensures { λ r. ⌜ HasColumns mostWords (r .words) (λ i. bit i low * imageOf p (bit i selector) (column i (s .words))) ⌝ }

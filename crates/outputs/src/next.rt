@@ -1,4 +1,4 @@
-// A step of a state by value, with its word. Draw, pick and fill call it once nothing is refused.
+// A step of a state by value, with its word. The draw calls it once nothing is refused.
 ghost use mathlib.Core.Path.{_≡_};
 ghost use Rattle.card_format.specs.Verdict.{Accepted};
 ghost use Rattle.columns.specs.Replace.{IsPower};

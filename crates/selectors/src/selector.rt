@@ -84,7 +84,7 @@ fn sum_words(t: Terms, s: State) -> u32
     sum
 }
 
-// The selector of the state's first m words, by the card's terms.
+// The selector of the state's first m words, by the card's terms, which callers have from `terms_of`.
 pub fn selector_by(card: Card, t: Terms, s: State) -> u32
     requires { ⌜ (0 < card .width) × (card .width ≤ widestWidth) × (card .words ≤ mostWords) × IsTerms card t ⌝ }
     ensures { λ r. ⌜ r ≡ selector card (take (card .words) (s .words)) ⌝ }

@@ -1,4 +1,4 @@
-// Words by their bits: one bit, the same bit in every place, and a choice in each place. Nothing here branches.
+// Words by their bits: one bit, the same bit in every place, and a choice in each place. Nothing here branches. Callers name places of a word.
 ghost use mathlib.Core.Path.{_≡_};
 ghost use mathlib.Core.Bool.{cond};
 ghost use Prim.Native.Nat.{_<_};
