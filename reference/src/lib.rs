@@ -7,6 +7,7 @@
 
 pub mod cases;
 pub mod fill;
+pub mod margin;
 pub mod pick;
 pub mod replay;
 
