@@ -13,10 +13,12 @@
 //! | `words CARD STATE COUNT` | `words w,.. state w,..` |
 //! | `strip CARD STATE STRIP PLACE COUNT` | `strip w,.. state w,..`, the whole strip |
 //! | `pick CARD STATE SHOVELS TIMES` | `shovel S ties K taken T state w,..` |
+//! | `margin CARD STATE SHOVELS TIMES` | `change S lowered D shovel X ties K taken T`, or `raised` |
 //! | `write m n T a b C filter sum PAGELEN` | `length L page HEX` |
 //!
 //! All but `check` may answer `refused V` instead, with ` CHANGED` behind it if the lent state,
-//! strip or page isn't as it was. A page is lent with every byte a5 and shown whole.
+//! strip or page isn't as it was. A page is lent with every byte a5 and shown whole. A margin is
+//! lent the state to read only; S is the shovel whose time is changed by D, X that of the pick.
 //!
 //! CARD is pairs of hex digits, at most 600 of them. Lists have commas: STATE and STRIP are words
 //! of 32 bits in hex; SHOVELS, TIMES and T decimal numbers of 16, of 32 and of 8 bits. A list has
@@ -26,6 +28,7 @@
 //! digits may have either case, numbers leading zeros.
 
 use crate::fill::call_fill;
+use crate::margin::call_margin;
 use crate::pick::{call_pick, Picked};
 use crate::{
     accept_call, call_draw, call_step, call_step_back, call_write, check, read, Card, TABLE_ENTRIES,
@@ -81,12 +84,8 @@ fn replay(line: &[u8]) -> Option<String> {
             number::<u32>(place, 10)? as usize,
             number::<u32>(count, 10)? as usize,
         ),
-        [b"pick", c, s, shovels, times] => pick_answer(
-            &card(c)?,
-            &state(s)?,
-            &list(shovels, 10, MOST_LISTED)?,
-            &list(times, 10, MOST_LISTED)?,
-        ),
+        [b"pick", c, s, shovels, times] => on_lists(pick_answer, c, s, shovels, times)?,
+        [b"margin", c, s, shovels, times] => on_lists(margin_answer, c, s, shovels, times)?,
         [b"write", m, n, t, a, b, c, filter, sum, page] => {
             let values = Card {
                 words: number(m, 10)?,
@@ -102,6 +101,17 @@ fn replay(line: &[u8]) -> Option<String> {
         }
         _ => return None,
     })
+}
+
+/// The answer of a call with a card, a state, shovels and times.
+type OnLists = fn(&[u8], &[u32], &[u16], &[u32]) -> String;
+
+/// The answer to a case with these fields.
+fn on_lists(call: OnLists, c: &[u8], s: &[u8], shovels: &[u8], times: &[u8]) -> Option<String> {
+    let (card, state) = (card(c)?, state(s)?);
+    let shovels: Vec<u16> = list(shovels, 10, MOST_LISTED)?;
+    let times: Vec<u32> = list(times, 10, MOST_LISTED)?;
+    Some(call(&card, &state, &shovels, &times))
 }
 
 // ---- Fields of a line: none if malformed or too large ----
@@ -264,15 +274,31 @@ fn strip_answer(card: &[u8], state: &[u32], strip: &[u32], place: usize, count: 
     }
 }
 
+/// What a pick told.
+fn picked(pick: &Picked) -> String {
+    format!(
+        "shovel {} ties {} taken {}",
+        pick.shovel, pick.ties, pick.taken
+    )
+}
+
 fn pick_answer(card: &[u8], state: &[u32], shovels: &[u16], times: &[u32]) -> String {
     on_state(state, |lent| {
-        let Picked {
-            shovel,
-            ties,
-            taken,
-        } = call_pick(card, lent, shovels, times)?;
-        Ok(format!("shovel {shovel} ties {ties} taken {taken} "))
+        let pick = call_pick(card, lent, shovels, times)?;
+        Ok(format!("{} ", picked(&pick)))
     })
+}
+
+/// The changed shovel, how it is changed, and the changed pick.
+fn margin_answer(card: &[u8], state: &[u32], shovels: &[u16], times: &[u32]) -> String {
+    match call_margin(card, state, shovels, times) {
+        Ok(margin) => {
+            let way = if margin.raised { "raised" } else { "lowered" };
+            let change = format!("change {} {way} {}", margin.changed, margin.seconds);
+            format!("{change} {}", picked(&margin.pick))
+        }
+        Err(refusal) => refused(refusal, true),
+    }
 }
 
 fn write_answer(values: &Card, page_length: usize) -> String {
@@ -394,6 +420,28 @@ pick 2702020102030001000000 2,3 7,4,9,1,7 300,300,300,300,300 = refused 15",
         );
     }
 
+    /// Document 02, Four: from 0, 0 a tie goes to 4 as before, from 2, 3 to 7.
+    #[test]
+    fn margins() {
+        assert_answers(
+            "\
+margin 2702020102030001000000 0,0 4,7 300,305 = change 4 raised 6 shovel 7 ties 1 taken 0
+margin 2702020102030001000000 0,0 7,4 305,300 = change 4 raised 6 shovel 7 ties 1 taken 0
+margin 2702020102030001000000 2,3 4,7 300,305 = change 4 raised 5 shovel 7 ties 2 taken 1
+margin 2702020102030001000000 2,3 7,4 300,300 = change 4 lowered 1 shovel 4 ties 1 taken 0
+margin 2702020102030001000000 2,3 4,7 0,4294967295 = change 4 raised 4294967295 shovel 7 ties 2 taken 1
+margin 2702020102030001000000 0,0 4,7 0,4294967295 = refused 19
+margin 2702020102030001000000 0,0 7 300 = refused 19
+margin 2702020102030001000000 0,0 7,4,9,1,2 300,300,300,300,300 = refused 18
+margin 2702020102030001000000 0,0 7,7 300,300 = refused 15
+margin 00 0,0,0,0 - - = refused 13
+margin 00 0,0,0,0 7 - = refused 12
+margin 021d 0,0,0,20000000 7 300 = refused 11
+margin 00 0,0,0 7 300 = refused 10
+margin 0802 - - - = refused 9",
+        );
+    }
+
     /// Pages, entries not given or not used, and the order of the writer's checks.
     #[test]
     fn writer() {
@@ -453,6 +501,7 @@ write 2 2 1,2,3,0 1 2 1 1 1 10 = refused 16",
             Check 00|checks 00|00|check\t00|read|step 00|step 00 0 0|words 00 0,0,0,0|\
             strip 00 0,0,0,0 - 0|strip 00 0,0,0,0 - 0 0 0|strip 00 0,0,0,0  0 0|\
             pick 00 0,0,0,0 1|pick 00 0,0,0,0 1 1 1|write 2 2 1,2,3,0 1 2 1 1 1|\
+            margin|margin 00 0,0,0,0 1|margin 00 0,0,0,0 1 1 1|margin 00 0,0,0,0  1|Margin 00 0 1 1|\
             write 2 2 1,2,3,0 1 2 1 1 1 12 0|chéck 00|check 00#";
         for line in lines.split('|') {
             assert_eq!(text(line), "syntax", "{line}");
@@ -468,12 +517,14 @@ write 2 2 1,2,3,0 1 2 1 1 1 10 = refused 16",
     }
 
     /// Each decimal field, the largest number it takes, and whether it is a list.
-    const DECIMALS: [(&str, u64, bool); 14] = [
+    const DECIMALS: [(&str, u64, bool); 16] = [
         ("words 00 0,0,0,0 @", 1024, false),
         ("strip 00 0,0,0,0 1 @ 1", 4294967295, false),
         ("strip 00 0,0,0,0 1 0 @", 4294967295, false),
         ("pick 00 0,0,0,0 @ 1", 65535, true),
         ("pick 00 0,0,0,0 1 @", 4294967295, true),
+        ("margin 00 0,0,0,0 @ 1", 65535, true),
+        ("margin 00 0,0,0,0 1 @", 4294967295, true),
         ("write @ 2 0 1 2 1 1 1 12", 255, false),
         ("write 2 @ 0 1 2 1 1 1 12", 255, false),
         ("write 2 2 @ 1 2 1 1 1 12", 255, true),
@@ -508,7 +559,7 @@ write 2 2 1,2,3,0 1 2 1 1 1 10 = refused 16",
     fn syntax_of_hex() {
         assert_syntax("check @", "- 00 aB Ab 0123456789abcdefABCDEF", false);
         assert_syntax("check @", "0 000 0x00 0g -- 00, 00,00 +0 00- é", true);
-        for line in ["draw 00 @", "strip 00 0,0,0,0 @ 0 0"] {
+        for line in ["draw 00 @", "strip 00 0,0,0,0 @ 0 0", "margin 00 @ 1 1"] {
             assert_syntax(
                 line,
                 "- 0 f,F,00 FFFFFFFF,ffffffff,0000000000000ffffffff",
@@ -558,6 +609,11 @@ write 2 2 1,2,3,0 1 2 1 1 1 10 = refused 16",
                 format!("strip 00 0,0,0,0 {list} 0 0"),
                 format!("pick 00 0,0,0,0 {list} -"),
                 format!("pick 00 0,0,0,0 - {list}"),
+                format!("margin {card} 0,0,0,0 1 1"),
+                format!("margin 00 {list} 1 1"),
+                format!("margin 00 0,0,0,0 {list} {list}"),
+                format!("margin 00 0,0,0,0 {list} -"),
+                format!("margin 00 0,0,0,0 - {list}"),
             ] {
                 assert_eq!(text(&line) == "syntax", syntax, "{line}");
             }
