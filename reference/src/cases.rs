@@ -1,11 +1,12 @@
 //! Seeded cases for `replay`, always the same ones, in sections that each open with a comment.
 //!
 //! The walks (`step`, `back`, `draw`, `words`), the picks, the cards (`check`, `read`), the writer
-//! (`write`), the form of a line, the strips (`strip`) and the fair ranks of picks have a module
-//! each, in the order in which they came, so that earlier cases stay as they are. States that go on
-//! from case to case come from this crate's own calls.
+//! (`write`), the form of a line, the strips (`strip`), the fair ranks of picks and the margins
+//! (`margin`) have a module each, in the order in which they came, so that earlier cases stay as
+//! they are. States that go on from case to case come from this crate's own calls.
 
 mod cards;
+mod margins;
 mod picks;
 mod ranks;
 mod strips;
@@ -127,6 +128,7 @@ pub fn cases() -> Vec<u8> {
     syntax::make(&mut maker);
     strips::make(&mut maker);
     ranks::make(&mut maker);
+    margins::make(&mut maker);
     maker.lines
 }
 
@@ -169,6 +171,7 @@ mod tests {
             ("words", state),
             ("strip", (1..=11).chain([17]).collect()),
             ("pick", (1..=15).chain([18]).collect()),
+            ("margin", (1..=15).chain([18, 19]).collect()),
             ("write", vec![2, 6, 7, 8, 9, 16]),
         ] {
             let word = if call == "check" {
@@ -188,7 +191,8 @@ mod tests {
         assert!(rows.iter().all(|(_, answer)| !answer.contains("CHANGED")));
     }
 
-    /// As many as the programs had that these cases replace, and more picks; strips are new.
+    /// As many as the programs had that these cases replace, and more picks; strips and margins are
+    /// new.
     #[test]
     fn enough_of_each() {
         let rows = answered();
@@ -217,8 +221,9 @@ mod tests {
         assert!(count("step", "state") >= 300 && count("draw", "word") >= 300);
         assert!(of_call(&rows, "pick").len() >= 5_400);
         assert!(count("strip", "strip") >= 300 && count("strip", "refused 17") >= 100);
+        assert!(count("margin", "change") >= 600 && count("margin", "refused 19") >= 30);
         assert!(rows.iter().filter(|row| row.1 == "syntax").count() >= 1_000);
-        assert!(cases().len() < 2_500_000);
+        assert!(cases().len() < 2_600_000);
     }
 
     /// The words that a pick took, by the case `words`: all but the last are passed over, the last
