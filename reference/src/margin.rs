@@ -24,7 +24,8 @@ fn all_amounts(times: &[u32]) -> RangeInclusive<u32> {
     1..=greatest.saturating_add(1)
 }
 
-/// The amounts at most one from the difference of two times, and 1, in ascending order.
+/// The amounts at most one from the difference of two times, and 1, in ascending order. The test
+/// `random_lists` compares them with all amounts.
 fn amounts_near_differences(times: &[u32]) -> Vec<u32> {
     let mut amounts = vec![1];
     for (place, time) in times.iter().enumerate() {
