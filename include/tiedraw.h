@@ -12,7 +12,7 @@
  *
  * Given that, whatever bytes and numbers are handed over, a call returns with an answer, or with the refusal number
  * of the first check that applies. A card's fields are checked in turn, each by 1, 2, 3, and 4 at the table's place;
- * then come 5 to 18 in order. A refusal changes nothing: state, strip and page are as they were lent, and the other
+ * then come 5 to 19 in order. A refusal changes nothing: state, strip and page are as they were lent, and the other
  * fields of the answer are 0.
  *
  * Calls keep nothing, allocate nothing and use no global data, so that any number of threads may call at once, each
@@ -33,7 +33,7 @@ extern "C" {
    tiedraw_version() / 1000 is TIEDRAW_VERSION_NUMBER / 1000; the shared library's name ends in those two numbers. */
 #define TIEDRAW_VERSION_MAJOR 0
 #define TIEDRAW_VERSION_MINOR 3
-#define TIEDRAW_VERSION_PATCH 1
+#define TIEDRAW_VERSION_PATCH 2
 #define TIEDRAW_VERSION_NUMBER (TIEDRAW_VERSION_MAJOR * 1000000 + TIEDRAW_VERSION_MINOR * 1000 + TIEDRAW_VERSION_PATCH)
 
 /* The most words of a state, entries of a table, bytes of an accepted card, shovels of a pick, and words taken for it. */
@@ -76,7 +76,8 @@ enum tiedraw_refusal {
     TIEDRAW_DUPLICATE_SHOVEL = 15,   /* twice: a shovel number stands twice */
     TIEDRAW_BUFFER_TOO_SMALL = 16,   /* small page: the page has fewer bytes than the card needs */
     TIEDRAW_SPAN_OUT_OF_BOUNDS = 17, /* span: the place is past the strip's end, or the count does not fit behind it */
-    TIEDRAW_TOO_MANY_TIES = 18       /* too many equals: more shovels have the least time than there are words, 2^n */
+    TIEDRAW_TOO_MANY_TIES = 18,      /* too many equals: more shovels have the least time than there are words, 2^n */
+    TIEDRAW_NO_SUCH_CHANGE = 19      /* firm: no change of one shovel's time sends the truck elsewhere */
 };
 
 /* The eight values of a card. Table entries past 2^words are 0. */
@@ -89,6 +90,11 @@ typedef struct tiedraw_card {
 typedef struct { tiedraw_card card; uint8_t refusal; } tiedraw_reading;
 typedef struct { uint32_t word; uint8_t refusal; } tiedraw_word;
 typedef struct { uint16_t shovel; uint8_t ties; uint8_t taken; uint8_t refusal; } tiedraw_choice;
+typedef struct {
+    uint32_t seconds;
+    uint16_t changed, shovel;
+    uint8_t raised, ties, taken, refusal;
+} tiedraw_margin_answer;
 typedef struct { size_t length; uint8_t refusal; } tiedraw_written;
 
 /* The version of the library, as TIEDRAW_VERSION_NUMBER is of the header. */
@@ -123,6 +129,16 @@ uint8_t tiedraw_fill(const uint8_t *card, size_t card_len, uint32_t *state, size
    the state is not moved. Or refusal 1 to 15 or 18. */
 tiedraw_choice tiedraw_pick(const uint8_t *card, size_t card_len, uint32_t *state, size_t words,
                             const uint16_t *shovels, size_t shovel_count, const uint32_t *times, size_t time_count);
+
+/* How near the pick was: the smallest change of one shovel's time that would send the truck elsewhere from this state,
+   which is not moved. `changed` is the number of that shovel; `raised` is 1 where its time is raised, and 0 where it is
+   lowered, by `seconds`, 1 at least, and it stays within 0 to 4294967295; `shovel`, `ties` and `taken` are what
+   tiedraw_pick would answer with the changed time. Of equally small changes the one of the lower shovel number is
+   told, then lowered before raised. A change that tiedraw_pick would refuse does not count. Proved: no change that
+   counts comes before the one told. Or what tiedraw_pick refuses, 1 to 15 or 18; or 19 where no change counts. */
+tiedraw_margin_answer tiedraw_margin(const uint8_t *card, size_t card_len, const uint32_t *state, size_t words,
+                                     const uint16_t *shovels, size_t shovel_count, const uint32_t *times,
+                                     size_t time_count);
 
 /* Writes the card of these values at the front of the page, and answers its length; bytes past it are untouched. A
    field is written only where it differs from its absent value. The table has up to 16 entries: what is not handed

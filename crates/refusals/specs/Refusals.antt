@@ -67,6 +67,9 @@ spanOutOfBounds = numbered 17 tt  -- span
 abbrev pub tooManyTies : Refusal
 tooManyTies = numbered 18 tt  -- too many equals
 
+abbrev pub noSuchChange : Refusal
+noSuchChange = numbered 19 tt  -- firm
+
 -- a refusal and whether its condition holds
 pub record Check : Type 0 where
   pub refusal : Refusal

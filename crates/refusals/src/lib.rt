@@ -36,3 +36,5 @@ pub const BUFFER_TOO_SMALL: u8 = 16;
 pub const SPAN_OUT_OF_BOUNDS: u8 = 17;
 // too many equals
 pub const TOO_MANY_TIES: u8 = 18;
+// firm
+pub const NO_SUCH_CHANGE: u8 = 19;
