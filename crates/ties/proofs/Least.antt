@@ -47,11 +47,11 @@ module _ (times : List ℕ) where
 
   -- ---- ties
 
-  tie-of : (i : ℕ) → ((j : ℕ) → j < length times → getD times i 0 ≤ getD times j 0) → isTie times i ≡ true
+  pub tie-of : (i : ℕ) → ((j : ℕ) → j < length times → getD times i 0 ≤ getD times j 0) → isTie times i ≡ true
   unfolding isTie
   tie-of i h = every-of (length times) _ (λ j l. le-leb (getD times i 0) (getD times j 0) (h j l))
 
-  tie-le : (i : ℕ) → isTie times i ≡ true → (j : ℕ) → j < length times → getD times i 0 ≤ getD times j 0
+  pub tie-le : (i : ℕ) → isTie times i ≡ true → (j : ℕ) → j < length times → getD times i 0 ≤ getD times j 0
   unfolding isTie
   tie-le i h j l = leb-true (getD times i 0) (getD times j 0) (every-at (length times) (λ j. leb (getD times i 0) (getD times j 0)) h j l)
 

@@ -15,7 +15,7 @@ use Rattle.ties.specs.Ties.{isTie, ties, rank, TieAt, chosen, occurs, tw
 use Rattle.ties.specs.Order.{Permutes, reordered}
 use Rattle.ties.proofs.Rank.{tie-of-rank, chosen-is}
 
-count-permute : (n : ℕ) (f : ℕ → ℕ) (p q : ℕ → Bool) → Permutes n f → ((i : ℕ) → i < n → p i ≡ q (f i)) → count n p ≡ count n q
+pub count-permute : (n : ℕ) (f : ℕ → ℕ) (p q : ℕ → Bool) → Permutes n f → ((i : ℕ) → i < n → p i ≡ q (f i)) → count n p ≡ count n q
 unfolding count
 count-permute n f p q s h = count-ext n p (λ i. q (f i)) h ∙ sum-permute n f (λ i. one (q i)) (s .below) (s .onto)
 
@@ -28,7 +28,7 @@ every-permute n f p q s h =
 pub length-reordered : (f : ℕ → ℕ) (xs : List ℕ) → length (reordered f xs) ≡ length xs
 length-reordered f xs = length-tabulate (length xs) (λ i. getD xs (f i) 0)
 
-getD-reordered : (f : ℕ → ℕ) (xs : List ℕ) (i : ℕ) → i < length xs → getD (reordered f xs) i 0 ≡ getD xs (f i) 0
+pub getD-reordered : (f : ℕ → ℕ) (xs : List ℕ) (i : ℕ) → i < length xs → getD (reordered f xs) i 0 ≡ getD xs (f i) 0
 getD-reordered f xs i l = getD-tabulate (length xs) (λ i. getD xs (f i) 0) i l
 
 module _ (f : ℕ → ℕ) (times : List ℕ) (s : Permutes (length times) f) where

@@ -1,0 +1,133 @@
+-- There is one least change at most, and the order of the list makes no difference to it.
+use mathlib.Core.Path.{_≡_, refl, sym, ap, _∙_, subst}
+use mathlib.Core.Logic.{_↔_}
+use mathlib.Core.Bool.{Bool, true, false}
+use mathlib.Core.List.{List}
+use Prim.Native.Nat.{ℕ, _≤_, _<_}
+use native.Mathlib.Decide.{ℕ-discrete, decLt}
+use native.Mathlib.Omega.{arith}
+use borrow.Author.Tests.{eqb-true, eq-eqb, leb-true, not-false}
+use lib.Dec.{eqb, leb}
+use lib.ListN.{length, getD, length-set}
+use lib.Seq.{ext-getD, getD-set-same, getD-set-other}
+use Rattle.cycle.specs.Notation.{count}
+use Rattle.cycle.proofs.Every.{every-at}
+use Rattle.cycle.proofs.Count.{count-pos, count-some, count-two, two-counted}
+use Rattle.ties.specs.Ties.{occurs, twice}
+use Rattle.ties.specs.Order.{Permutes, reordered}
+use Rattle.ties.proofs.Order.{count-permute, length-reordered, getD-reordered}
+use Rattle.changes.specs.declared.Change.{Change}
+use Rattle.changes.specs.Change.{changed, Counts, NoLater, LeastChange}
+use Rattle.changes.proofs.Order.{no-later-both}
+
+-- ---- places that are told apart
+
+one-place : (n : ℕ) (p : ℕ → Bool) → count n p ≤ 1 → (i j : ℕ) → i < n → j < n → p i ≡ true → p j ≡ true → i ≡ j
+one-place n p h i j li lj s t = go (decLt i j) (decLt j i)
+  where
+    go : Dec (i < j) → Dec (j < i) → i ≡ j
+    go (yes l) d = absurd (omega (arith, two-counted n p j lj t (count-pos j p i l s)))
+    go (no l) (yes m) = absurd (omega (arith, two-counted n p i li s (count-pos i p j m t)))
+    go (no l) (no m) = omega arith
+
+count-at : (n y : ℕ) → count n (λ k. eqb k y) ≤ 1
+count-at n y = go (decLt 1 (count n (λ k. eqb k y)))
+  where
+    go : Dec (1 < count n (λ k. eqb k y)) → count n (λ k. eqb k y) ≤ 1
+    go (yes l) =
+        let p = count-two n (λ k. eqb k y) l in
+        let q = count-some (p .0) (λ k. eqb k y) (p .3) in
+        absurd (omega (arith, eqb-true (p .0) y (p .2), eqb-true (q .0) y (q .2), q .1))
+    go (no l) = omega arith
+
+permutes-injective : (n : ℕ) (f : ℕ → ℕ) → Permutes n f → (i j : ℕ) → i < n → j < n → f i ≡ f j → i ≡ j
+permutes-injective n f s i j li lj e =
+    one-place n (λ k. eqb (f k) (f j)) (omega (arith, count-permute n f (λ k. eqb (f k) (f j)) (λ k. eqb k (f j)) s (λ k l. refl), count-at n (f j)))
+    i j li lj (eq-eqb (f i) (f j) e) (eq-eqb (f j) (f j) refl)
+
+pub numbers-apart : (shovels : List ℕ) → twice shovels ≡ false → (i j : ℕ) → i < length shovels → j < length shovels → getD shovels i 0 ≡ getD shovels j 0 → i ≡ j
+unfolding twice
+numbers-apart shovels d i j li lj e =
+    one-place (length shovels) (λ k. eqb (getD shovels k 0) (getD shovels j 0))
+    (leb-true (occurs shovels (getD shovels j 0)) 1 (every-at (length shovels) (λ i. leb (occurs shovels (getD shovels i 0)) 1) (not-false _ d) j lj))
+    i j li lj (eq-eqb (getD shovels i 0) (getD shovels j 0) e) (eq-eqb (getD shovels j 0) (getD shovels j 0) refl)
+
+-- ---- one list
+
+module _ (shovels times : List ℕ) (d : twice shovels ≡ false) (paired : length shovels ≡ length times) (Wanted : List ℕ → Type 0) where
+  pub least-one : (c e : Change) → LeastChange shovels times Wanted c → LeastChange shovels times Wanted e → c ≡ e
+  least-one c e h m =
+      let r = no-later-both shovels c e (h .least e (m .counts)) (m .least c (h .counts)) in
+      let p : c .place ≡ e .place = numbers-apart shovels d (c .place) (e .place) (omega (arith, h .counts .listed)) (omega (arith, m .counts .listed)) (r .1) in
+      λ i. record { place = p i; raised = r .2 i; seconds = r .0 i }
+
+-- ---- the same change in the list in another order
+
+abbrev pub there : (ℕ → ℕ) → Change → Change
+there f c = record { place = f (c .place); raised = c .raised; seconds = c .seconds }
+
+pub length-changed : (times : List ℕ) (c : Change) → length (changed times c) ≡ length times
+unfolding changed
+length-changed times c = length-set times (c .place) _
+
+module _ (f : ℕ → ℕ) (times : List ℕ) (s : Permutes (length times) f) where
+  pub changed-reordered : (c : Change) → c .place < length times → changed (reordered f times) c ≡ reordered f (changed times (there f c))
+  unfolding changed
+  changed-reordered c l =
+      ext-getD 0 (changed (reordered f times) c) (reordered f (changed times (there f c)))
+      (left ∙ sym (length-reordered f (changed times (there f c)) ∙ length-changed times (there f c)))
+      (λ j lj. let k : j < length times = omega (arith, left) in go j k (ℕ-discrete j (c .place)) ∙ sym (getD-reordered f (changed times (there f c)) j (omega (arith, length-changed times (there f c)))))
+    where
+      left : length (changed (reordered f times) c) ≡ length times
+      left = length-changed (reordered f times) c ∙ length-reordered f times
+
+      go : (j : ℕ) → j < length times → Dec (j ≡ c .place) → getD (changed (reordered f times) c) j 0 ≡ getD (changed times (there f c)) (f j) 0
+      go j lj (yes e) =
+          rw (e, getD-set-same (reordered f times) (c .place) _ 0 (omega (arith, length-reordered f times)), getD-set-same times (f (c .place)) _ 0 (s .below (c .place) l), getD-reordered f times (c .place) l) refl
+      go j lj (no n) =
+          getD-set-other (reordered f times) (c .place) j _ 0 n ∙ getD-reordered f times j lj
+          ∙ sym (getD-set-other times (f (c .place)) (f j) _ 0 (λ e. n (permutes-injective (length times) f s j (c .place) lj l e)))
+
+  module _ (Wanted Wanted₂ : List ℕ → Type 0) (same : (ys : List ℕ) → length ys ≡ length times → Wanted₂ (reordered f ys) ↔ Wanted ys) where
+    pub counts-there : (c : Change) → Counts (reordered f times) Wanted₂ c → Counts times Wanted (there f c)
+    counts-there c k =
+        let l : c .place < length times = omega (arith, length-reordered f times, k .listed) in
+        record {
+          listed = s .below (c .place) l;
+          some = k .some;
+          within = rw (getD-reordered f times (c .place) l) at (k .within);
+          wanted = same (changed times (there f c)) (length-changed times (there f c)) .0 (subst Wanted₂ (changed-reordered c l) (k .wanted));
+        }
+
+    counts-at : (c : Change) → c .place < length times → Counts times Wanted (there f c) → Counts (reordered f times) Wanted₂ c
+    counts-at c l k =
+        record {
+          listed = omega (arith, length-reordered f times);
+          some = k .some;
+          within = rw (getD-reordered f times (c .place) l) (k .within);
+          wanted = subst Wanted₂ (sym (changed-reordered c l)) (same (changed times (there f c)) (length-changed times (there f c)) .1 (k .wanted));
+        }
+
+    -- a change that counts in the list is one of the other
+    pub counts-back : (g : Change) → Counts times Wanted g → (c : Change) × (there f c ≡ g) × Counts (reordered f times) Wanted₂ c
+    counts-back g k =
+        let o = s .onto (g .place) (k .listed) in
+        let at : ℕ → Change = λ p. record { place = p; raised = g .raised; seconds = g .seconds } in
+        (at (o .0), ap at (o .2), counts-at (at (o .0)) (o .1) (subst (λ (p : ℕ). Counts times Wanted (at p)) (sym (o .2)) k))
+
+    pub least-there : (shovels : List ℕ) → length shovels ≡ length times → (c : Change)
+        → LeastChange (reordered f shovels) (reordered f times) Wanted₂ c → LeastChange shovels times Wanted (there f c)
+    least-there shovels paired c h =
+        record {
+          counts = counts-there c (h .counts);
+          least = λ g m. let b = counts-back g m in subst (NoLater shovels (there f c)) (b .1) (go (b .0) (b .2 .listed) (h .least (b .0) (b .2)));
+        }
+      where
+        number : (c : Change) → c .place < length (reordered f times) → getD (reordered f shovels) (c .place) 0 ≡ getD shovels (f (c .place)) 0
+        number c l = getD-reordered f shovels (c .place) (omega (arith, length-reordered f times))
+
+        go : (g : Change) → g .place < length (reordered f times) → NoLater (reordered f shovels) c g → NoLater shovels (there f c) (there f g)
+        go g l n =
+            let a = number c (h .counts .listed) in
+            let b = number g l in
+            record { seconds = n .seconds; number = λ z. omega (arith, n .number z, a, b); direction = λ z w r. n .direction z (a ∙ w ∙ sym b) r }
