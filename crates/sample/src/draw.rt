@@ -37,7 +37,7 @@ fn below_limit(n: u32, word: u32, k: u32) -> bool
 }
 
 // Whether a word decides, so many having been taken with it: it is below L, or the last that may be taken.
-fn decides(n: u32, word: u32, k: u32, taken: u8) -> bool
+pub fn decides(n: u32, word: u32, k: u32, taken: u8) -> bool
     requires { ⌜ (n ≤ widestWidth) × (0 < k) ⌝ }
     ensures { λ r. ⌜ r ≡ (eqb taken mostTaken || ltb word (largestMultiple (2 ^ n) k)) ⌝ }
 {

@@ -1,20 +1,46 @@
 -- How many words are tried and taken, and which of them decides.
-use mathlib.Core.Path.{_≡_, refl, ap, _∙_}
+use mathlib.Core.Path.{_≡_, refl, sym, ap, _∙_}
 use mathlib.Core.Logic.{_↔_, _≢_}
 use mathlib.Core.Bool.{Bool, true, false, _||_}
 use mathlib.Core.List.{List}
-use Prim.Native.Nat.{ℕ, suc, _-_, _%_, _≤_, _<_}
+use Prim.Native.Nat.{ℕ, suc, _+_, _-_, _%_, _≤_, _<_}
 use native.Mathlib.Nat.{mod-one}
+use native.Mathlib.Numerals.{add-one}
 use native.Mathlib.Decide.{ℕ-discrete}
 use native.Mathlib.Omega.{arith}
-use borrow.Author.Tests.{eq-eqb, ne-eqb, ltb-true, ltb-false}
+use borrow.Author.Tests.{eq-eqb, ne-eqb, eqb-false, ltb-true, ltb-false}
 use lib.Dec.{eqb, ltb}
 use Rattle.cycle.specs.Notation.{iterate, first}
+use Rattle.cycle.proofs.Count.{neither}
+use Rattle.cycle.proofs.Every.{extend}
 use Rattle.cycle.proofs.First.{first-le, first-at, before-first, first-is, first-none}
 use Rattle.tsc.specs.declared.Card.{Card}
 use Rattle.tsc.specs.Step.{orbit}
 use Rattle.tsc.specs.Word.{word}
 use Rattle.samples.specs.Samples.{mostTaken, limit, tried, taken, drawnRank, drawnState}
+
+-- as words are tried, p saying of each whether it is below L: the first t are passed over
+pub record Over (p : ℕ → Bool) (t : ℕ) : Type 0 where
+  pub few : t < mostTaken
+  pub each : (j : ℕ) → j < t → p j ≡ false
+
+module _ (p : ℕ → Bool) where
+  pub over-none : Over p 0
+  over-none = record { few = omega arith; each = λ j l. absurd (omega arith) }
+
+  module _ (t : ℕ) (h : Over p t) where
+    -- the next does not decide, or it does
+    pub over-next : (eqb (t + 1) mostTaken || p t) ≡ false → Over p (t + 1)
+    over-next d =
+        let b = neither _ _ d in
+        record { few = let n = eqb-false (t + 1) mostTaken (b .0) in omega (arith, h .few); each = extend (λ (j : ℕ). p j ≡ false) t (h .each) (b .1) }
+
+    pub over-all : (eqb (t + 1) mostTaken || p t) ≡ true → first (mostTaken - 1) p ≡ t
+    over-all d = go (ℕ-discrete (t + 1) mostTaken)
+      where
+        go : Dec (t + 1 ≡ mostTaken) → first (mostTaken - 1) p ≡ t
+        go (yes e) = first-none (mostTaken - 1) p (λ j l. h .each j (omega arith)) ∙ omega arith
+        go (no n) = first-is (mostTaken - 1) p t (omega (arith, h .few)) (h .each) (rw (ne-eqb (t + 1) mostTaken n) at d)
 
 module _ (card : Card) (xs : List ℕ) (k : ℕ) where
   -- whether word number t + 1 is below L
@@ -40,15 +66,6 @@ module _ (card : Card) (xs : List ℕ) (k : ℕ) where
   unfolding tried
   decided l = ltb-true (word card (orbit card xs (tried card xs k))) (limit card k) (first-at (mostTaken - 1) kept (omega arith))
 
-  -- as they are tried: none of the first t is below L, and the next decides
-  pub tried-is : (t : ℕ) → t < mostTaken → ((j : ℕ) → j < t → kept j ≡ false) → (eqb (suc t) mostTaken || kept t) ≡ true → tried card xs k ≡ suc t
-  unfolding tried
-  tried-is t l over h = go (ℕ-discrete (suc t) mostTaken)
-    where
-      go : Dec (suc t ≡ mostTaken) → suc (first (mostTaken - 1) kept) ≡ suc t
-      go (yes e) = ap suc (first-none (mostTaken - 1) kept (λ j lj. over j (omega arith)) ∙ omega arith)
-      go (no n) = ap suc (first-is (mostTaken - 1) kept t (omega arith) over (rw (ne-eqb (suc t) mostTaken n) at h))
-
   -- ---- taken
 
   pub taken-none : k ≡ 1 → taken card xs k ≡ 0
@@ -58,6 +75,11 @@ module _ (card : Card) (xs : List ℕ) (k : ℕ) where
   pub taken-tried : k ≢ 1 → taken card xs k ≡ tried card xs k
   unfolding taken
   taken-tried n = rw (ne-eqb k 1 n) refl
+
+  -- as they are tried: t are passed over, and the next decides
+  pub taken-next : k ≢ 1 → (t : ℕ) → Over kept t → (eqb (t + 1) mostTaken || kept t) ≡ true → taken card xs k ≡ t + 1
+  unfolding tried
+  taken-next n t h d = taken-tried n ∙ ap suc (over-all kept t h d) ∙ sym (add-one t)
 
   -- one tie alone has rank 0, and the state stays as it is
   pub alone : k ≡ 1 → (drawnRank card xs k ≡ 0) × (drawnState card xs k ≡ xs)

@@ -43,7 +43,7 @@ next-of-few-requires c κs =
     )
 
 add-taken : tie.Need-add-taken Inv-loop μ-loop
-add-taken c = let l = c .before .before .loop in omega (arith, l .inv .few)
+add-taken c = let l = c .before .before .loop in omega (arith, l .inv .over .few)
 
 cast-decides : tie.Need-cast-decides Inv-loop μ-loop
 cast-decides c = omega arith
@@ -55,7 +55,7 @@ rem-t14 : tie.Need-rem-t14 Inv-loop μ-loop
 rem-t14 c = let s = start (c .before .before .before .before .before .before) in s .pre .2
 
 loop-less : tie.Need-loop-less Inv-loop μ-loop
-loop-less c = let l = c .before .before .before .before .before .loop in omega (arith, l .inv .few)
+loop-less c = let l = c .before .before .before .before .before .loop in omega (arith, l .inv .over .few)
 
 loop-again : tie.Need-loop-again Inv-loop μ-loop
 loop-again c =

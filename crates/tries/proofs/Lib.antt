@@ -1,0 +1,2 @@
+-- Laws of ranks by a row of words.
+pub mod Ranks

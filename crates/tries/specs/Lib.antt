@@ -1,0 +1,2 @@
+-- Ranks by a row of words.
+pub mod Tries
