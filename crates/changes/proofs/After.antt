@@ -24,7 +24,7 @@ pub record LeastOther (times : List ℕ) (i x : ℕ) : Type 0 where
   pub least : (j : ℕ) → j < length times → j ≢ i → x ≤ getD times j 0
 
 -- whether shovel j is a tie then
-abbrev tieAfter : List ℕ → ℕ → ℕ → ℕ → ℕ → Bool
+abbrev pub tieAfter : List ℕ → ℕ → ℕ → ℕ → ℕ → Bool
 tieAfter times i x v j = cond (ltb v x) (eqb j i) (otherAt times i x j || (eqb v x && eqb j i))
 
 no-tie : (ys : List ℕ) (j k : ℕ) → k < length ys → getD ys k 0 < getD ys j 0 → isTie ys j ≡ false
@@ -74,7 +74,7 @@ module _ (times : List ℕ) (i x : ℕ) (li : i < length times) (o : LeastOther 
   no-later : (j : ℕ) → j ≢ i → x < getD times j 0 → isTie ys j ≡ false
   no-later j n l = no-tie ys j k (omega (arith, size, o .stands .1)) (omega (arith, at-k, other j n))
 
-  tie-after : (j : ℕ) → j < length times → isTie ys j ≡ tieAfter times i x v j
+  pub tie-after : (j : ℕ) → j < length times → isTie ys j ≡ tieAfter times i x v j
   tie-after j lj = go (ℕ-discrete j i) (decLt v x) (ℕ-discrete v x) (ℕ-discrete (getD times j 0) x)
     where
       go : Dec (j ≡ i) → Dec (v < x) → Dec (v ≡ x) → Dec (getD times j 0 ≡ x) → isTie ys j ≡ tieAfter times i x v j

@@ -57,11 +57,11 @@ pub record Close (shovels times : List ℕ) (Wanted : List ℕ → Type 0) (e : 
 abbrev pub Beside : List ℕ → List ℕ → (List ℕ → Type 0) → Change → ℕ → Type 0
 Beside shovels times Wanted e x = let At = Close shovels times Wanted e in At x ⊎ (((0 < x) × At (x - 1)) ⊎ ((x < mostTime) × At (x + 1)))
 
--- wanted of one list, it is wanted of every list with the same ties
-abbrev pub ByTies : (List ℕ → Type 0) → Type 0
-ByTies Wanted = (xs ys : List ℕ) → SameTies xs ys → Wanted xs → Wanted ys
+-- wanted of one list of n times, it is wanted of every list with the same ties
+abbrev pub ByTies : ℕ → (List ℕ → Type 0) → Type 0
+ByTies n Wanted = (xs ys : List ℕ) → length xs ≡ n → SameTies xs ys → Wanted xs → Wanted ys
 
-module _ (shovels times : List ℕ) (Wanted : List ℕ → Type 0) (by : ByTies Wanted) (not-yet : Wanted times → ⊥) (e : Change) (k : Counts times Wanted e) where
+module _ (shovels times : List ℕ) (Wanted : List ℕ → Type 0) (by : ByTies (length times) Wanted) (not-yet : Wanted times → ⊥) (e : Change) (k : Counts times Wanted e) where
   abbrev u : ℕ
   u = getD times (e .place) 0
 
@@ -77,7 +77,7 @@ module _ (shovels times : List ℕ) (Wanted : List ℕ → Type 0) (by : ByTies 
     unfolding changed
     crosses a b =
         not-yet
-        (subst Wanted (set-getD times (e .place) 0) (by _ (set times (e .place) u) (same-side times (e .place) x (k .listed) o w u a b) (k .wanted)))
+        (subst Wanted (set-getD times (e .place) 0) (by _ (set times (e .place) u) (length-set times (e .place) w) (same-side times (e .place) x (k .listed) o w u a b) (k .wanted)))
 
     -- a time on its side, no farther away
     close : (v : ℕ) → ltb v x ≡ ltb w x → eqb v x ≡ eqb w x → v ≢ u → (u < v → (u < w) × (v ≤ w)) → (v < u → (w < u) × (w ≤ v)) → Close shovels times Wanted e v
@@ -85,7 +85,7 @@ module _ (shovels times : List ℕ) (Wanted : List ℕ → Type 0) (by : ByTies 
     close v a b n up down = go (decLt u v)
       where
         there : Wanted (changed times (changeTo times (e .place) v))
-        there = subst Wanted (sym (changed-to times (e .place) v)) (by _ _ (same-side times (e .place) x (k .listed) o w v (sym a) (sym b)) (k .wanted))
+        there = subst Wanted (sym (changed-to times (e .place) v)) (by _ _ (length-set times (e .place) w) (same-side times (e .place) x (k .listed) o w v (sym a) (sym b)) (k .wanted))
 
         made : 1 ≤ changeTo times (e .place) v .seconds → Within (ltb u v) u (changeTo times (e .place) v .seconds) → changeTo times (e .place) v .seconds ≤ e .seconds
             → ltb u v ≡ e .raised → Close shovels times Wanted e v
@@ -138,5 +138,5 @@ module _ (shovels times : List ℕ) (Wanted : List ℕ → Type 0) (by : ByTies 
       go : Dec (1 < length times) → 1 < length times
       go (yes l) = l
       go (no n) =
-          absurd (not-yet (by (changed times e) times
+          absurd (not-yet (by (changed times e) times size
           (record { size = size; same = λ j l. alone (changed times e) (omega (arith, size)) j l ∙ sym (alone times (omega arith) j (omega (arith, size))) }) (k .wanted)))

@@ -1,5 +1,6 @@
 -- Refusal 18 is told exactly where there are more ties than words.
 use mathlib.Core.Path.{_≡_}
+use mathlib.Core.Logic.{_≢_}
 use Prim.Native.Nat.{ℕ, _^_, _≤_, _<_}
 use native.Mathlib.Decide.{decLt}
 use native.Mathlib.Omega.{arith}
@@ -22,3 +23,10 @@ module _ (n k : ℕ) where
       go : Dec (2 ^ n < k) → k ≤ 2 ^ n
       go (yes l) = absurd (omega (arith, z, ties-over l))
       go (no n) = omega arith
+
+  pub ties-told : firstOf (tieChecks n k) ≢ 0 → 2 ^ n < k
+  ties-told ne = go (decLt (2 ^ n) k)
+    where
+      go : Dec (2 ^ n < k) → 2 ^ n < k
+      go (yes l) = l
+      go (no n) = absurd (ne (ties-fit (omega arith)))
