@@ -73,13 +73,16 @@ module _ (bytes xs : List ℕ) where
       go (yes z) = absurd (ne (ap (λ (o : Opened). o .refusal) (e ∙ sym (opening-passed z))))
       go (no n) = (ap (λ (o : Opened). o .refusal) (e ∙ sym (opening-refused (refusalFor bytes xs) n refl)), n)
 
+  pub clear-of : (o : Opened) → o ≡ opening bytes xs → refusalFor bytes xs ≡ 0 → Clear bytes xs o
+  clear-of o e z =
+      let f = e ∙ sym (opening-passed z) in
+      record { none = z; card-is = ap (λ (o : Opened). o .card) f; state-is = ap (λ (o : Opened). o .state) f }
+
   pub begun : (o : Opened) → o ≡ opening bytes xs → o .refusal ≡ 0 → Clear bytes xs o
   begun o e z = go (ℕ-discrete (refusalFor bytes xs) 0)
     where
       go : Dec (refusalFor bytes xs ≡ 0) → Clear bytes xs o
-      go (yes p) =
-          let f = e ∙ sym (opening-passed p) in
-          record { none = p; card-is = ap (λ (o : Opened). o .card) f; state-is = ap (λ (o : Opened). o .state) f }
+      go (yes p) = clear-of o e p
       go (no n) = absurd (n (sym (ap (λ (o : Opened). o .refusal) (e ∙ sym (opening-refused (refusalFor bytes xs) n refl))) ∙ z))
 
   pub unless-refused : (ys : List ℕ) → refusalFor bytes xs ≢ 0 → xs ≡ unlessRefused bytes xs ys

@@ -30,19 +30,23 @@ module _ (bytes xs shovels times : List ℕ) where
   later = listChecks shovels times ++ manyChecks
 
   -- the card or the state is refused, or else the list, or else the count of ties
-  pub refusal-call : refusalFor bytes xs ≢ 0 → refusalFor bytes xs ≡ pickRefusal bytes xs shovels times
+  pub told-call : (o : Opened) → o ≡ opening bytes xs → o .refusal ≢ 0 → o .refusal ≡ pickRefusal bytes xs shovels times
   unfolding refusalFor pickRefusal
-  refusal-call ne = sym (first-left (callChecks bytes xs) later ne)
+  told-call o e ne = let b = begun-refused bytes xs o e ne in b .0 ∙ sym (first-left (callChecks bytes xs) later (b .1))
 
   pub refusal-later : refusalFor bytes xs ≡ 0 → firstOf later ≡ pickRefusal bytes xs shovels times
   unfolding refusalFor pickRefusal
   refusal-later z = sym (first-right (callChecks bytes xs) later z)
 
-  refusal-list : refusalFor bytes xs ≡ 0 → firstOf (listChecks shovels times) ≢ 0 → firstOf (listChecks shovels times) ≡ pickRefusal bytes xs shovels times
-  refusal-list z ne = sym (first-left (listChecks shovels times) manyChecks ne) ∙ refusal-later z
+  pub told-list : refusalFor bytes xs ≡ 0 → (r : ℕ) → r ≡ firstOf (listChecks shovels times) → r ≢ 0 → r ≡ pickRefusal bytes xs shovels times
+  told-list z r e ne = e ∙ sym (first-left (listChecks shovels times) manyChecks (λ y. ne (e ∙ y))) ∙ refusal-later z
 
-  refusal-many : refusalFor bytes xs ≡ 0 → firstOf (listChecks shovels times) ≡ 0 → firstOf manyChecks ≡ pickRefusal bytes xs shovels times
-  refusal-many z y = sym (first-right (listChecks shovels times) manyChecks y) ∙ refusal-later z
+  -- the count of ties as it is looked at
+  pub told-many : {o : Opened} → Clear bytes xs o → firstOf (listChecks shovels times) ≡ 0 → {n k : ℕ} → n ≡ o .card .width → k ≡ ties times
+      → firstOf (tieChecks n k) ≡ pickRefusal bytes xs shovels times
+  told-many c z en ek =
+      let width = en ∙ ap (λ (card : Card). card .width) (c .card-is) in
+      ap₂ (λ (n k : ℕ). firstOf (tieChecks n k)) width ek ∙ sym (first-right (listChecks shovels times) manyChecks z) ∙ refusal-later (c .none)
 
   -- no refusal: all of them are passed
   pub pick-passed : pickRefusal bytes xs shovels times ≡ 0 → (refusalFor bytes xs ≡ 0) × Allowed shovels times × (ties times ≤ 2 ^ cardOf bytes .width)
@@ -62,37 +66,6 @@ module _ (bytes xs shovels times : List ℕ) where
       × (drawnState card xs k ≡ picked bytes xs shovels times)
   unfolding picking picked
   picking-chosen z = rw z (refl, refl)
-
-  -- refused by the card or the state, by the list, and by the count of ties
-  pub pick-refused-call : (o : Opened) → o ≡ opening bytes xs → o .refusal ≢ 0
-      → (Refused (o .refusal) ≡ picking bytes xs shovels times) × (xs ≡ picked bytes xs shovels times)
-  pick-refused-call o e ne = let b = begun-refused bytes xs o e ne in picking-refused (o .refusal) ne (b .0 ∙ refusal-call (b .1))
-
-  pub pick-refused-list : {o : Opened} → Clear bytes xs o → (r : ℕ) → r ≡ firstOf (listChecks shovels times) → r ≢ 0
-      → (Refused r ≡ picking bytes xs shovels times) × (xs ≡ picked bytes xs shovels times)
-  pick-refused-list k r e ne = picking-refused r ne (e ∙ refusal-list (k .none) (λ z. ne (e ∙ z)))
-
-  -- the count of ties as it is looked at
-  pub many-told : {o : Opened} → Clear bytes xs o → firstOf (listChecks shovels times) ≡ 0 → {n k : ℕ} → n ≡ o .card .width → k ≡ ties times
-      → firstOf (tieChecks n k) ≡ pickRefusal bytes xs shovels times
-  many-told c z en ek =
-      let width = en ∙ ap (λ (card : Card). card .width) (c .card-is) in
-      ap₂ (λ (n k : ℕ). firstOf (tieChecks n k)) width ek ∙ refusal-many (c .none) z
-
-  pub pick-refused-many : {o : Opened} → Clear bytes xs o → firstOf (listChecks shovels times) ≡ 0 → {n k : ℕ} → n ≡ o .card .width → k ≡ ties times
-      → (r : ℕ) → r ≡ firstOf (tieChecks n k) → r ≢ 0 → (Refused r ≡ picking bytes xs shovels times) × (xs ≡ picked bytes xs shovels times)
-  pick-refused-many c z en ek r e ne = picking-refused r ne (e ∙ many-told c z en ek)
-
-  -- made, of k ties, the rank r drawn among them by t words, the shovel s of that rank and the words ys that are left
-  pub pick-made : pickRefusal bytes xs shovels times ≡ 0 → {k r s t : ℕ} {ys : List ℕ} → k ≡ ties times
-      → r ≡ drawnRank (cardOf bytes) xs k → t ≡ taken (cardOf bytes) xs k → ys ≡ drawnState (cardOf bytes) xs k → s ≡ chosen shovels times r
-      → (Shovel s k t ≡ picking bytes xs shovels times) × (ys ≡ picked bytes xs shovels times)
-  pick-made z ek er et ey es =
-      let card = cardOf bytes in
-      let made = picking-chosen z in
-      let number = es ∙ ap (chosen shovels times) (er ∙ ap (drawnRank card xs) ek) in
-      let words = et ∙ ap (taken card xs) ek in
-      ((λ i. Shovel (number i) (ek i) (words i)) ∙ made .0, ey ∙ ap (drawnState card xs) ek ∙ made .1)
 
 -- a list that is not refused has a tie at least, and no more than shovels
 pub ties-few : {shovels times : List ℕ} → Allowed shovels times → (0 < ties times) × (ties times ≤ mostShovels)

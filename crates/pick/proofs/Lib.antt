@@ -1,0 +1,2 @@
+-- Laws of what a pick begins with.
+pub mod Begun
