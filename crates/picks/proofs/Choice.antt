@@ -62,7 +62,7 @@ module _ (f : ℕ → ℕ) (shovels times : List ℕ) (s : Permutes (length shov
   permutes-times ok = subst (λ (n : ℕ). Permutes n f) (ok .paired) s
 
   module _ (bytes xs : List ℕ) where
-    refusal-reordered : pickRefusal bytes xs (reordered f shovels) (reordered f times) ≡ pickRefusal bytes xs shovels times
+    pub refusal-reordered : pickRefusal bytes xs (reordered f shovels) (reordered f times) ≡ pickRefusal bytes xs shovels times
     unfolding pickRefusal
     refusal-reordered = first-ext (callChecks bytes xs) _ _ (rw checks-reordered (go (ℕ-discrete (firstOf (listChecks shovels times)) 0)))
       where

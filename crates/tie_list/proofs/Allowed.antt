@@ -1,10 +1,10 @@
 -- What is known of a list that is not refused.
-use mathlib.Core.Path.{_≡_}
+use mathlib.Core.Path.{_≡_, refl}
 use mathlib.Core.Bool.{false}
 use mathlib.Core.List.{List}
 use Prim.Native.Nat.{ℕ, _≤_, _<_}
 use native.Mathlib.Omega.{arith}
-use borrow.Author.Tests.{eqb-true, eqb-false, ltb-false, not-false}
+use borrow.Author.Tests.{eqb-true, eqb-false, eq-eqb, ne-eqb, ltb-false, le-ltb, not-false}
 use lib.ListN.{length}
 use Rattle.refusals.specs.Refusals.{firstOf, NoneApplies}
 use Rattle.refusals.proofs.Refusals.{none-first}
@@ -28,3 +28,13 @@ list-allowed shovels times z =
       few = omega (arith, ltb-false mostShovels (length shovels) (h .1 .1 .0));
       once = h .1 .1 .1 .0;
     }
+
+pub allowed-list : (shovels times : List ℕ) → Allowed shovels times → firstOf (listChecks shovels times) ≡ 0
+unfolding listChecks firstOf
+allowed-list shovels times ok =
+    rw (
+      eq-eqb (length shovels) (length times) (ok .paired),
+      ne-eqb (length shovels) 0 (omega (arith, ok .paired, ok .some)),
+      le-ltb mostShovels (length shovels) (omega (arith, ok .paired, ok .few)),
+      ok .once,
+    ) refl

@@ -1,0 +1,4 @@
+-- What is proved of margins.
+pub mod Changed
+pub mod Answers
+pub mod Alike

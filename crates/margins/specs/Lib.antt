@@ -1,0 +1,2 @@
+-- What margin answers.
+pub mod Margins
