@@ -61,14 +61,26 @@ module _ (shovels times : List ℕ) (d : twice shovels ≡ false) (paired : leng
       let p : c .place ≡ e .place = numbers-apart shovels d (c .place) (e .place) (omega (arith, h .counts .listed)) (omega (arith, m .counts .listed)) (r .1) in
       λ i. record { place = p i; raised = r .2 i; seconds = r .0 i }
 
+pub length-changed : (times : List ℕ) (c : Change) → length (changed times c) ≡ length times
+unfolding changed
+length-changed times c = length-set times (c .place) _
+
+-- what is wanted, put in another way
+module _ (times : List ℕ) (Wanted Wanted₂ : List ℕ → Type 0) (same : (ys : List ℕ) → length ys ≡ length times → Wanted ys ↔ Wanted₂ ys) where
+  pub counts-same : (c : Change) → Counts times Wanted c ↔ Counts times Wanted₂ c
+  counts-same c =
+      let w = same (changed times c) (length-changed times c) in (
+        λ k. record { listed = k .listed; some = k .some; within = k .within; wanted = w .0 (k .wanted) },
+        λ k. record { listed = k .listed; some = k .some; within = k .within; wanted = w .1 (k .wanted) },
+      )
+
+  pub least-same : (shovels : List ℕ) (c : Change) → LeastChange shovels times Wanted c → LeastChange shovels times Wanted₂ c
+  least-same shovels c h = record { counts = counts-same c .0 (h .counts); least = λ e k. h .least e (counts-same e .1 k) }
+
 -- ---- the same change in the list in another order
 
 abbrev pub there : (ℕ → ℕ) → Change → Change
 there f c = record { place = f (c .place); raised = c .raised; seconds = c .seconds }
-
-pub length-changed : (times : List ℕ) (c : Change) → length (changed times c) ≡ length times
-unfolding changed
-length-changed times c = length-set times (c .place) _
 
 module _ (f : ℕ → ℕ) (times : List ℕ) (s : Permutes (length times) f) where
   pub changed-reordered : (c : Change) → c .place < length times → changed (reordered f times) c ≡ reordered f (changed times (there f c))

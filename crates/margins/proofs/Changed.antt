@@ -30,11 +30,11 @@ use Rattle.margins.specs.Margins.{Apart, Elsewhere}
 
 -- ---- whether a rank is a shovel's
 
-rank-at : (shovels times : List ℕ) (r i : ℕ) → TieAt shovels times r i → hasRank shovels times r i ≡ true
+pub rank-at : (shovels times : List ℕ) (r i : ℕ) → TieAt shovels times r i → hasRank shovels times r i ≡ true
 unfolding hasRank
 rank-at shovels times r i a = and-eq-true-iff (isTie times i) _ .1 (a .tie, eq-eqb _ r (a .ranked))
 
-at-rank : (shovels times : List ℕ) (r i : ℕ) → i < length times → hasRank shovels times r i ≡ true → TieAt shovels times r i
+pub at-rank : (shovels times : List ℕ) (r i : ℕ) → i < length times → hasRank shovels times r i ≡ true → TieAt shovels times r i
 unfolding hasRank
 at-rank shovels times r i l h =
     let b = and-eq-true-iff (isTie times i) (eqb (rank shovels times (getD shovels i 0)) r) .0 h in

@@ -1,0 +1,28 @@
+// Margin on lent slices: any bytes as a card, any words as a state, any numbers and times. The state is only read.
+ghost use Rattle.margins.specs.Margins.{IsMargin};
+use super::changed;
+use super::chosen;
+use candidates::Best;
+use candidates::search;
+use margins::Margin;
+use pick::begin;
+
+// The least change of one shovel's time that sends the truck elsewhere, with the changed pick. Or the first refusal of 1 to 15 and 18 that applies to the pick,
+// or 19 where no change does.
+pub fn margin(card: &[u8], state: &[u32], shovels: &[u16], times: &[u32]) -> Margin
+    ensures { λ r. ⌜ IsMargin (now (card .entry)) (now (state .entry)) (now (shovels .entry)) (now (times .entry)) r ⌝ }
+{
+    let begun = begin::begin(card, state, shovels, times);
+    if begun.refusal != 0 {
+        return Margin::Refused(begun.refusal);
+    }
+    let opened = begun.opened;
+    let values = opened.card;
+    let held = opened.state;
+    let known = chosen::known_of(values, held, shovels, times, begun.least, begun.ties);
+    let best = search::least_change(known, shovels, times);
+    match best {
+        Best::Nothing => Margin::Refused(refusals::NO_SUCH_CHANGE),
+        Best::Least(c) => Margin::Least(changed::told(known, shovels, times, c)),
+    }
+}

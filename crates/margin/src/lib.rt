@@ -1,0 +1,4 @@
+// Margins: how near a pick was to another shovel. What margin answers is defined in crate margins.
+pub mod call;
+mod changed;
+mod chosen;
