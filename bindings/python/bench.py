@@ -17,6 +17,7 @@ from tiedraw import _library
 PARTS, CALLS, FILL = 20, 50_000, 1_000_000
 MOST_OF_DRAW, MOST_OF_FILL = 1.5, 1.1
 CARD, WORDS = bytes([0]), 4
+TIMES = {3: 300, 9: 240, 14: 410, 21: 240, 40: 365}
 ON_STATE = [POINTER(c_uint8), c_size_t, POINTER(c_uint32), c_size_t]
 
 
@@ -62,11 +63,20 @@ def generator_draw():
 
 def generator_pick():
     desk = tiedraw.Generator(CARD, [0] * WORDS)
-    times = {3: 300, 9: 240, 14: 410, 21: 240, 40: 365}
 
     def part(calls):
         for _ in range(calls):
-            desk.pick(times)
+            desk.pick(TIMES)
+
+    return part
+
+
+def generator_margin():
+    desk = tiedraw.Generator(CARD, [0] * WORDS)
+
+    def part(calls):
+        for _ in range(calls):
+            desk.margin(TIMES)
 
     return part
 
@@ -112,6 +122,7 @@ def main():
         "bare draw": (bare_draw(), CALLS),
         "Generator.draw": (generator_draw(), CALLS),
         "Generator.pick, 2 of 5 tie": (generator_pick(), CALLS // 10),
+        "Generator.margin, the same": (generator_margin(), CALLS // 10),
         "draw": (function_draw(), CALLS // 10),
     }
     words = {

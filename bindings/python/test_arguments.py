@@ -8,6 +8,7 @@ import tiedraw
 from tiedraw import Values
 
 PROGRAM = bytes.fromhex("27 02 02 01 02 03 00 01 00 00 00")
+ON_LISTS = (tiedraw.pick, tiedraw.margin)  # of shovels and times
 
 
 class Index:
@@ -27,6 +28,12 @@ class Misjudged(list):
         return 1
 
 
+def on_times():
+    """The calls of a Generator on the same lists."""
+    desk = tiedraw.Generator(PROGRAM, [0, 0])
+    return desk.pick, desk.margin
+
+
 class Named(unittest.TestCase):
     def told(self, kind, message, call, *arguments):
         with self.assertRaises(kind) as caught:
@@ -36,23 +43,31 @@ class Named(unittest.TestCase):
     def test_times_are_whole_seconds(self):
         for time in [300.5, 300.0, "300", None, True]:
             message = f"times[14]: {time!r} is not a whole number of seconds"
-            self.told(TypeError, message, tiedraw.pick, PROGRAM, [0, 0], range(15), [1] * 14 + [time])
-            self.told(TypeError, message, tiedraw.Generator(PROGRAM, [0, 0]).pick, {3: 1, 14: time})
+            for call in ON_LISTS:
+                self.told(TypeError, message, call, PROGRAM, [0, 0], range(15), [1] * 14 + [time])
+            for call in on_times():
+                self.told(TypeError, message, call, {3: 1, 14: time})
 
     def test_times_by_shovel_or_by_place(self):
-        pick = tiedraw.Generator(PROGRAM, [0, 0]).pick
-        self.told(ValueError, "times[7]: -1 is negative", pick, {4: 1, 7: -1})
-        self.told(ValueError, "a key of times: 65536 is more than 16 bits", pick, {65536: 1})
-        self.told(TypeError, "a key of times: '7' is not a whole number", pick, {"7": 1})
-        self.told(ValueError, "times[1][0]: 65536 is more than 16 bits", pick, [(4, 1), (65536, 1)])
-        self.told(ValueError, "times[0][1]: 4294967296 is more than 32 bits", pick, [(4, 2**32)])
-        self.told(TypeError, "times[0][1]: 1.5 is not a whole number of seconds", pick, iter([(4, 1.5)]))
-        self.told(TypeError, "times[1]: 7 is not a pair of shovel and time", pick, [(4, 1), 7])
-        self.told(TypeError, "times[0]: (4, 1, 1) is not a pair of shovel and time", pick, [(4, 1, 1)])
-        self.told(TypeError, "times: 5 is not a mapping or pairs", pick, 5)
+        for call in on_times():
+            self.told(ValueError, "times[7]: -1 is negative", call, {4: 1, 7: -1})
+            self.told(ValueError, "a key of times: 65536 is more than 16 bits", call, {65536: 1})
+            self.told(TypeError, "a key of times: '7' is not a whole number", call, {"7": 1})
+            self.told(ValueError, "times[1][0]: 65536 is more than 16 bits", call, [(4, 1), (65536, 1)])
+            self.told(ValueError, "times[0][1]: 4294967296 is more than 32 bits", call, [(4, 2**32)])
+            self.told(TypeError, "times[0][1]: 1.5 is not a whole number of seconds", call, iter([(4, 1.5)]))
+            self.told(TypeError, "times[1]: 7 is not a pair of shovel and time", call, [(4, 1), 7])
+            self.told(TypeError, "times[0]: (4, 1, 1) is not a pair of shovel and time", call, [(4, 1, 1)])
+            self.told(TypeError, "times: 5 is not a mapping or pairs", call, 5)
+
+    def test_entries_of_lists_by_place(self):
+        for call in ON_LISTS:
+            self.told(ValueError, "card[1]: -1 is negative", call, [0, -1], [0] * 4, [7], [1])
+            self.told(ValueError, "state[1]: 4294967296 is more than 32 bits", call, PROGRAM, [0, 2**32], [7], [1])
+            self.told(ValueError, "shovels[2]: 65536 is more than 16 bits", call, PROGRAM, [0, 0], [1, 2, 65536], [1] * 3)
+            self.told(ValueError, "times[1]: -1 is negative", call, PROGRAM, [0, 0], [1, 2], [1, -1])
 
     def test_entries_by_place(self):
-        self.told(ValueError, "shovels[2]: 65536 is more than 16 bits", tiedraw.pick, PROGRAM, [0, 0], [1, 2, 65536], [1] * 3)
         self.told(ValueError, "state[1]: 4294967296 is more than 32 bits", tiedraw.draw, PROGRAM, [0, 2**32])
         self.told(ValueError, "state[1]: -1 is negative", tiedraw.Generator, PROGRAM, [0, -1])
         self.told(TypeError, "state[0]: 0.0 is not a whole number", tiedraw.step, PROGRAM, [0.0, 0])
@@ -71,16 +86,21 @@ class Named(unittest.TestCase):
     def test_no_bool_is_a_number(self):
         self.told(TypeError, "card[0]: False is not a whole number", tiedraw.check, [False])
         self.told(TypeError, "state[1]: True is not a whole number", tiedraw.draw, PROGRAM, [0, True])
-        self.told(TypeError, "shovels[0]: True is not a whole number", tiedraw.pick, PROGRAM, [0, 0], [True], [1])
+        for call in ON_LISTS:
+            self.told(TypeError, "shovels[0]: True is not a whole number", call, PROGRAM, [0, 0], [True], [1])
 
     def test_text_is_no_card(self):
         self.told(TypeError, "card: '27 02' is text; bytes.fromhex makes a card of it", tiedraw.check, "27 02")
         self.told(TypeError, "state: '0,0' is text; numbers are asked for", tiedraw.draw, PROGRAM, "0,0")
+        for call in ON_LISTS:
+            self.told(TypeError, "shovels: '4,7' is text; numbers are asked for", call, PROGRAM, [0, 0], "4,7", [1, 1])
 
     def test_what_has_no_order_is_no_row(self):
         self.told(TypeError, "state: {0} is a set, which has no order", tiedraw.draw, PROGRAM, {0})
         self.told(TypeError, "state: {0: 5} is a dict, which has no order", tiedraw.Generator, PROGRAM, {0: 5})
-        self.told(TypeError, "times: {7: 1} is a dict, which has no order", tiedraw.pick, PROGRAM, [0, 0], [7], {7: 1})
+        for call in ON_LISTS:
+            self.told(TypeError, "times: {7: 1} is a dict, which has no order", call, PROGRAM, [0, 0], [7], {7: 1})
+            self.told(TypeError, "state: {0} is a set, which has no order", call, PROGRAM, {0}, [7], [1])
         self.told(TypeError, "card: 5 is not a row of numbers", tiedraw.check, 5)
         self.assertRaises(TypeError, tiedraw.write, Values(table={1: 2}))
 
@@ -100,10 +120,13 @@ class Rows(unittest.TestCase):
         times = {7: 300, 4: 300}
         answer = tiedraw.pick(iter(PROGRAM), iter([2, 3]), iter(times), times.values())
         self.assertEqual(answer, ((7, 2, 1), (1, 1)))
+        answer = tiedraw.margin(iter(PROGRAM), iter([2, 3]), iter(times), times.values())
+        self.assertEqual(answer, (4, False, 1, 4, 1, 0))
 
     def test_whole_numbers_of_other_kinds(self):
         desk = tiedraw.Generator(PROGRAM, [Index(2), Index(3)])
-        self.assertEqual(desk.pick({Index(7): Index(300), Index(4): Index(300)}), (7, 2, 1))
+        times = {Index(7): Index(300), Index(4): Index(300)}
+        self.assertEqual((desk.margin(times), desk.pick(times)), ((4, False, 1, 4, 1, 0), (7, 2, 1)))
         self.assertEqual(tiedraw.write(Values(width=Index(29))), bytes.fromhex("02 1d"))
 
 

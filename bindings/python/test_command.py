@@ -55,6 +55,14 @@ class Command(unittest.TestCase):
         }.items():
             self.assertEqual(self.printed("pick", PROGRAM, "2,3", *times), answer)
 
+    def test_margin(self):
+        for state, times, answer in [
+            ("0,0", ("7=305", "4=300"), ["change 4", "raised 6", "shovel 7", "ties 1", "taken 0"]),
+            ("2,3", ("7=305", "4=300"), ["change 4", "raised 5", "shovel 7", "ties 2", "taken 1"]),
+            ("2,3", ("7=300", "4=300"), ["change 4", "lowered 1", "shovel 4", "ties 1", "taken 0"]),
+        ]:
+            self.assertEqual(self.printed("margin", PROGRAM, state, *times), answer)
+
     def test_new_cards_can_be_given_back(self):
         for size in [(), ("--words", "2", "--width", "7"), ("--filter", "2", "--seed", "south pit")]:
             lines = self.printed("new", *size)
@@ -71,9 +79,9 @@ class Command(unittest.TestCase):
         versions = [f"binding {tiedraw.__version__}", f"library {tiedraw.library_version()}"]
         self.assertEqual(self.printed("--version"), versions)
         told = "\n".join(self.printed("--help"))
-        for text in ["check", "read", "draw", "pick", "new", "words in hex with commas", "@FILE", "Exit status"]:
+        for text in ["check", "read", "draw", "pick", "margin", "new", "words in hex with commas", "@FILE", "Exit status"]:
             self.assertIn(text, told)
-        for command in ["check", "read", "draw", "pick", "new"]:
+        for command in ["check", "read", "draw", "pick", "margin", "new"]:
             self.printed(command, "--help")
 
     def test_a_refusal_is_told_on_standard_error(self):
@@ -84,6 +92,8 @@ class Command(unittest.TestCase):
         self.fails(1, "refusal 13 (no shovel): ", "pick", PROGRAM, "0,0")
         self.fails(1, "refusal 15 (twice): ", "pick", PROGRAM, "0,0", "7=1", "7=2")
         self.fails(1, "refusal 18 (too many equals): ", "pick", PROGRAM, "0,0", "1=60", "2=60", "3=60", "4=60", "5=60")
+        self.fails(1, "refusal 13 (no shovel): ", "margin", PROGRAM, "0,0")
+        self.fails(1, "refusal 19 (firm): no change of one shovel's time", "margin", PROGRAM, "0,0", "7=300")
 
     def test_wrong_usage(self):
         for message, *arguments in [
@@ -101,6 +111,8 @@ class Command(unittest.TestCase):
             ("'7' is not SHOVEL=SECONDS", "pick", PROGRAM, "0,0", "7"),
             ("SHOVEL: 65536 is more than 16 bits", "pick", PROGRAM, "0,0", "65536=1"),
             ("'1.5' is not a whole number", "pick", PROGRAM, "0,0", "7=1.5"),
+            ("'7' is not SHOVEL=SECONDS", "margin", PROGRAM, "0,0", "7"),
+            ("SECONDS: 4294967296 is more than 32 bits", "margin", PROGRAM, "0,0", "7=4294967296"),
             ("words: 5 is not 2 to 4", "new", "--words", "5"),
             ("width: 1 is not 2 to 32", "new", "--width", "1"),
             ("'x' is not a whole number", "new", "--filter", "x"),

@@ -1,10 +1,13 @@
-"""What docs/OPERATING.md shows as measured: accepted cards whose lots are bad, and new ones whose lots are not bad in that way."""
+"""What docs/OPERATING.md shows: as measured, accepted cards whose lots are bad, and new ones whose are not so; and as typed."""
 
+import doctest
+import pathlib
 import random
 import unittest
 
 from tiedraw import Generator, Refusal, Refused, check, new_card
 
+OPERATING = pathlib.Path(__file__).resolve().parents[2] / "docs/OPERATING.md"
 SHORT = bytes.fromhex("b0 00 01 00 00 00 00")
 NARROW = bytes.fromhex("27 02 02 01 02 03 00 01 00 00 00")
 
@@ -40,6 +43,12 @@ class Measured(unittest.TestCase):
         for seed in range(20):
             row = lots(new_card(seed=f"pit {seed}"), [0] * 4, 2, 4_000)
             self.assertFalse(any(repeats(row, period) for period in range(1, 2_000)))
+
+
+class Typed(unittest.TestCase):
+    def test_python_answers_as_shown(self):
+        done = doctest.testfile(str(OPERATING), module_relative=False, encoding="utf-8")
+        self.assertEqual((done.failed, done.attempted), (0, 4))
 
 
 if __name__ == "__main__":

@@ -43,6 +43,11 @@ class Refusals(unittest.TestCase):
         shouted = [(shout(name), word, when) for name, word, when in rows]
         self.assertEqual(shouted, [(refusal.name, refusal.trade_word, refusal.when) for refusal in Refusal])
 
+    def test_the_table_for_operators(self):
+        rows = re.findall(r"^\| ([\d, ]+) \| ([a-z, ]+) \|", text("docs/OPERATING.md"), re.MULTILINE)
+        told = [pair for numbers, words in rows for pair in zip(map(int, numbers.split(", ")), words.split(", "))]
+        self.assertEqual(sorted(told), [(number, word) for _, number, word in self.here])
+
 
 class Versions(unittest.TestCase):
     def same(self, file, pattern):

@@ -1,6 +1,7 @@
 /* A dispatch server and its standby, each with its own copy of the state and its own order of the list: they send every truck to
-   the same shovel. First version and card are looked at, and a simulation desk sees the lots of the shift beforehand; at the end
-   they are taken back one by one, and bad input shows what a refusal is. */
+   the same shovel. First version and card are looked at, and a simulation desk sees the lots of the shift beforehand; where one
+   shovel is nearest, it is told how firm that is; at the end the lots are taken back one by one, and bad input shows what a
+   refusal is. */
 #include <inttypes.h>
 #include <stdio.h>
 #include <stdlib.h>
@@ -27,14 +28,29 @@ static uint32_t travel_time(uint32_t truck, uint16_t shovel) {
     return 300;
 }
 
+/* The times of a list, in its order. */
+static void travel_times(uint32_t *times, const uint16_t *shovels, uint32_t truck) {
+    for (int i = 0; i < SHOVELS; i++)
+        times[i] = travel_time(truck, shovels[i]);
+}
+
 /* A truck's shovel, as one server picks it from its own list. */
 static tiedraw_choice pick(uint32_t *state, const uint16_t *shovels, uint32_t truck) {
     uint32_t times[SHOVELS];
-    for (int i = 0; i < SHOVELS; i++)
-        times[i] = travel_time(truck, shovels[i]);
+    travel_times(times, shovels, truck);
     tiedraw_choice choice = tiedraw_pick(card, sizeof card, state, WORDS, shovels, SHOVELS, times, SHOVELS);
     stop_unless(choice.refusal == 0, "a pick was refused");
     return choice;
+}
+
+/* How firm a truck's shovel is, from the state before its pick, which is only read. */
+static void tell_margin(const uint32_t *state, const uint16_t *shovels, uint32_t truck) {
+    uint32_t times[SHOVELS];
+    travel_times(times, shovels, truck);
+    tiedraw_margin_answer margin = tiedraw_margin(card, sizeof card, state, WORDS, shovels, SHOVELS, times, SHOVELS);
+    stop_unless(margin.refusal == 0, "a margin was refused");
+    printf("truck %" PRIu32 ": shovel %2u %s by %" PRIu32 " s would send it to shovel %u of %u\n", truck, margin.changed,
+           margin.raised ? "raised" : "lowered", margin.seconds, margin.shovel, margin.ties);
 }
 
 /* The library is the one that this was compiled for; the card is accepted, and written again it is the same bytes. */
@@ -108,6 +124,8 @@ int main(void) {
         printf("truck %" PRIu32 ": shovel %2u of %u, words %u, standby server: shovel %2u\n", truck, server.shovel, server.ties, server.taken,
                standby.shovel);
         stop_unless(server.shovel == standby.shovel && memcmp(state, standby_state, sizeof state) == 0, "the servers differ");
+        if (server.ties == 1) /* no word was taken, and the state is still the one before the pick; of a tie, ask beforehand */
+            tell_margin(state, shovels, truck);
         words += server.taken;
     }
 

@@ -47,6 +47,15 @@ def _pick(options: argparse.Namespace) -> Iterator[str]:
     yield f"state {state_text(desk.state)}"
 
 
+def _margin(options: argparse.Namespace) -> Iterator[str]:
+    margin = Generator(options.card, options.state).margin(options.times)
+    yield f"change {margin.changed}"
+    yield f"{'raised' if margin.raised else 'lowered'} {margin.seconds}"
+    yield f"shovel {margin.shovel}"
+    yield f"ties {margin.ties}"
+    yield f"taken {margin.taken}"
+
+
 def _new(options: argparse.Namespace) -> Iterator[str]:
     card = new_card(options.words, options.width, options.filter, options.seed)
     yield card.hex(" ")
@@ -90,7 +99,9 @@ def _parser() -> argparse.ArgumentParser:
     draw = command(_draw, "prints the word of each draw, then the state after the last", "CARD", "STATE")
     draw.add_argument("--count", metavar="N", type=_parsed(number), default=1, help="so many draws (default 1)")
     pick = command(_pick, "prints the shovel, the number of ties and of words taken, and the state after the pick", "CARD", "STATE")
-    pick.add_argument("times", metavar="SHOVEL=SECONDS", nargs="*", type=_parsed(shovel_time), help="a shovel and its time")
+    margin = command(_margin, "prints the smallest change of one time that sends the truck elsewhere, and that pick", "CARD", "STATE")
+    for added in (pick, margin):
+        added.add_argument("times", metavar="SHOVEL=SECONDS", nargs="*", type=_parsed(shovel_time), help="a shovel and its time")
     _new_options(command(_new, "prints a new card in hex, and its values as comments: a file for @FILE"))
     return parser
 

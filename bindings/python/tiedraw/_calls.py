@@ -1,4 +1,4 @@
-"""The library's calls as functions. The state is a row of words; the one after the call is returned."""
+"""The library's calls as functions. The state is a row of words; where a call moves it, the one after the call is returned."""
 
 from __future__ import annotations
 
@@ -6,10 +6,10 @@ from ctypes import c_uint8, c_uint16, c_uint32
 from typing import Any, Callable, SupportsIndex
 
 from . import _library
-from ._library import MOST_CARD_BYTES
+from ._library import MOST_CARD_BYTES, MarginAnswer
 from ._numbers import Numbers, row, seconds_row, span, whole
 from ._refusal import unless_refused
-from ._values import Choice, Values
+from ._values import Choice, Margin, Values
 
 
 def check(card: Numbers) -> None:
@@ -60,11 +60,28 @@ def fill(
     return tuple(words), after
 
 
+def _lists(shovels: Numbers, times: Numbers) -> tuple[Any, ...]:
+    """What C is handed of shovels and times."""
+    return (*row(c_uint16, "shovels", shovels), *seconds_row(times))
+
+
 def pick(card: Numbers, state: Numbers, shovels: Numbers, times: Numbers) -> tuple[Choice, tuple[int, ...]]:
     """The chosen shovel, the number of ties and of words taken, and the state after the pick."""
-    lists = (*row(c_uint16, "shovels", shovels), *seconds_row(times))
-    answer, after = _on_state(_library.pick, card, state, *lists)
+    answer, after = _on_state(_library.pick, card, state, *_lists(shovels, times))
     return Choice(answer.shovel, answer.ties, answer.taken), after
+
+
+def margin_of(answer: MarginAnswer) -> Margin:
+    return Margin(answer.changed, bool(answer.raised), answer.seconds, answer.shovel, answer.ties, answer.taken)
+
+
+def margin(card: Numbers, state: Numbers, shovels: Numbers, times: Numbers) -> Margin:
+    """The smallest change of one time that would send the truck elsewhere from this state, or refusal 19 where none does.
+
+    A pick that is refused is refused here by the same number, and a change whose pick would be refused does not count. Of
+    equally small changes the one of the lower shovel number is told, then lowered before raised.
+    """
+    return margin_of(_on_state(_library.margin, card, state, *_lists(shovels, times))[0])
 
 
 def _arguments(name: str, value: Any) -> tuple[Any, ...]:

@@ -10,11 +10,11 @@ from threading import RLock
 from typing import Any, SupportsIndex
 
 from ._buffers import Buffer, address, words_of
-from ._calls import step
-from ._library import Chosen, Word, call
+from ._calls import margin_of, step
+from ._library import Chosen, MarginAnswer, Word, call
 from ._numbers import Numbers, Times, natural, row, shovels_and_times, span
 from ._refusal import unless_refused
-from ._values import Choice
+from ._values import Choice, Margin
 
 # With their arguments made once, as ctypes objects, the calls have nothing left to convert.
 _step = call("tiedraw_step", c_uint8)
@@ -22,6 +22,14 @@ _step_back = call("tiedraw_step_back", c_uint8)
 _draw = call("tiedraw_draw", Word)
 _fill = call("tiedraw_fill", c_uint8)
 _pick = call("tiedraw_pick", Chosen)
+_margin = call("tiedraw_margin", MarginAnswer)
+
+
+def _lists(times: Times) -> tuple[Any, ...]:
+    """Shovels and times, as C takes them."""
+    shovels, seconds = shovels_and_times(times)
+    count = len(shovels)
+    return (c_uint16 * count)(*shovels), c_size_t(count), (c_uint32 * count)(*seconds), c_size_t(count)
 
 
 class Generator:
@@ -32,7 +40,7 @@ class Generator:
     itself.
     """
 
-    __slots__ = ("_card", "_state", "_lock", "_step", "_step_back", "_draw", "_fill", "_pick", "__weakref__")
+    __slots__ = ("_card", "_state", "_lock", "_step", "_step_back", "_draw", "_fill", "_pick", "_margin", "__weakref__")
 
     def __init__(self, card: Numbers, state: Numbers):
         self._card, size = row(c_uint8, "card", card)
@@ -45,6 +53,7 @@ class Generator:
         self._draw = partial(_draw, *lent)
         self._fill = partial(_fill, *lent)
         self._pick = partial(_pick, *lent)
+        self._margin = partial(_margin, *lent)
 
     @property
     def card(self) -> bytes:
@@ -103,13 +112,24 @@ class Generator:
         An error names a time by what is written to get it: times[7] of a mapping, times[0][1] of pairs. A number that
         stands twice among pairs is refused by 15.
         """
-        shovels, seconds = shovels_and_times(times)
-        count = len(shovels)
-        lists = ((c_uint16 * count)(*shovels), c_size_t(count), (c_uint32 * count)(*seconds), c_size_t(count))
+        lists = _lists(times)
         with self._lock:
             answer: Chosen = self._pick(*lists)
         unless_refused(answer.refusal)
         return Choice(answer.shovel, answer.ties, answer.taken)
+
+    def margin(self, times: Times) -> Margin:
+        """How near the pick of these times would be: the smallest change of one that would send the truck elsewhere.
+
+        The state is not moved: ask before the pick, since a tie moves it. Times are given as for a pick, and what a pick
+        refuses is refused. Of equally small changes the one of the lower shovel number is told, then lowered before raised.
+        Where no change would send the truck elsewhere, that is refusal 19.
+        """
+        lists = _lists(times)
+        with self._lock:
+            answer: MarginAnswer = self._margin(*lists)
+        unless_refused(answer.refusal)
+        return margin_of(answer)
 
     def __eq__(self, other: object) -> bool:
         if not isinstance(other, Generator):

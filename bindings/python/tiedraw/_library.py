@@ -58,6 +58,25 @@ class Chosen(ctypes.Structure):
     refusal: int
 
 
+class MarginAnswer(ctypes.Structure):
+    _fields_ = [
+        ("seconds", c_uint32),
+        ("changed", c_uint16),
+        ("shovel", c_uint16),
+        ("raised", c_uint8),
+        ("ties", c_uint8),
+        ("taken", c_uint8),
+        ("refusal", c_uint8),
+    ]
+    seconds: int
+    changed: int
+    shovel: int
+    raised: int
+    ties: int
+    taken: int
+    refusal: int
+
+
 class Written(ctypes.Structure):
     _fields_ = [("length", c_size_t), ("refusal", c_uint8)]
     length: int
@@ -93,6 +112,7 @@ step_back: Callable[..., int] = call("tiedraw_step_back", c_uint8, _ON_STATE)
 draw: Callable[..., Word] = call("tiedraw_draw", Word, _ON_STATE)
 fill: Callable[..., int] = call("tiedraw_fill", c_uint8, _ON_STATE + _SPAN)
 pick: Callable[..., Chosen] = call("tiedraw_pick", Chosen, _ON_STATE + _LISTS)
+margin: Callable[..., MarginAnswer] = call("tiedraw_margin", MarginAnswer, _ON_STATE + _LISTS)
 write: Callable[..., Written] = call(
     "tiedraw_write", Written, [c_uint8, c_uint8, *_BYTES, c_uint8, c_uint8, c_uint32, c_uint8, c_uint8, *_BYTES]
 )

@@ -31,6 +31,7 @@ class Refusal(enum.IntEnum):
     BUFFER_TOO_SMALL = 16, "small page", "the page has fewer bytes than the card needs"
     SPAN_OUT_OF_BOUNDS = 17, "span", "the place is past the strip's end, or the count does not fit behind it"
     TOO_MANY_TIES = 18, "too many equals", "more shovels have the least time than there are words, 2^n"
+    NO_SUCH_CHANGE = 19, "firm", "no change of one shovel's time sends the truck elsewhere"
 
     def __new__(cls, number: int, trade_word: str, when: str) -> Refusal:
         self = int.__new__(cls, number)

@@ -1,4 +1,4 @@
-"""What the calls take and answer: the values of a card, and the choice of a pick."""
+"""What the calls take and answer: the values of a card, the choice of a pick, and how near it was."""
 
 from __future__ import annotations
 
@@ -12,6 +12,21 @@ class Choice(NamedTuple):
     back take the pick back.
     """
 
+    shovel: int
+    ties: int
+    taken: int
+
+
+class Margin(NamedTuple):
+    """What a margin answers: the smallest change of one shovel's time that would send the truck elsewhere.
+
+    `changed` is the number of that shovel. Its time is raised, or else lowered, by so many seconds, 1 at least, and stays
+    within 0 to 4294967295; `shovel`, `ties` and `taken` are what the pick would then answer, as in a Choice.
+    """
+
+    changed: int
+    raised: bool
+    seconds: int
     shovel: int
     ties: int
     taken: int
