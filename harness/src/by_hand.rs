@@ -1,9 +1,10 @@
 //! The generator in Rust as one would write it by hand for speed, for any accepted card: what the library's fill is timed
-//! beside. All columns at once by minterm masks, and column by column, with the same selector and word.
+//! beside. All columns at once by minterm masks, and column by column, with the same selector and word. And how near a pick
+//! is, for the library's margin.
 
 use reference::{mask, Card};
 use std::array::from_fn;
-use tiedraw::{MOST_WORDS, TABLE_SIZE};
+use tiedraw::{Choice, Margin, Shovel, MOST_TAKEN, MOST_WORDS, TABLE_SIZE};
 
 /// Words past the card's are 0.
 pub type State = [u32; MOST_WORDS];
@@ -159,4 +160,93 @@ pub fn fill_by_masks(setup: &Setup, state: &mut State, strip: &mut [u32]) {
 
 pub fn fill_by_columns(setup: &Setup, state: &mut State, strip: &mut [u32]) {
     fill(setup, state, strip, step_by_columns)
+}
+
+// ---- How near a pick is: document 02, Four.
+
+/// The words from a state on, each drawn once, when it is first asked for.
+struct Words<'a> {
+    setup: &'a Setup,
+    state: State,
+    drawn: Vec<u32>,
+}
+
+impl Words<'_> {
+    /// The word at a place up to the first that is not yet drawn.
+    fn word(&mut self, place: usize) -> usize {
+        if place == self.drawn.len() {
+            self.state = step_by_masks(self.setup, &self.state);
+            self.drawn.push(self.setup.word(&self.state));
+        }
+        self.drawn[place] as usize
+    }
+
+    /// The rank among equals and the words taken for it; none where it is refused.
+    fn rank(&mut self, equals: usize) -> Option<(usize, usize)> {
+        let words = 1 << self.setup.width;
+        let limit = words - words % equals; // 0 where there are more equals than words
+        if equals == 1 || limit == 0 {
+            return (equals == 1).then_some((0, 0));
+        }
+        let last = MOST_TAKEN - 1;
+        let serving = (0..last).find(|&place| self.word(place) < limit);
+        let place = serving.unwrap_or(last);
+        Some((self.word(place) % equals, place + 1))
+    }
+
+    /// Of shovels in ascending order; none where it is refused.
+    fn pick(&mut self, list: &[Shovel]) -> Option<Choice> {
+        let least = list.iter().map(|shovel| shovel.time).min()?;
+        let equals = || list.iter().filter(|shovel| shovel.time == least);
+        let ties = equals().count();
+        let (rank, taken) = self.rank(ties)?;
+        Some(Choice {
+            shovel: equals().nth(rank)?.number,
+            ties: ties as u8,
+            taken: taken as u8,
+        })
+    }
+}
+
+/// The least time and the next, which is the same where several have it.
+fn two_least(list: &[Shovel]) -> (u32, u32) {
+    let times = list.iter().map(|shovel| shovel.time);
+    times.fold((u32::MAX, u32::MAX), |(least, next), time| {
+        (least.min(time), least.max(time).min(next))
+    })
+}
+
+/// Of a sound list; none where the pick is firm or refused. A time is changed to less than the least of the others, to as
+/// much and to more, each by as little as can be.
+pub fn margin(setup: &Setup, state: &State, mut list: Vec<Shovel>) -> Option<Margin> {
+    list.sort_unstable_by_key(|shovel| shovel.number);
+    let mut words = Words {
+        setup,
+        state: *state,
+        drawn: Vec::with_capacity(MOST_TAKEN),
+    };
+    let unchanged = words.pick(&list)?.shovel;
+    let (least, next) = two_least(&list);
+    let mut nearest: Option<Margin> = None;
+    for place in 0..list.len() {
+        let Shovel { number, time } = list[place];
+        let other = if time == least { next } else { least };
+        for to in [other.saturating_sub(1), other, other.saturating_add(1)] {
+            let seconds = time.abs_diff(to);
+            if seconds == 0 || nearest.is_some_and(|margin| margin.seconds <= seconds) {
+                continue;
+            }
+            list[place].time = to;
+            let elsewhere = words.pick(&list).filter(|to| to.shovel != unchanged);
+            let margin = |choice| Margin {
+                changed: number,
+                raised: to > time,
+                seconds,
+                choice,
+            };
+            nearest = elsewhere.map(margin).or(nearest);
+        }
+        list[place].time = time;
+    }
+    nearest
 }

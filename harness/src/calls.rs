@@ -3,13 +3,14 @@
 use crate::hex;
 use crate::inputs::Input;
 use reference::fill::call_fill;
+use reference::margin::{call_margin, margin_by_all_amounts};
 use reference::pick::{call_pick, limit};
 use reference::{call_write, Card, TABLE_ENTRIES};
 use std::hint::black_box;
 use std::iter::once;
 use tiedraw::{ffi, MOST_TAKEN};
 
-pub const CALLS: [&str; 8] = [
+pub const CALLS: [&str; 9] = [
     "check",
     "step",
     "step_back",
@@ -18,7 +19,10 @@ pub const CALLS: [&str; 8] = [
     "pick",
     "write",
     "read",
+    "margin",
 ];
+/// the last one, which has inputs of its own
+pub const MARGIN: usize = CALLS.len() - 1;
 
 /// The numbers that a call answers, and zeros behind them: at most the reader's, seven and the table.
 type Values = [u64; 7 + TABLE_ENTRIES];
@@ -98,6 +102,7 @@ fn library(call: usize, input: &Input) -> Observed {
     match CALLS[call] {
         "fill" => return library_fill(input),
         "write" => return library_write(&input.values, &input.page),
+        "margin" => return library_margin(input),
         _ => {}
     }
     let (card, n) = (shared(&input.card), input.card.len());
@@ -146,6 +151,29 @@ fn library_fill(input: &Input) -> Observed {
         lent,
         strip,
         around: around && around_strip,
+    }
+}
+
+fn library_margin(input: &Input) -> Observed {
+    let (card, n) = (shared(&input.card), input.card.len());
+    let (shovels, times) = (&input.shovels, &input.times);
+    let (s, k, t, l) = (shared(shovels), shovels.len(), shared(times), times.len());
+    let (a, lent, around) = lend(&input.state, GUARD, |state, m| unsafe {
+        ffi::tiedraw_margin(card, n, state, m, s, k, t, l)
+    });
+    Observed {
+        values: row([
+            a.changed.into(),
+            a.raised.into(),
+            a.seconds.into(),
+            a.shovel.into(),
+            a.ties.into(),
+            a.taken.into(),
+        ]),
+        refusal: a.refusal,
+        lent,
+        strip: vec![],
+        around,
     }
 }
 
@@ -198,6 +226,7 @@ fn second_program(call: usize, input: &Input) -> Observed {
         "draw" => reference::call_draw(card, &mut state).map(|word| row([word.into()])),
         "pick" => call_pick(card, &mut state, &input.shovels, &input.times)
             .map(|p| row([p.shovel.into(), p.ties as u64, p.taken as u64])),
+        "margin" => second_margin(input),
         "fill" => return second_fill(input),
         _ => return second_write(&input.values, &input.page),
     };
@@ -212,6 +241,27 @@ fn second_fill(input: &Input) -> Observed {
         strip,
         ..expected(answer.map(|()| ZEROS), state)
     }
+}
+
+/// Where times are so small that every amount of seconds can be tried, and is.
+fn all_amounts(input: &Input) -> bool {
+    input.times.iter().all(|&time| time < 200)
+}
+
+fn second_margin(input: &Input) -> Result<Values, u8> {
+    let margin = match all_amounts(input) {
+        true => margin_by_all_amounts,
+        false => call_margin,
+    };
+    let told = margin(&input.card, &input.state, &input.shovels, &input.times)?;
+    Ok(row([
+        told.changed.into(),
+        told.raised.into(),
+        told.seconds.into(),
+        told.pick.shovel.into(),
+        told.pick.ties as u64,
+        told.pick.taken as u64,
+    ]))
 }
 
 /// The second program's writer takes document 01's array of 16 entries; the library's rule for tables of another length is put around it.
@@ -230,10 +280,10 @@ fn second_write(values: &Card, page: &[u8]) -> Observed {
 
 // ---- The comparison.
 
-/// What the calls on one input told, where the two sides agree.
+/// What the calls but the margin told on one input, where the two sides agree.
 #[derive(Default)]
 pub struct Told {
-    pub refusals: [u8; CALLS.len()],
+    pub refusals: [u8; MARGIN],
     /// where the pick is counted, as `pick_column` says
     pub pick: Option<usize>,
     /// words that the fill wrote
@@ -262,24 +312,64 @@ fn untouched(name: &str, input: &Input, after: &Observed) -> bool {
     }
 }
 
-/// All calls on one input; or a text that says the input and how the two sides differ.
+/// One call on one input, as the library answers it; or a text that says the input and how the two sides differ.
+fn compare_call(call: usize, input: &Input) -> Result<Observed, String> {
+    let name = CALLS[call];
+    let handed = input.clone();
+    let left = library(call, &handed);
+    let right = second_program(call, input);
+    let kept = left.refusal == 0 || untouched(name, input, &left);
+    if left != right || !kept || black_box(&handed) != input {
+        let card = hex(&input.card);
+        return Err(format!("{name}: the library\n  {left:x?}\nthe second program\n  {right:x?}\ncard {card}\n{input:x?}"));
+    }
+    Ok(left)
+}
+
+/// All calls but the margin on one input.
 pub fn compare(input: &Input) -> Result<Told, String> {
     let mut told = Told::default();
-    for (call, name) in CALLS.iter().enumerate() {
-        let handed = input.clone();
-        let left = library(call, &handed);
-        let right = second_program(call, input);
-        let kept = left.refusal == 0 || untouched(name, input, &left);
-        if left != right || !kept || black_box(&handed) != input {
-            let card = hex(&input.card);
-            return Err(format!("{name}: the library\n  {left:x?}\nthe second program\n  {right:x?}\ncard {card}\n{input:x?}"));
-        }
-        told.refusals[call] = left.refusal;
+    for (call, name) in CALLS[..MARGIN].iter().enumerate() {
+        let after = compare_call(call, input)?;
+        told.refusals[call] = after.refusal;
         match *name {
-            "pick" => told.pick = pick_column(input, &left),
-            "fill" if left.refusal == 0 => told.filled = input.span.1,
+            "pick" => told.pick = pick_column(input, &after),
+            "fill" if after.refusal == 0 => told.filled = input.span.1,
             _ => {}
         }
     }
     Ok(told)
+}
+
+/// The margins that are counted; the second half are those that `all_amounts` says.
+pub const MARGINS: [&str; 6] = [
+    "lowered",
+    "raised",
+    "firm, of several shovels",
+    "lowered, with every amount tried",
+    "raised, with every amount tried",
+    "firm, of several shovels, with every amount tried",
+];
+
+/// What the margin told on one input, where the two sides agree.
+pub struct ToldMargin {
+    pub refusal: u8,
+    /// the place in MARGINS
+    pub column: Option<usize>,
+}
+
+/// The margin on one input.
+pub fn compare_margin(input: &Input) -> Result<ToldMargin, String> {
+    let after = compare_call(MARGIN, input)?;
+    let [_, raised, ..] = after.values.map(|value| value as usize);
+    let column = match (after.refusal, input.shovels.len()) {
+        (0, _) => Some(raised),
+        (19, 2..) => Some(2),
+        _ => None,
+    };
+    let half = MARGINS.len() / 2 * usize::from(all_amounts(input));
+    Ok(ToldMargin {
+        refusal: after.refusal,
+        column: column.map(|column| half + column),
+    })
 }

@@ -1,4 +1,5 @@
-//! Random inputs: cards valid and damaged, states and lists of right and wrong size, strips and spans, values and pages for the writer.
+//! Random inputs: cards valid and damaged, states and lists of right and wrong size, strips and spans, values and pages for the writer;
+//! and inputs for the margin, which the second program finds by trying, so that each takes long.
 
 use crate::random::Random;
 use reference::{check, encode, mask, step_back, word, Card, TSC1_CONSTANT, TSC1_TABLE};
@@ -40,6 +41,23 @@ impl Input {
             times,
             values,
             page,
+        }
+    }
+
+    /// For the margin: one in three as for the pick; the others with an accepted card, a state of its size and a sound list.
+    pub fn of_margin(random: &mut Random) -> Input {
+        let any = Input::random(random);
+        if random.once_in(3) {
+            return any;
+        }
+        let card = margin_values(random);
+        let times = margin_times(card.width, random);
+        Input {
+            card: encode(&card),
+            state: sound_state(&card, random),
+            shovels: numbers(times.len(), random),
+            times,
+            ..any
         }
     }
 }
@@ -104,6 +122,17 @@ fn slow_values(words: u8, random: &mut Random) -> Card {
         filter: 1,
         sum_term: 0,
         ..accepted_values(words, 6, random)
+    }
+}
+
+/// Values that the check accepts, of 2 to 4 bits, any width or 32, or those of a slow card.
+fn margin_values(random: &mut Random) -> Card {
+    let words = random.within(2, 4) as u8;
+    match random.below(5) {
+        0 | 1 => accepted_values(words, random.within(2, 4) as u8, random),
+        2 => accepted_values(words, random.within(2, 32) as u8, random),
+        3 => accepted_values(words, 32, random),
+        _ => slow_values(words, random),
     }
 }
 
@@ -187,6 +216,15 @@ fn state_words(card: &Card, random: &mut Random) -> Vec<u32> {
     state
 }
 
+/// A state of an accepted card, also one whose next word is large.
+fn sound_state(card: &Card, random: &mut Random) -> Vec<u32> {
+    if card.words == 4 && random.once_in(4) {
+        return before_large_word(card, random);
+    }
+    let mut word = || random.word() as u32 & mask(card.width);
+    (0..card.words).map(|_| word()).collect()
+}
+
 /// A state of an accepted card of four words whose next word is one of the 64 largest, so that wide cards have words passed over too. Either filter adds the last state word.
 fn before_large_word(card: &Card, random: &mut Random) -> Vec<u32> {
     let largest = mask(card.width);
@@ -258,6 +296,73 @@ fn tied_times(width: u8, random: &mut Random) -> Vec<u32> {
     times
 }
 
+/// Times for the margin: far apart, many of them the least, of lists that are often firm, or mostly near each other.
+fn margin_times(width: u8, random: &mut Random) -> Vec<u32> {
+    match random.below(8) {
+        0 => far_times(random),
+        1 => tied_times(width, random),
+        2 => firm_times(width, random),
+        _ => near_times(width, random),
+    }
+}
+
+/// Times within few seconds of each other: half of the lists have them below 200, the others up to the greatest or
+/// anywhere. In half of the lists all but three at most are the same: with few bits they may be too many equals.
+fn near_times(width: u8, random: &mut Random) -> Vec<u32> {
+    let count = match random.below(3) {
+        0 => random.within(2, 6),
+        1 => (1 << width.min(5)) + random.below(4) - 1,
+        _ => random.within(1, 64),
+    };
+    // of long lists the second program tries many changes for each second
+    let spread = [2, 4, 16, 1600 / count.max(16)][random.below(4)];
+    let mut later = vec![random.below(spread); count];
+    let others = [random.below(4), count][random.below(2)];
+    for time in later.iter_mut().take(others) {
+        *time = random.below(spread);
+    }
+    random.shuffle(&mut later);
+    let last = u32::MAX as usize + 1 - spread;
+    let base = [0, random.below(100), random.below(last), last][random.below(4)];
+    later.iter().map(|later| (base + later) as u32).collect()
+}
+
+/// Times far apart: a few of any size, or up to 64 in large steps, so that the second program has not too many differences
+/// to try.
+fn far_times(random: &mut Random) -> Vec<u32> {
+    let (count, step, steps) = match random.below(2) {
+        0 => (random.within(2, 6), 1, 1 << 32),
+        _ => (random.within(2, 64), random.below(1 << 25), 1 << 7),
+    };
+    let mut time = || (random.below(steps) * step) as u32;
+    (0..count).map(|_| time()).collect()
+}
+
+/// Times of which one is 0, and the others are the greatest, or small and, with few bits, too many equals.
+fn firm_times(width: u8, random: &mut Random) -> Vec<u32> {
+    let (count, others) = match random.below(2) {
+        0 => (random.within(2, 5), u32::MAX),
+        _ => (
+            (1 << width.min(5)) + random.within(2, 4),
+            random.within(1, 20) as u32,
+        ),
+    };
+    let mut times = vec![others; count];
+    times[random.below(count)] = 0;
+    times
+}
+
+/// Different shovel numbers, in any order.
+fn numbers(count: usize, random: &mut Random) -> Vec<u16> {
+    let first = random.word() as u16;
+    let stride = random.word() as u16 | 1; // odd, so that no number stands twice up to 65,536
+    let mut shovels: Vec<u16> = (0..count)
+        .map(|i| first.wrapping_add((i as u16).wrapping_mul(stride)))
+        .collect();
+    random.shuffle(&mut shovels);
+    shovels
+}
+
 /// Shovels and times: repeated numbers; lists of different lengths.
 fn lists(width: u8, random: &mut Random) -> (Vec<u16>, Vec<u32>) {
     let mut times = match random.below(2) {
@@ -265,12 +370,7 @@ fn lists(width: u8, random: &mut Random) -> (Vec<u16>, Vec<u32>) {
         _ => tied_times(width, random),
     };
     let count = times.len();
-    let first = random.word() as u16;
-    let stride = random.word() as u16 | 1; // odd, so that no number stands twice up to 65,536
-    let mut shovels: Vec<u16> = (0..count)
-        .map(|i| first.wrapping_add((i as u16).wrapping_mul(stride)))
-        .collect();
-    random.shuffle(&mut shovels);
+    let mut shovels = numbers(count, random);
     if count > 1 && random.once_in(12) {
         shovels[random.below(count)] = shovels[random.below(count)];
     }

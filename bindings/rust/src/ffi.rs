@@ -36,6 +36,17 @@ pub struct Choice {
 }
 
 #[repr(C)]
+pub struct MarginAnswer {
+    pub seconds: u32,
+    pub changed: u16,
+    pub shovel: u16,
+    pub raised: u8,
+    pub ties: u8,
+    pub taken: u8,
+    pub refusal: u8,
+}
+
+#[repr(C)]
 pub struct Written {
     pub length: usize,
     pub refusal: u8,
@@ -69,6 +80,16 @@ extern "C" {
         times: *const u32,
         time_count: usize,
     ) -> Choice;
+    pub fn tiedraw_margin(
+        card: *const u8,
+        card_len: usize,
+        state: *const u32,
+        words: usize,
+        shovels: *const u16,
+        shovel_count: usize,
+        times: *const u32,
+        time_count: usize,
+    ) -> MarginAnswer;
     pub fn tiedraw_write(
         words: u8,
         width: u8,

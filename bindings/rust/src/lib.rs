@@ -1,8 +1,9 @@
 //! Tie draws for mine dispatch, proved: a safe wrapper over `include/tiedraw.h`, on the standard library alone.
 //!
 //! [`Generator`] holds an accepted card and a state of its size, so that its draws, fills and steps can't be refused; a
-//! list of [`Shovel`]s can't have more numbers than times. The functions of this module are the library's own, on
-//! slices, for callers who keep card and state themselves.
+//! list of [`Shovel`]s can't have more numbers than times. [`Generator::margin`] tells how near a pick would be, and
+//! moves nothing. The functions of this module are the library's own, on slices, for callers who keep card and state
+//! themselves.
 //!
 //! Every call panics where the library has another major or minor version than this binding ([`check_version`]).
 //!
@@ -48,6 +49,19 @@ pub struct Choice {
     pub ties: u8,
     /// how many words were taken, 0 where one alone had the least time; as many steps back take the pick back
     pub taken: u8,
+}
+
+/// What a margin answers: the smallest change of one shovel's time that would send the truck elsewhere.
+#[derive(Clone, Copy, Debug, PartialEq, Eq)]
+pub struct Margin {
+    /// the number of the shovel whose time is changed
+    pub changed: u16,
+    /// whether its time is raised; otherwise it is lowered
+    pub raised: bool,
+    /// by how much, 1 at least
+    pub seconds: u32,
+    /// what the pick would answer with the changed time
+    pub choice: Choice,
 }
 
 /// The eight values of a card; by default TSC-1's.
@@ -198,6 +212,54 @@ pub fn pick(
     Refusal::result(answer.refusal).map(|()| choice)
 }
 
+/// How near the pick was: the smallest change of one shovel's time that would send the truck elsewhere from this state,
+/// which is not moved. Times stay within 0 to 4294967295. Of equally small changes the one of the lower shovel number is
+/// told, then lowered before raised; a change that the pick would refuse does not count. Or what the pick refuses, 1 to
+/// 15 or 18; or 19 where no change counts.
+///
+/// ```
+/// let program = [0x27, 2, 2, 1, 2, 3, 0, 1, 0, 0, 0];
+/// let near = tiedraw::margin(&program, &[2, 3], &[4, 7], &[300, 305])?;
+/// assert_eq!((near.changed, near.raised, near.seconds), (4, true, 5));
+/// let changed = tiedraw::pick(&program, &mut [2, 3], &[4, 7], &[305, 305])?;
+/// assert_eq!(changed, near.choice);
+/// assert_eq!((changed.shovel, changed.ties, changed.taken), (7, 2, 1));
+/// let alone = tiedraw::margin(&program, &[2, 3], &[4], &[300]);
+/// assert_eq!(alone, Err(tiedraw::Refusal::NoSuchChange));
+/// # Ok::<(), tiedraw::Refusal>(())
+/// ```
+pub fn margin(
+    card: &[u8],
+    state: &[u32],
+    shovels: &[u16],
+    times: &[u32],
+) -> Result<Margin, Refusal> {
+    version::ensure();
+    let answer = unsafe {
+        ffi::tiedraw_margin(
+            card.as_ptr(),
+            card.len(),
+            state.as_ptr(),
+            state.len(),
+            shovels.as_ptr(),
+            shovels.len(),
+            times.as_ptr(),
+            times.len(),
+        )
+    };
+    let margin = Margin {
+        changed: answer.changed,
+        raised: answer.raised == 1,
+        seconds: answer.seconds,
+        choice: Choice {
+            shovel: answer.shovel,
+            ties: answer.ties,
+            taken: answer.taken,
+        },
+    };
+    Refusal::result(answer.refusal).map(|()| margin)
+}
+
 /// Writes a card at the front of the page, and answers its length.
 pub fn write(values: &Values, page: &mut [u8]) -> Result<usize, Refusal> {
     version::ensure();
@@ -281,6 +343,12 @@ pub struct Shovel {
     pub time: u32,
 }
 
+/// Numbers and times, as the calls on slices take them.
+fn lists(shovels: &[Shovel]) -> (Vec<u16>, Vec<u32>) {
+    let pair = |shovel: &Shovel| (shovel.number, shovel.time);
+    shovels.iter().map(pair).unzip()
+}
+
 /// An accepted card and a state of its size.
 #[derive(Clone, Debug, PartialEq, Eq)]
 pub struct Generator {
@@ -358,8 +426,28 @@ impl Generator {
     /// # Ok::<(), tiedraw::Refusal>(())
     /// ```
     pub fn pick(&mut self, shovels: &[Shovel]) -> Result<Choice, Refusal> {
-        let numbers: Vec<u16> = shovels.iter().map(|shovel| shovel.number).collect();
-        let times: Vec<u32> = shovels.iter().map(|shovel| shovel.time).collect();
+        let (numbers, times) = lists(shovels);
         pick(self.card.bytes(), &mut self.state, &numbers, &times)
+    }
+
+    /// How near the pick of this list would be, as [`margin()`] says; or refusal 13 to 15, 18 or 19. The state is not
+    /// moved: ask before the pick, since a tie moves it.
+    ///
+    /// ```
+    /// use tiedraw::{Card, Generator, Shovel};
+    /// let card = Card::new(&[0x27, 2, 2, 1, 2, 3, 0, 1, 0, 0, 0])?;
+    /// let mut server = Generator::new(card, &[0, 0])?;
+    /// let mut list = [Shovel { number: 7, time: 305 }, Shovel { number: 4, time: 300 }];
+    /// let near = server.margin(&list)?;
+    /// assert_eq!((near.changed, near.raised, near.seconds), (4, true, 6));
+    /// assert_eq!(server.pick(&list)?.shovel, 4);
+    /// list[1].time += near.seconds;
+    /// assert_eq!(server.pick(&list)?, near.choice);
+    /// assert_eq!(near.choice.shovel, 7);
+    /// # Ok::<(), tiedraw::Refusal>(())
+    /// ```
+    pub fn margin(&self, shovels: &[Shovel]) -> Result<Margin, Refusal> {
+        let (numbers, times) = lists(shovels);
+        margin(self.card.bytes(), &self.state, &numbers, &times)
     }
 }

@@ -41,6 +41,7 @@ refusals! {
     (BufferTooSmall, "small page", "the page has fewer bytes than the card needs"),
     (SpanOutOfBounds, "span", "the place is past the strip's end, or the count does not fit behind it"),
     (TooManyTies, "too many equals", "more shovels have the least time than there are words, 2^n"),
+    (NoSuchChange, "firm", "no change of one shovel's time sends the truck elsewhere"),
 }
 
 impl Refusal {

@@ -1,15 +1,19 @@
 //! How long the library's calls take, beside Rust on the same machine in the same run. Prints nanoseconds a call, or a word of a fill, and ratios.
 
-use harness::by_hand::{fill_by_columns, fill_by_masks, Fill, Setup, State};
+use harness::by_hand::{self, fill_by_columns, fill_by_masks, Fill, Setup, State};
 use harness::jitter::steady;
 use harness::timing::{measure, within, Subject};
 use reference::{accept, Card};
 use std::array::from_fn;
 use std::hint::black_box;
 use std::process::exit;
+use tiedraw::Shovel;
 
 const STEPS: usize = 10_000_000;
 const CALLS: usize = 1_000_000;
+/// margins of 5 shovels, and of 64
+const MARGINS: usize = 100_000;
+const LONG_MARGINS: usize = 10_000;
 /// the words of a fill
 const SPAN: usize = 4096;
 
@@ -87,14 +91,46 @@ fn step_back(name: &str, card: &'static [u8]) -> Subject {
     })
 }
 
-fn pick(name: &str, card: &'static [u8], count: u16, ties: u16) -> Subject {
+/// Shovels in descending order, and their times.
+struct List {
+    shovels: Vec<u16>,
+    times: Vec<u32>,
+}
+
+impl List {
+    fn new(count: u16, time: impl Fn(u32) -> u32) -> List {
+        List {
+            shovels: (0..count).rev().collect(),
+            times: (0..count.into()).map(time).collect(),
+        }
+    }
+
+    /// The first ones tie; the others are 100 seconds further.
+    fn tied(count: u16, ties: u32) -> List {
+        List::new(count, |place| if place < ties { 300 } else { 400 })
+    }
+
+    fn pairs(&self) -> Vec<Shovel> {
+        let pairs = self.shovels.iter().zip(&self.times);
+        pairs
+            .map(|(&number, &time)| Shovel { number, time })
+            .collect()
+    }
+}
+
+fn pick(name: &str, card: &'static [u8], list: List) -> Subject {
     let mut state = [1, 2, 3, 4];
-    let shovels: Vec<u16> = (0..count).rev().collect();
-    let times: Vec<u32> = (0..count)
-        .map(|i| if i < ties { 300 } else { 400 })
-        .collect();
     Subject::call(name, CALLS, move || {
-        black_box(tiedraw::pick(card, &mut state, black_box(&shovels), &times).unwrap());
+        black_box(tiedraw::pick(card, &mut state, black_box(&list.shovels), &list.times).unwrap());
+    })
+}
+
+/// On P1, each from another state, since a margin moves none.
+fn margin(name: &str, calls: usize, list: List) -> Subject {
+    let mut state = [1, 2, 3, 4];
+    Subject::call(name, calls, move || {
+        state[0] += 1;
+        black_box(tiedraw::margin(P1, &state, black_box(&list.shovels), &list.times).unwrap());
     })
 }
 
@@ -111,12 +147,22 @@ fn second_program(name: &str, bytes: &[u8], steps: usize) -> Subject {
 }
 
 /// Rust's fill, what depends on the card alone worked out beforehand.
-fn by_hand(name: &str, bytes: &[u8], fill: Fill) -> Subject {
+fn fill_by_hand(name: &str, bytes: &[u8], fill: Fill) -> Subject {
     let card = accept(bytes).unwrap();
     let setup = Setup::new(&card);
     let mut state = start(&card);
     words(name, move |strip| {
         fill(black_box(&setup), &mut state, strip)
+    })
+}
+
+/// Rust's margin on P1, likewise.
+fn margin_by_hand(name: &str, calls: usize, list: List) -> Subject {
+    let setup = Setup::new(&accept(P1).unwrap());
+    let mut state = [1, 2, 3, 4];
+    Subject::call(name, calls, move || {
+        state[0] += 1;
+        black_box(by_hand::margin(&setup, &state, black_box(list.pairs())).unwrap());
     })
 }
 
@@ -133,7 +179,41 @@ fn compare(name: &str, bytes: &[u8]) {
     }
 }
 
+/// Rust's margin is the library's, on P1 and with words of 6 bits.
+fn compare_margins(name: &str, list: &List) {
+    for bytes in [P1, NARROW] {
+        let setup = Setup::new(&accept(bytes).unwrap());
+        let mut state = [1, 2, 3, 4];
+        for _ in 0..100 {
+            let library = tiedraw::margin(bytes, &state, &list.shovels, &list.times);
+            let by_hand = by_hand::margin(&setup, &state, list.pairs());
+            assert!(by_hand == library.ok(), "margins differ: {name}");
+            tiedraw::step(bytes, &mut state).unwrap();
+        }
+    }
+}
+
 // ---- What is measured, and the goals.
+
+type Lists<const N: usize> = [(&'static str, fn() -> List); N];
+/// The lists of 5 shovels: a margin is held to the pick from the same list.
+const SHORT: Lists<2> = [
+    ("one shovel of 5 is nearest", || List::tied(5, 1)),
+    ("2 of 5 shovels tie", || List::tied(5, 2)),
+];
+/// Those of 64, and the most microseconds of a margin.
+const LONG: Lists<3> = [
+    ("64 shovels have different times", || {
+        List::new(64, |place| 300 + 10 * (37 * place % 64))
+    }),
+    ("64 of 64 shovels tie", || List::tied(64, 64)),
+    ("one shovel of 64 is nearer by a second", || {
+        List::new(64, |place| 300 + place.min(1))
+    }),
+];
+const MOST_OF_LONG: f64 = 150.0;
+/// so many picks' time, of a margin of 5
+const MOST_OF_SHORT: f64 = 10.0;
 
 /// A ratio of two subjects, by their places, and the most that it may be, where there is a goal.
 struct Ratio {
@@ -147,6 +227,8 @@ struct Ratio {
 struct Bench {
     subjects: Vec<Subject>,
     ratios: Vec<Ratio>,
+    /// places of the margins of 64
+    long_margins: Vec<usize>,
 }
 
 impl Bench {
@@ -173,8 +255,8 @@ impl Bench {
             &format!("fill: a word, of {SPAN} a call, {name}"),
             card,
         ));
-        let masks = self.add(by_hand(&masks, card, fill_by_masks));
-        let columns = self.add(by_hand(&columns, card, fill_by_columns));
+        let masks = self.add(fill_by_hand(&masks, card, fill_by_masks));
+        let columns = self.add(fill_by_hand(&columns, card, fill_by_columns));
         let to = |what: &str| format!("fill on {name} to Rust {what}");
         self.ratio(&to("by minterm masks"), library, masks, Some(1.0));
         self.ratio(&to("column by column"), library, columns, Some(0.25));
@@ -219,11 +301,35 @@ impl Bench {
         }
     }
 
+    /// The margin of a list beside Rust's; gives its place.
+    fn add_margin(&mut self, name: &str, calls: usize, list: fn() -> List) -> usize {
+        let library = self.add(margin(&format!("margin: {name}, P1"), calls, list()));
+        let rust = format!("Rust, {name}, P1: its margin, the card's part worked out");
+        let rust = self.add(margin_by_hand(&rust, calls, list()));
+        self.ratio(&format!("margin to Rust's: {name}"), library, rust, None);
+        library
+    }
+
+    /// The margins, and the picks that those of 5 shovels are held to.
+    fn add_margins(&mut self) {
+        for (name, list) in SHORT {
+            let pick = self.add(pick(&format!("pick: {name}, P1"), P1, list()));
+            let margin = self.add_margin(name, MARGINS, list);
+            let name = format!("margin to the pick: {name}");
+            self.ratio(&name, margin, pick, Some(MOST_OF_SHORT));
+        }
+        for (name, list) in LONG {
+            let margin = self.add_margin(name, LONG_MARGINS, list);
+            self.long_margins.push(margin);
+        }
+    }
+
     fn new() -> Bench {
         let mut bench = Bench::default();
         let places = FILLED.map(|(name, card)| bench.add_fill(name, card));
         let (fill_p1, columns_p1) = places[0];
         bench.add_draw(fill_p1, columns_p1);
+        bench.add_margins();
         bench.subjects.extend(others());
         bench
     }
@@ -239,12 +345,18 @@ fn others() -> Vec<Subject> {
         step("step, P2", P2),
         step_back("step_back: read, check and step back, P1", P1),
         step_back("step_back, P2", P2),
-        pick("pick: one shovel of 5 is nearest, P1", P1, 5, 1),
-        pick("pick: 2 of 5 shovels tie, P1", P1, 5, 2),
-        pick("pick: 6 of 6 shovels tie, P1", P1, 6, 6),
-        pick("pick: one shovel of 64 is nearest, P1", P1, 64, 1),
-        pick("pick: 64 of 64 shovels tie, P1", P1, 64, 64),
-        pick("pick: 33 of 33 shovels tie, 6 bits", NARROW, 33, 33),
+        pick("pick: 6 of 6 shovels tie, P1", P1, List::tied(6, 6)),
+        pick(
+            "pick: one shovel of 64 is nearest, P1",
+            P1,
+            List::tied(64, 1),
+        ),
+        pick("pick: 64 of 64 shovels tie, P1", P1, List::tied(64, 64)),
+        pick(
+            "pick: 33 of 33 shovels tie, 6 bits",
+            NARROW,
+            List::tied(33, 33),
+        ),
         second_program("second program, worst powers", WORST_POWERS, CALLS / 10),
     ]
 }
@@ -263,6 +375,16 @@ fn holds(ratio: &Ratio, best: &[f64]) -> bool {
     }
 }
 
+/// Whether the margins of 64 shovels are within their goal.
+fn quick_margins(bench: &Bench, best: &[f64]) -> bool {
+    let quick = |&place: &usize| {
+        let name = format!("{}, in microseconds", bench.subjects[place].name);
+        within(&name, best[place] / 1000.0, MOST_OF_LONG)
+    };
+    let held: Vec<bool> = bench.long_margins.iter().map(quick).collect();
+    !held.contains(&false)
+}
+
 /// Whether the step, and a fill of one word, take as long whatever the selector is.
 fn steady_calls() -> bool {
     let card = accept(P1).unwrap();
@@ -276,6 +398,8 @@ fn steady_calls() -> bool {
 
 fn main() {
     FILLED.iter().for_each(|(name, card)| compare(name, card));
+    let lists = SHORT.iter().chain(&LONG);
+    lists.for_each(|(name, list)| compare_margins(name, &list()));
     let mut bench = Bench::new();
     let best = measure(&mut bench.subjects);
     for (subject, best) in bench.subjects.iter().zip(&best) {
@@ -286,6 +410,7 @@ fn main() {
         .iter()
         .map(|ratio| holds(ratio, &best))
         .collect();
+    let quick = quick_margins(&bench, &best);
     let steady = steady_calls();
-    exit(i32::from(held.contains(&false) || !steady));
+    exit(i32::from(held.contains(&false) || !quick || !steady));
 }

@@ -1,6 +1,6 @@
 //! The library against the second program on random inputs, and the check against walks counted out. `difftest SEED INPUTS`.
 
-use harness::calls::{compare, Told, CALLS};
+use harness::calls::{compare, compare_margin, Told, ToldMargin, CALLS, MARGIN, MARGINS};
 use harness::hex;
 use harness::inputs::{sound_form, Input};
 use harness::random::Random;
@@ -11,13 +11,15 @@ use tiedraw::MOST_TAKEN;
 
 /// inputs, or cards, of one random stream
 const BLOCK: usize = 1000;
+/// inputs of the margin beside each block: the second program takes long for them
+const OF_MARGIN: usize = 125;
 /// cards of each size whose walks are counted out
 const CARDS: usize = 3000;
 /// the most bits of a state for that
 const MOST_BITS: u8 = 12;
 
 /// the last refusal's number
-const REFUSALS: usize = 18;
+const REFUSALS: usize = 19;
 
 /// The refusals that each call has, 0 for none: all of them must come up.
 const TELLS: [&[usize]; CALLS.len()] = [
@@ -29,15 +31,18 @@ const TELLS: [&[usize]; CALLS.len()] = [
     &[0, 1, 2, 3, 4, 5, 6, 7, 8, 9, 10, 11, 12, 13, 14, 15, 18],
     &[0, 2, 6, 7, 8, 9, 16],
     &[0, 1, 2, 3, 4, 5, 6],
+    &[0, 1, 2, 3, 4, 5, 6, 7, 8, 9, 10, 11, 12, 13, 14, 15, 18, 19],
 ];
 
-/// How often each call told each refusal, how many picks passed over how many words, and how many words were filled in.
+/// How often each call told each refusal, how many picks passed over how many words, how many words were filled in, and how
+/// many margins there were of each kind.
 #[derive(Default)]
 struct Tally {
     told: [[usize; REFUSALS + 1]; CALLS.len()],
     /// without ties, then with 0 to MOST_TAKEN words passed over
     picks: [usize; MOST_TAKEN + 2],
     filled: usize,
+    margins: [usize; MARGINS.len()],
 }
 
 /// Adds counts to sums, one by one.
@@ -54,9 +59,27 @@ impl Tally {
         }
         add_up(&mut self.picks, &other.picks);
         self.filled += other.filled;
+        add_up(&mut self.margins, &other.margins);
     }
 
-    /// What never came up: a refusal of a call, or a number of words passed over.
+    fn count(&mut self, told: Told) {
+        for (call, refusal) in told.refusals.into_iter().enumerate() {
+            self.told[call][usize::from(refusal)] += 1;
+        }
+        if let Some(column) = told.pick {
+            self.picks[column] += 1;
+        }
+        self.filled += told.filled;
+    }
+
+    fn count_margin(&mut self, told: ToldMargin) {
+        self.told[MARGIN][usize::from(told.refusal)] += 1;
+        if let Some(column) = told.column {
+            self.margins[column] += 1;
+        }
+    }
+
+    /// What never came up: a refusal of a call, a number of words passed over, or a kind of margin.
     fn missing(&self) -> Option<String> {
         let never = |call: usize| TELLS[call].iter().find(move |&&r| self.told[call][r] == 0);
         let untold =
@@ -66,7 +89,10 @@ impl Tally {
             0 => "every pick had ties".to_string(),
             _ => format!("no pick passed over {} words", column - 1),
         });
-        (0..CALLS.len()).find_map(untold).or(no_pick)
+        let empty = self.margins.iter().position(|&margins| margins == 0);
+        let no_margin = empty.map(|column| format!("no margin {}", MARGINS[column]));
+        let missing = (0..CALLS.len()).find_map(untold);
+        missing.or(no_pick).or(no_margin)
     }
 
     /// How many words all picks passed over.
@@ -106,22 +132,19 @@ fn run_blocks<T: Send>(blocks: usize, work: impl Fn(usize) -> Result<T, String> 
 }
 
 /// A comparison that prints the input also where one side breaks down.
-fn compare_or_tell(input: &Input) -> Result<Told, String> {
-    catch_unwind(|| compare(input)).unwrap_or_else(|_| Err(format!("broken down on {input:x?}")))
+fn told<T>(input: Input, compare: fn(&Input) -> Result<T, String>) -> Result<T, String> {
+    catch_unwind(|| compare(&input)).unwrap_or_else(|_| Err(format!("broken down on {input:x?}")))
 }
 
 fn compare_block(seed: u64, block: usize) -> Result<Tally, String> {
     let mut random = Random::new(seed, block as u64);
     let mut tally = Tally::default();
     for _ in 0..BLOCK {
-        let told = compare_or_tell(&Input::random(&mut random))?;
-        for (call, refusal) in told.refusals.into_iter().enumerate() {
-            tally.told[call][usize::from(refusal)] += 1;
-        }
-        if let Some(column) = told.pick {
-            tally.picks[column] += 1;
-        }
-        tally.filled += told.filled;
+        tally.count(told(Input::random(&mut random), compare)?);
+    }
+    let mut random = Random::new(seed ^ 1 << 56, block as u64);
+    for _ in 0..OF_MARGIN {
+        tally.count_margin(told(Input::of_margin(&mut random), compare_margin)?);
     }
     Ok(tally)
 }
@@ -139,9 +162,9 @@ fn compare_inputs(seed: u64, inputs: usize) {
         total.add(&tally);
     }
     println!(
-        "{} inputs, each through {} calls: no difference; {} words filled in",
+        "{} inputs, each through {MARGIN} calls, and {} of the margin: no difference; {} words filled in",
         blocks * BLOCK,
-        CALLS.len(),
+        blocks * OF_MARGIN,
         total.filled
     );
     println!("answers, then refusals 1 to {REFUSALS}:");
@@ -153,6 +176,8 @@ fn compare_inputs(seed: u64, inputs: usize) {
         total.passed_over()
     );
     println!("{:>9} {}", "", columns(&total.picks));
+    println!("margins lowered, raised, and firm of several shovels; then those with times below 200 and every amount tried:");
+    println!("{:>9} {}", "", columns(&total.margins));
     if let Some(missing) = total.missing() {
         println!("{missing}: too few inputs");
         exit(1);
