@@ -1,9 +1,11 @@
 -- The calls' answers as C has them (include/tiedraw.h): the values and the refusal, 0 for none. On a refusal the values are 0.
+use mathlib.Core.Path.{_≡_}
 use mathlib.Core.Bool.{Bool, cond}
 use mathlib.Core.List.{List}
 use Prim.Native.Nat.{ℕ, _^_}
 use lib.Dec.{ltb}
 use lib.ListN.{length}
+use Rattle.cycle.specs.Notation.{one}
 use Rattle.tsc.specs.declared.Card.{Card}
 use Rattle.tsc.specs.Constants.{mostWords}
 use Rattle.card_format.specs.declared.Reading.{Reading}
@@ -16,8 +18,12 @@ use Rattle.draws.specs.declared.Draw.{Draw}
 use Rattle.draws.specs.declared.Draw.the-variants as draw
 use Rattle.picks.specs.declared.Pick.{Pick}
 use Rattle.picks.specs.declared.Pick.the-variants as pick
+use Rattle.margins.specs.declared.Margin.{Margin}
+use Rattle.margins.specs.declared.Margin.the-variants as margin
+use Rattle.margins.specs.Margins.{IsMargin}
 use Rattle.c_answers.specs.declared.DrawnWord.{DrawnWord}
 use Rattle.c_answers.specs.declared.Choice.{Choice}
+use Rattle.c_answers.specs.declared.MarginAnswer.{MarginAnswer}
 use Rattle.c_answers.specs.declared.WrittenLength.{WrittenLength}
 use Rattle.c_answers.specs.declared.CardValues.{CardValues}
 use Rattle.c_answers.specs.declared.CardReading.{CardReading}
@@ -31,6 +37,23 @@ drawn (draw.Refused r) = record { word = 0; refusal = r }
 abbrev pub choice : Pick → Choice
 choice (pick.Shovel s k t) = record { shovel = s; ties = k; taken = t; refusal = 0 }
 choice (pick.Refused r) = record { shovel = 0; ties = 0; taken = 0; refusal = r }
+
+-- a margin's answer: raised is 1, and lowered 0
+abbrev pub marginAnswer : Margin → MarginAnswer
+marginAnswer (margin.Least n) = record {
+  seconds = n .seconds;
+  changed = n .changed;
+  shovel = n .shovel;
+  raised = one (n .raised);
+  ties = n .ties;
+  taken = n .taken;
+  refusal = 0;
+}
+marginAnswer (margin.Refused r) = record { seconds = 0; changed = 0; shovel = 0; raised = 0; ties = 0; taken = 0; refusal = r }
+
+-- what is answered to these bytes, words and lists
+abbrev pub IsMarginAnswer : List ℕ → List ℕ → List ℕ → List ℕ → MarginAnswer → Type 0
+IsMarginAnswer bytes xs shovels times r = (m : Margin) × IsMargin bytes xs shovels times m × (r ≡ marginAnswer m)
 
 -- the writer's answer
 abbrev pub writtenLength : Written → WrittenLength

@@ -17,6 +17,18 @@ pub struct Choice {
     pub refusal: u8,
 }
 
+// What margin answers, tiedraw_margin_answer: 0, the change and the changed pick; or the refusal and zeros.
+#[repr(C)]
+pub struct MarginAnswer {
+    pub seconds: u32,
+    pub changed: u16,
+    pub shovel: u16,
+    pub raised: u8,
+    pub ties: u8,
+    pub taken: u8,
+    pub refusal: u8,
+}
+
 // What the writer answers, tiedraw_written: 0 and the length, or the refusal and 0.
 #[repr(C)]
 pub struct WrittenLength {

@@ -8,11 +8,12 @@ ghost use Rattle.card_format.specs.Verdict.{verdict, ZeroIffCovers};
 ghost use Rattle.draws.specs.Calls.{refusalFor, stepped, steppedBack, drawing, OnlyBefore};
 ghost use Rattle.fills.specs.Fills.{fillRefusal, filled, filledState};
 ghost use Rattle.picks.specs.Picks.{picking, picked};
-ghost use Rattle.c_answers.specs.Answers.{drawn, choice, readCard, given, writtenFrom, pageFrom};
+ghost use Rattle.c_answers.specs.Answers.{drawn, choice, IsMarginAnswer, readCard, given, writtenFrom, pageFrom};
 ghost use Rattle.version.specs.Version.{versionNumber};
 use c_answers::CardReading;
 use c_answers::Choice;
 use c_answers::DrawnWord;
+use c_answers::MarginAnswer;
 use c_answers::WrittenLength;
 use c_structs::answer;
 use card::check;
@@ -94,7 +95,7 @@ pub extern "C" fn tiedraw_fill(
     fill::call::fill(card, state, strip, place, count)
 }
 
-// The chosen shovel and the number of ties, or refusal 1 to 15.
+// The chosen shovel, the number of ties and how many words were taken, or refusal 1 to 15 or 18.
 #[no_mangle]
 pub extern "C" fn tiedraw_pick(
     card: &[u8],
@@ -106,6 +107,19 @@ pub extern "C" fn tiedraw_pick(
     ensures after { λ r. ⌜ now (state .exit) ≡ picked (now (card .entry)) (now (state .entry)) (now (shovels .entry)) (now (times .entry)) ⌝ }
 {
     answer::choice_of(pick::call::pick(card, state, shovels, times))
+}
+
+// The least change of one time that sends the truck elsewhere, and the changed pick; or refusal 1 to 15, 18 or 19.
+#[no_mangle]
+pub extern "C" fn tiedraw_margin(
+    card: &[u8],
+    state: &[u32],
+    shovels: &[u16],
+    times: &[u32],
+) -> MarginAnswer
+    ensures { λ r. ⌜ IsMarginAnswer (now (card .entry)) (now (state .entry)) (now (shovels .entry)) (now (times .entry)) r ⌝ }
+{
+    answer::margin_of(margin::call::margin(card, state, shovels, times))
 }
 
 // The length of the card written, or refusal 2, 6 to 9 or 16. A table longer than the array is refused by 2, and a shorter one counts as followed by zeros.
