@@ -14,6 +14,7 @@ use Rattle.tsc.specs.Word.{orbitWords}
 use Rattle.refusals.specs.Refusals.{noSuchChange}
 use Rattle.card_format.specs.Reading.{cardOf}
 use Rattle.stepping.specs.State.{used}
+use Rattle.draws.specs.declared.Opened.{Opened}
 use Rattle.draws.proofs.Called.{ready, of-values}
 use Rattle.ties.specs.Ties.{ties, TieAt, hasRank, chosen}
 use Rattle.ties.proofs.Rank.{tie-of-rank}
@@ -32,8 +33,8 @@ use Rattle.picks.specs.declared.Pick.the-variants.{Shovel}
 use Rattle.picks.specs.Picks.{picking}
 use Rattle.picks.proofs.Picking.{pick-passed}
 use Rattle.picks.proofs.Choice.{ties-from-one, drawn-rank-lt}
-use Rattle.pick.specs.declared.begin.Begun.{Begun}
-use Rattle.pick.proofs.Begun.{Free}
+use Rattle.pick.specs.declared.listing.Listing.{Listing}
+use Rattle.pick.proofs.Passed.{Free}
 use Rattle.margins.specs.declared.Nearest.{Nearest}
 use Rattle.margins.specs.declared.Margin.the-variants.{Least, Refused}
 use Rattle.margins.specs.Margins.{Elsewhere, Tells, IsMargin}
@@ -41,12 +42,13 @@ use Rattle.margins.proofs.Changed.{rank-at, at-rank, changed-pick, elsewhere-te
 use Rattle.margins.proofs.Answers.{margin-passed}
 
 -- what the search is given: the width and the words of the state, and the first place of the rank drawn
-pub record Draws (shovels times : List ℕ) (b : Begun) (known : Known) : Type 0 where
-  pub width : known .width ≡ b .opened .card .width
-  pub words : known .words ≡ orbitWords (b .opened .card) (used (b .opened .card) (b .opened .state)) mostTaken
-  pub chosen : known .chosen ≡ first (length times) (hasRank shovels times (ranked (known .width) (known .words) (b .ties) .rank))
+pub record Draws (shovels times : List ℕ) (o : Opened) (l : Listing) (known : Known) : Type 0 where
+  pub width : known .width ≡ o .card .width
+  pub words : known .words ≡ orbitWords (o .card) (used (o .card) (o .state)) mostTaken
+  pub chosen : known .chosen ≡ first (length times) (hasRank shovels times (ranked (known .width) (known .words) (l .ties) .rank))
 
-module _ (bytes xs shovels times : List ℕ) (b : Begun) (f : Free bytes xs shovels times b) (known : Known) (d : Draws shovels times b known) where
+module _ (bytes xs shovels times : List ℕ) (o : Opened) (l : Listing) (f : Free bytes xs shovels times o l) (known : Known)
+    (d : Draws shovels times o l known) where
   abbrev card : Card
   card = cardOf bytes
 

@@ -5,21 +5,24 @@ use super::chosen;
 use candidates::Best;
 use candidates::search;
 use margins::Margin;
-use pick::begin;
+use pick::listing;
 
 // The least change of one shovel's time that sends the truck elsewhere, with the changed pick. Or the first refusal of 1 to 15 and 18 that applies to the pick,
 // or 19 where no change does.
 pub fn margin(card: &[u8], state: &[u32], shovels: &[u16], times: &[u32]) -> Margin
     ensures { λ r. ⌜ IsMargin (now (card .entry)) (now (state .entry)) (now (shovels .entry)) (now (times .entry)) r ⌝ }
 {
-    let begun = begin::begin(card, state, shovels, times);
+    let begun = generator::call::open(card, state);
     if begun.refusal != 0 {
         return Margin::Refused(begun.refusal);
     }
-    let opened = begun.opened;
-    let values = opened.card;
-    let held = opened.state;
-    let known = chosen::known_of(values, held, shovels, times, begun.least, begun.ties);
+    let values = begun.card;
+    let found = listing::list_ties(values.width as u32, shovels, times);
+    if found.refusal != 0 {
+        return Margin::Refused(found.refusal);
+    }
+    let held = begun.state;
+    let known = chosen::known_of(values, held, shovels, times, found.least, found.ties);
     let best = search::least_change(known, shovels, times);
     match best {
         Best::Nothing => Margin::Refused(refusals::NO_SUCH_CHANGE),

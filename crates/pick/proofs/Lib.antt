@@ -1,2 +1,2 @@
--- Laws of what a pick begins with.
-pub mod Begun
+-- What is proved of picks by value.
+pub mod Passed

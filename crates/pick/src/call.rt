@@ -1,7 +1,8 @@
 // The pick on lent slices: any bytes as a card, any words as a state, any numbers and times. A refusal leaves the state as lent.
 ghost use mathlib.Core.Path.{_≡_};
 ghost use Rattle.picks.specs.Picks.{picking, picked};
-use super::begin;
+use super::listing;
+use generator::call;
 use picks::Pick;
 use sample::draw;
 use state_words::lent;
@@ -12,16 +13,18 @@ pub fn pick(card: &[u8], state: &mut [u32], shovels: &[u16], times: &[u32]) -> P
     ensures answer { λ r. ⌜ r ≡ picking (now (card .entry)) (now (state .entry)) (now (shovels .entry)) (now (times .entry)) ⌝ }
     ensures after { λ r. ⌜ now (state .exit) ≡ picked (now (card .entry)) (now (state .entry)) (now (shovels .entry)) (now (times .entry)) ⌝ }
 {
-    let begun = begin::begin(card, state, shovels, times);
+    let begun = call::open(card, state);
     if begun.refusal != 0 {
         return Pick::Refused(begun.refusal);
     }
-    let opened = begun.opened;
-    let values = opened.card;
-    let held = opened.state;
-    let k = begun.ties;
-    let drawn = draw::draw_rank(values, held, k as u32);
+    let values = begun.card;
+    let found = listing::list_ties(values.width as u32, shovels, times);
+    if found.refusal != 0 {
+        return Pick::Refused(found.refusal);
+    }
+    let held = begun.state;
+    let drawn = draw::draw_rank(values, held, found.ties as u32);
     lent::store(drawn.state, state);
-    let number = rank::chosen_by(shovels, times, begun.least, drawn.rank as usize);
-    Pick::Shovel(number, k as u8, drawn.taken)
+    let number = rank::chosen_by(shovels, times, found.least, drawn.rank as usize);
+    Pick::Shovel(number, found.ties as u8, drawn.taken)
 }

@@ -1,5 +1,5 @@
 -- What the checks of a pick come to, and its answer and state words then.
-use mathlib.Core.Path.{_≡_, refl, sym, ap, ap₂, _∙_}
+use mathlib.Core.Path.{_≡_, refl, sym, ap, _∙_}
 use mathlib.Core.Logic.{_≢_}
 use mathlib.Core.List.{List, _++_}
 use Prim.Native.Nat.{ℕ, _^_, _≤_, _<_}
@@ -38,15 +38,12 @@ module _ (bytes xs shovels times : List ℕ) where
   unfolding refusalFor pickRefusal
   refusal-later z = sym (first-right (callChecks bytes xs) later z)
 
-  pub told-list : refusalFor bytes xs ≡ 0 → (r : ℕ) → r ≡ firstOf (listChecks shovels times) → r ≢ 0 → r ≡ pickRefusal bytes xs shovels times
-  told-list z r e ne = e ∙ sym (first-left (listChecks shovels times) manyChecks (λ y. ne (e ∙ y))) ∙ refusal-later z
-
-  -- the count of ties as it is looked at
-  pub told-many : {o : Opened} → Clear bytes xs o → firstOf (listChecks shovels times) ≡ 0 → {n k : ℕ} → n ≡ o .card .width → k ≡ ties times
-      → firstOf (tieChecks n k) ≡ pickRefusal bytes xs shovels times
-  told-many c z en ek =
+  -- as it is looked at
+  pub told-later : {o : Opened} → Clear bytes xs o → {n r : ℕ} → n ≡ o .card .width → r ≡ firstOf (listChecks shovels times ++ tieChecks n (ties times))
+      → r ≡ pickRefusal bytes xs shovels times
+  told-later c en er =
       let width = en ∙ ap (λ (card : Card). card .width) (c .card-is) in
-      ap₂ (λ (n k : ℕ). firstOf (tieChecks n k)) width ek ∙ sym (first-right (listChecks shovels times) manyChecks z) ∙ refusal-later (c .none)
+      er ∙ ap (λ (n : ℕ). firstOf (listChecks shovels times ++ tieChecks n (ties times))) width ∙ refusal-later (c .none)
 
   -- no refusal: all of them are passed
   pub pick-passed : pickRefusal bytes xs shovels times ≡ 0 → (refusalFor bytes xs ≡ 0) × Allowed shovels times × (ties times ≤ 2 ^ cardOf bytes .width)

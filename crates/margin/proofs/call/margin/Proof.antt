@@ -1,49 +1,84 @@
-use mathlib.Core.Path.{_≡_, ap, _∙_, subst}
+use mathlib.Core.Path.{_≡_, refl, ap, _∙_, subst}
+use mathlib.Core.Logic.{_≢_}
 use mathlib.Core.Bool.{true}
+use mathlib.Core.List.{List}
+use Prim.Native.Nat.{ℕ}
+use native.Mathlib.Omega.{arith}
 use borrow.Author.Needs.{needs}
 use lib.ListN.{length}
+use Rattle.draws.proofs.Opening.{Clear, begun}
 use Rattle.draws.proofs.Called.{ready}
 use Rattle.candidates.specs.declared.Best.{Best}
 use Rattle.candidates.specs.Best.{elsewhere, BestOf}
-use Rattle.pick.proofs.Begun.{Free, free}
+use Rattle.picks.specs.Picks.{pickRefusal}
+use Rattle.picks.proofs.Picking.{told-call, told-later}
+use Rattle.pick.proofs.Passed.{Free, free}
 use Rattle.margins.specs.declared.Margin.the-variants.{Refused}
+use Rattle.margins.specs.Margins.{IsMargin}
 use Rattle.margins.proofs.Answers.{margin-refused}
 use Rattle.margin.proofs.Found.{Draws, listed, found-nothing, found-counts, found-least}
 use Rattle.margin.proofs.call.margin.Statement.{statement}
 use Rattle.margin.proofs.call.margin.Tie as tie
 
 -- where margin begins, with what it is handed
-abbrev start : tie.After-begin → tie.Start
+abbrev start : tie.After-open → tie.Start
 start c = c .before .before .before .before .before
 
--- past the first test nothing is refused
-unrefused : (c : tie.Else1) → let a = start (c .before .before) .args in Free (a .card .now) (a .state .now) (a .shovels .now) (a .times .now) (c .before .before .begin .result)
-unrefused c = free _ _ _ _ _ (c .before .before .begin .ensures) (c .if1 .left)
+-- past the first test the card and the state are not refused
+clear : (c : tie.Else1) → let o = c .before .before in
+    let a = start o .args in
+    Clear (a .card .now) (a .state .now) (o .«open» .result)
+clear c = begun _ _ _ (c .before .before .«open» .ensures) (c .if1 .left)
+
+-- the second tells of the list, or of nothing
+told : (c : tie.After-list-ties) → let a = start (c .before .before .before .before .before) .args in
+    c .list-ties .result .refusal ≡ pickRefusal (a .card .now) (a .state .now) (a .shovels .now) (a .times .now)
+told c = told-later _ _ _ _ (clear (c .before .before .before)) refl (c .list-ties .ensures .0)
+
+-- past it nothing is refused
+going : (c : tie.Else2) → let l = c .before .before in
+    let o = l .before .before .before .before .before in
+    let a = start o .args in
+    Free (a .card .now) (a .state .now) (a .shovels .now) (a .times .now) (o .«open» .result) (l .list-ties .result)
+going c = let l = c .before .before in free _ _ _ _ _ _ (clear (l .before .before .before)) (told l) (l .list-ties .ensures .1) (c .if2 .left)
+
+refusal : (bytes xs shovels times : List ℕ) (r : ℕ) → r ≢ 0 → r ≡ pickRefusal bytes xs shovels times → IsMargin bytes xs shovels times (Refused r)
+refusal bytes xs shovels times r ne e = margin-refused bytes xs shovels times (λ z. ne (e ∙ z)) _ .1 (ap Refused e)
 
 -- what the search is given
-draws : (c : tie.After-known-of) → let k = c .before .before .before .before .before .before in
-    let a = start k .args in
-    Draws (a .shovels .now) (a .times .now) (k .begin .result) (c .known-of .result)
+draws : (c : tie.After-known-of) → let l = c .before .before .before .before in
+    let o = l .before .before .before .before .before in
+    let a = start o .args in
+    Draws (a .shovels .now) (a .times .now) (o .«open» .result) (l .list-ties .result) (c .known-of .result)
 draws c = let e = c .known-of .ensures in record { width = e .0; words = e .1 .0; chosen = e .1 .1 }
 
 -- what it finds
-best-is : (c : tie.After-least-change) {r : Best} → c .least-change .result ≡ r → let a = start (c .before .before .before .before .before .before .before) .args in
+best-is : (c : tie.After-least-change) {r : Best} → c .least-change .result ≡ r → let a = start (c .before .before .before .before .before .before .before .before .before .before) .args in
     BestOf (a .shovels .now) (a .times .now) (λ ys. elsewhere (c .before .known-of .result) (a .shovels .now) ys ≡ true) (length (a .times .now)) r
 best-is c e =
-    let a = start (c .before .before .before .before .before .before .before) .args in
+    let a = start (c .before .before .before .before .before .before .before .before .before .before) .args in
     subst (BestOf (a .shovels .now) (a .times .now) (λ ys. elsewhere (c .before .known-of .result) (a .shovels .now) ys ≡ true) (length (a .times .now))) e (c .least-change .ensures)
 
-begin-requires : tie.Need-begin-requires
-begin-requires c κs = search needs
+open-requires : tie.Need-open-requires
+open-requires c κs = search needs
 
 returns : tie.Need-returns
-returns c = let e = c .before .before .begin .ensures .0 in margin-refused _ _ _ _ (λ z. c .if1 .taken (e ∙ z)) _ .1 (ap Refused e)
+returns c = let e = c .before .before .«open» .ensures in refusal _ _ _ _ _ (c .if1 .taken) (told-call _ _ _ _ _ e (c .if1 .taken))
+
+cast-list-ties : tie.Need-cast-list-ties
+cast-list-ties c = omega arith
+
+list-ties-requires : tie.Need-list-ties-requires
+list-ties-requires c κs = ready (clear (c .before .before)) .0 .narrow
+
+returns-2 : tie.Need-returns-2
+returns-2 c = refusal _ _ _ _ _ (c .if2 .taken) (told (c .before .before))
 
 known-of-requires : tie.Need-known-of-requires
-known-of-requires c κs = let f = unrefused (c .before .before .before) in let k = ready (f .clear) in (k .0, k .1, f .some, f .few, f .listed)
+known-of-requires c κs = let f = going (c .before) in let k = ready (f .clear) in (k .0, k .1, f .some, f .few, f .listed)
 
 least-change-requires : tie.Need-least-change-requires
-least-change-requires c κs = listed _ _ _ _ _ (unrefused (c .before .before .before .before)) _ (draws c)
+least-change-requires c κs = listed _ _ _ _ _ _ (going (c .before .before)) _ (draws c)
 
 enum-told : tie.Need-enum-told
 enum-told c = search needs
@@ -54,33 +89,36 @@ enum-known-best c = search needs
 told-requires : tie.Need-told-requires
 told-requires c κs =
     let m = c .before .before .before in
-    let f = unrefused (m .before .before .before .before .before) in
-    let l = listed _ _ _ _ _ f _ (draws (m .before)) in
-    let k = found-counts _ _ _ _ _ f _ (draws (m .before)) _ (best-is m (c .before .best .given .1)) in
+    let f = going (m .before .before .before) in
+    let l = listed _ _ _ _ _ _ f _ (draws (m .before)) in
+    let k = found-counts _ _ _ _ _ _ f _ (draws (m .before)) _ (best-is m (c .before .best .given .1)) in
     ((l .width, l .paired, l .few), (k .listed, k .within))
-
-returns-2 : tie.Need-returns-2
-returns-2 c =
-    let m = c .before .before in
-    found-nothing _ _ _ _ _ (unrefused (m .before .before .before .before .before)) _ (draws (m .before)) (best-is m (c .enum-told .given .1))
 
 returns-3 : tie.Need-returns-3
 returns-3 c =
+    let m = c .before .before in
+    found-nothing _ _ _ _ _ _ (going (m .before .before .before)) _ (draws (m .before)) (best-is m (c .enum-told .given .1))
+
+returns-4 : tie.Need-returns-4
+returns-4 c =
     let m = c .before .before .before .before in
     let t = c .told .ensures in
-    found-least _ _ _ _ _ (unrefused (m .before .before .before .before .before)) _ (draws (m .before)) _ (best-is m (c .before .before .best .given .1)) (c .told .result)
+    found-least _ _ _ _ _ _ (going (m .before .before .before)) _ (draws (m .before)) _ (best-is m (c .before .before .best .given .1)) (c .told .result)
     (t .0) (t .1 .0) (t .1 .1 .0) (t .1 .1 .1)
 
 pub margin-spec : {M : Type 1} → statement M
 margin-spec =
     tie.close
     (tie.spec
-    begin-requires
+    open-requires
     returns
+    cast-list-ties
+    list-ties-requires
+    returns-2
     known-of-requires
     least-change-requires
     enum-told
     enum-known-best
     told-requires
-    returns-2
-    returns-3)
+    returns-3
+    returns-4)
