@@ -1,7 +1,7 @@
 -- One change tried, and those of a shovel: what the best change is then.
 use mathlib.Core.Path.{_≡_, refl, sym, ap, _∙_, subst}
 use mathlib.Core.Logic.{_≢_, _⊎_, inl, inr}
-use mathlib.Core.Bool.{Bool, true, false, cond, not, _&&_, and-eq-true-iff, and-false, true≢false}
+use mathlib.Core.Bool.{Bool, true, false, cond, not, _&&_, _||_, and-eq-true-iff, and-false, true≢false}
 use mathlib.Core.List.{List}
 use Prim.Native.Nat.{ℕ, suc, _+_, _-_, _^_, _≤_, _<_}
 use native.Mathlib.Decide.{ℕ-discrete, decLt}
@@ -151,36 +151,51 @@ module _ (known : Known) (shovels times : List ℕ) where
       abbrev step : ℕ → Best → Best
       step v = attempted known shovels times (changeTo times i v)
 
+      abbrev t : ℕ
+      t = getD times i 0
+
       abbrev below : Best
-      below = cond (eqb x 0) best (step (x - 1) best)
+      below = cond (eqb x 0 || ltb t x) best (step (x - 1) best)
 
       abbrev at : Best
       at = step x below
 
       abbrev above : Best
-      above = cond (eqb x mostTime) at (step (x + 1) at)
+      above = cond (eqb x mostTime || ltb x t) at (step (x + 1) at)
 
       -- after a change that may be none
       record Next (r s : Best) : Type 0 where
         sound : Sound shovels times Wanted r → Sound shovels times Wanted s
         still : (e : Change) → LeadsOver shovels times Wanted r e → LeadsOver shovels times Wanted s e
 
-      tried-below : Next best below × (0 < x → LeadsOver shovels times Wanted below (changeTo times i (x - 1)))
-      tried-below = go (ℕ-discrete x 0)
+      tried-below : Next best below × (0 < x → x ≤ t → LeadsOver shovels times Wanted below (changeTo times i (x - 1)))
+      tried-below = go (ℕ-discrete x 0) (decLt t x)
         where
-          go : Dec (x ≡ 0) → Next best below × (0 < x → LeadsOver shovels times Wanted below (changeTo times i (x - 1)))
-          go (yes e) = rw (eq-eqb x 0 e) (record { sound = λ s. s; still = λ e l. l }, λ l. absurd (omega arith))
-          go (no n) = let t = tried-to i (x - 1) li (omega arith) best in rw (ne-eqb x 0 n) (record { sound = t .sound; still = t .still }, λ l. t .leads)
+          none : Next best best
+          none = record { sound = λ s. s; still = λ e l. l }
+
+          go : Dec (x ≡ 0) → Dec (t < x) → Next best below × (0 < x → x ≤ t → LeadsOver shovels times Wanted below (changeTo times i (x - 1)))
+          go (yes e) d = rw (eq-eqb x 0 e) (none, λ l h. absurd (omega arith))
+          go (no n) (yes l) = rw (ne-eqb x 0 n, lt-ltb t x l) (none, λ z h. absurd (omega arith))
+          go (no n) (no d) =
+              let r = tried-to i (x - 1) li (omega arith) best in
+              rw (ne-eqb x 0 n, le-ltb t x (omega arith)) (record { sound = r .sound; still = r .still }, λ l h. r .leads)
 
       tried-at : Tried (changeTo times i x) below at
       tried-at = tried-to i x li lx below
 
-      tried-above : Next at above × (x < mostTime → LeadsOver shovels times Wanted above (changeTo times i (x + 1)))
-      tried-above = go (ℕ-discrete x mostTime)
+      tried-above : Next at above × (x < mostTime → t ≤ x → LeadsOver shovels times Wanted above (changeTo times i (x + 1)))
+      tried-above = go (ℕ-discrete x mostTime) (decLt x t)
         where
-          go : Dec (x ≡ mostTime) → Next at above × (x < mostTime → LeadsOver shovels times Wanted above (changeTo times i (x + 1)))
-          go (yes e) = rw (eq-eqb x mostTime e) (record { sound = λ s. s; still = λ e l. l }, λ l. absurd (omega arith))
-          go (no n) = let t = tried-to i (x + 1) li (omega arith) at in rw (ne-eqb x mostTime n) (record { sound = t .sound; still = t .still }, λ l. t .leads)
+          none : Next at at
+          none = record { sound = λ s. s; still = λ e l. l }
+
+          go : Dec (x ≡ mostTime) → Dec (x < t) → Next at above × (x < mostTime → t ≤ x → LeadsOver shovels times Wanted above (changeTo times i (x + 1)))
+          go (yes e) d = rw (eq-eqb x mostTime e) (none, λ l h. absurd (omega arith))
+          go (no n) (yes l) = rw (ne-eqb x mostTime n, lt-ltb x t l) (none, λ z h. absurd (omega arith))
+          go (no n) (no d) =
+              let r = tried-to i (x + 1) li (omega arith) at in
+              rw (ne-eqb x mostTime n, le-ltb x t (omega arith)) (record { sound = r .sound; still = r .still }, λ l h. r .leads)
 
       own : (e : Change) → e .place ≡ i → LeadsOver shovels times Wanted above e
       own e q = leads-by above e (λ k. go k (nearest shovels times Wanted by-ties not-yet e k x (subst (λ (j : ℕ). LeastOther times j x) (sym q) o)))
@@ -191,8 +206,8 @@ module _ (known : Known) (shovels times : List ℕ) where
 
           go : Counts times Wanted e → Beside shovels times Wanted e x → (c : Change) × LeadsOver shovels times Wanted above c × Counts times Wanted c × NoLater shovels c e
           go k (inl c) = to x c (tried-above .0 .still _ (tried-at .leads))
-          go k (inr (inl c)) = to (x - 1) (c .1) (tried-above .0 .still _ (tried-at .still _ (tried-below .1 (c .0))))
-          go k (inr (inr c)) = to (x + 1) (c .1) (tried-above .1 (c .0))
+          go k (inr (inl c)) = to (x - 1) (c .2) (tried-above .0 .still _ (tried-at .still _ (tried-below .1 (c .0) (rw (ap (λ (j : ℕ). getD times j 0) q) at (c .1)))))
+          go k (inr (inr c)) = to (x + 1) (c .2) (tried-above .1 (c .0) (rw (ap (λ (j : ℕ). getD times j 0) q) at (c .1)))
 
       best-next : BestOf shovels times Wanted (i + 1) above
       best-next =
@@ -206,7 +221,8 @@ module _ (known : Known) (shovels times : List ℕ) where
           go e l (no n) = tried-above .0 .still e (tried-at .still e (tried-below .0 .still e (b .leads e (omega arith))))
 
       -- as they are answered one after the other
-      pub best-found : (r₁ r₂ r₃ : Best) → r₁ ≡ cond (eqb x 0) best (step (x - 1) best) → r₂ ≡ step x r₁ → r₃ ≡ cond (eqb x mostTime) r₂ (step (x + 1) r₂)
+      pub best-found : (r₁ r₂ r₃ : Best) → r₁ ≡ cond (eqb x 0 || ltb t x) best (step (x - 1) best) → r₂ ≡ step x r₁
+          → r₃ ≡ cond (eqb x mostTime || ltb x t) r₂ (step (x + 1) r₂)
           → BestOf shovels times Wanted (i + 1) r₃
       best-found r₁ r₂ r₃ e₁ e₂ e₃ =
-          subst (BestOf shovels times Wanted (i + 1)) (sym (e₃ ∙ ap (λ (b : Best). cond (eqb x mostTime) b (step (x + 1) b)) (e₂ ∙ ap (step x) e₁))) best-next
+          subst (BestOf shovels times Wanted (i + 1)) (sym (e₃ ∙ ap (λ (b : Best). cond (eqb x mostTime || ltb x t) b (step (x + 1) b)) (e₂ ∙ ap (step x) e₁))) best-next

@@ -1,8 +1,8 @@
 // One change tried: it becomes the best one if it is a change, comes before the best so far and sends the truck elsewhere.
 ghost use mathlib.Core.Path.{_≡_};
-ghost use mathlib.Core.Bool.{cond};
+ghost use mathlib.Core.Bool.{cond, _||_};
 ghost use Prim.Native.Nat.{_+_, _-_, _<_};
-ghost use lib.Dec.{eqb};
+ghost use lib.Dec.{eqb, ltb};
 ghost use lib.ListN.{length, getD};
 ghost use Rattle.changes.specs.Change.{mostTime};
 ghost use Rattle.changes.specs.Others.{changeTo};
@@ -34,25 +34,33 @@ pub fn attempt(known: Known, shovels: &[u16], times: &[u32], i: usize, o: Others
     Best::Least(c)
 }
 
-// It becomes a second less than the others' least time, unless that is 0.
+// It becomes a second less than the others' least time, unless that is 0 or more than it.
 pub fn attempt_below(known: Known, shovels: &[u16], times: &[u32], i: usize, o: Others, best: Best) -> Best
     requires { ⌜ Several known (now shovels) (now times) × (i < length (now times)) × Placed (length (now shovels)) best ⌝ }
     requires { ⌜ IsOthers (now shovels) (now times) i (getD (now shovels) (known .chosen) 0) (length (now times)) o ⌝ }
-    ensures { λ r. ⌜ r ≡ cond (eqb (o .time) 0) best (attempted known (now (shovels .entry)) (now (times .entry)) (changeTo (now (times .entry)) i (o .time - 1)) best) ⌝ }
+    ensures { λ r. ⌜ r ≡ cond (eqb (o .time) 0 || ltb (getD (now (times .entry)) i 0) (o .time)) best
+        (attempted known (now (shovels .entry)) (now (times .entry)) (changeTo (now (times .entry)) i (o .time - 1)) best) ⌝ }
 {
     if o.time == 0 {
+        return best;
+    }
+    if times[i] < o.time {
         return best;
     }
     attempt(known, shovels, times, i, o, o.time - 1, best)
 }
 
-// It becomes a second more, unless there is no greater time.
+// It becomes a second more, unless there is no greater time, or it is more.
 pub fn attempt_above(known: Known, shovels: &[u16], times: &[u32], i: usize, o: Others, best: Best) -> Best
     requires { ⌜ Several known (now shovels) (now times) × (i < length (now times)) × Placed (length (now shovels)) best ⌝ }
     requires { ⌜ IsOthers (now shovels) (now times) i (getD (now shovels) (known .chosen) 0) (length (now times)) o ⌝ }
-    ensures { λ r. ⌜ r ≡ cond (eqb (o .time) mostTime) best (attempted known (now (shovels .entry)) (now (times .entry)) (changeTo (now (times .entry)) i (o .time + 1)) best) ⌝ }
+    ensures { λ r. ⌜ r ≡ cond (eqb (o .time) mostTime || ltb (o .time) (getD (now (times .entry)) i 0)) best
+        (attempted known (now (shovels .entry)) (now (times .entry)) (changeTo (now (times .entry)) i (o .time + 1)) best) ⌝ }
 {
     if o.time == MOST_TIME {
+        return best;
+    }
+    if o.time < times[i] {
         return best;
     }
     attempt(known, shovels, times, i, o, o.time + 1, best)

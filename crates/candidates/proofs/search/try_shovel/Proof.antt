@@ -1,12 +1,12 @@
 use mathlib.Core.Path.{sym, subst}
-use mathlib.Core.Bool.{cond}
+use mathlib.Core.Bool.{cond, _||_}
 use Prim.Native.Nat.{ℕ, _-_, _<_}
 use mir.Syntax.{w32}
 use mir.Val.{Fits}
 use native.Mathlib.Omega.{arith}
 use borrow.Author.Needs.{needs}
-use lib.Dec.{eqb}
-use lib.ListN.{length}
+use lib.Dec.{eqb, ltb}
+use lib.ListN.{length, getD}
 use Rattle.changes.specs.Others.{changeTo}
 use Rattle.candidates.specs.declared.Best.{Best}
 use Rattle.candidates.specs.Best.{Placed, attempted}
@@ -26,9 +26,9 @@ tried : (s : tie.Start) (v : ℕ) (best : Best) → Placed (length (s .args .sho
     → Placed (length (s .args .shovels .now)) (attempted (s .args .known) (s .args .shovels .now) (s .args .times .now) (changeTo (s .args .times .now) (s .args .i) v) best)
 tried s v best p = placed-next (s .args .known) (s .args .shovels .now) (s .args .times .now) _ (changeTo (s .args .times .now) (s .args .i) v) best (listed s) p
 
-placed-below : (s : tie.Start) (x : ℕ) → Placed (length (s .args .shovels .now)) (cond (eqb x 0) (s .args .best)
+placed-below : (s : tie.Start) (x : ℕ) → Placed (length (s .args .shovels .now)) (cond (eqb x 0 || ltb (getD (s .args .times .now) (s .args .i) 0) x) (s .args .best)
     (attempted (s .args .known) (s .args .shovels .now) (s .args .times .now) (changeTo (s .args .times .now) (s .args .i) (x - 1)) (s .args .best)))
-placed-below s x = placed-either _ (eqb x 0) (s .args .best) _ (placed s) (tried s (x - 1) (s .args .best) (placed s))
+placed-below s x = placed-either _ (eqb x 0 || ltb (getD (s .args .times .now) (s .args .i) 0) x) (s .args .best) _ (placed s) (tried s (x - 1) (s .args .best) (placed s))
 
 mul-others-of : tie.Need-mul-others-of
 mul-others-of c = search needs
