@@ -16,7 +16,15 @@ use super::outcome;
 use changes::MOST_TIME;
 
 // The time at place i becomes v. The search has found the others, and has kept no change but of the list.
-pub fn attempt(known: Known, shovels: &[u16], times: &[u32], i: usize, o: Others, v: u32, best: Best) -> Best
+pub fn attempt(
+    known: Known,
+    shovels: &[u16],
+    times: &[u32],
+    i: usize,
+    o: Others,
+    v: u32,
+    best: Best,
+) -> Best
     requires { ⌜ Several known (now shovels) (now times) × (i < length (now times)) × Placed (length (now shovels)) best ⌝ }
     requires { ⌜ IsOthers (now shovels) (now times) i (getD (now shovels) (known .chosen) 0) (length (now times)) o ⌝ }
     ensures { λ r. ⌜ r ≡ attempted known (now (shovels .entry)) (now (times .entry)) (changeTo (now (times .entry)) i v) best ⌝ }
@@ -35,7 +43,14 @@ pub fn attempt(known: Known, shovels: &[u16], times: &[u32], i: usize, o: Others
 }
 
 // It becomes a second less than the others' least time, unless that is 0 or more than it.
-pub fn attempt_below(known: Known, shovels: &[u16], times: &[u32], i: usize, o: Others, best: Best) -> Best
+pub fn attempt_below(
+    known: Known,
+    shovels: &[u16],
+    times: &[u32],
+    i: usize,
+    o: Others,
+    best: Best,
+) -> Best
     requires { ⌜ Several known (now shovels) (now times) × (i < length (now times)) × Placed (length (now shovels)) best ⌝ }
     requires { ⌜ IsOthers (now shovels) (now times) i (getD (now shovels) (known .chosen) 0) (length (now times)) o ⌝ }
     ensures { λ r. ⌜ r ≡ cond (eqb (o .time) 0 || ltb (getD (now (times .entry)) i 0) (o .time)) best
@@ -51,7 +66,14 @@ pub fn attempt_below(known: Known, shovels: &[u16], times: &[u32], i: usize, o: 
 }
 
 // It becomes a second more, unless there is no greater time, or it is more.
-pub fn attempt_above(known: Known, shovels: &[u16], times: &[u32], i: usize, o: Others, best: Best) -> Best
+pub fn attempt_above(
+    known: Known,
+    shovels: &[u16],
+    times: &[u32],
+    i: usize,
+    o: Others,
+    best: Best,
+) -> Best
     requires { ⌜ Several known (now shovels) (now times) × (i < length (now times)) × Placed (length (now shovels)) best ⌝ }
     requires { ⌜ IsOthers (now shovels) (now times) i (getD (now shovels) (known .chosen) 0) (length (now times)) o ⌝ }
     ensures { λ r. ⌜ r ≡ cond (eqb (o .time) mostTime || ltb (o .time) (getD (now (times .entry)) i 0)) best

@@ -5,6 +5,7 @@ mod order;
 mod others;
 mod outcome;
 pub mod search;
+
 use changes::Change;
 use tries::row::MOST_TRIED;
 

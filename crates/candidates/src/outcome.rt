@@ -80,7 +80,14 @@ fn leaves(known: Known, o: Outcome) -> bool
 }
 
 // Whether it does where the time at place i is v.
-pub fn goes_elsewhere(known: Known, shovels: &[u16], times: &[u32], i: usize, o: Others, v: u32) -> bool
+pub fn goes_elsewhere(
+    known: Known,
+    shovels: &[u16],
+    times: &[u32],
+    i: usize,
+    o: Others,
+    v: u32,
+) -> bool
     requires { ⌜ Several known (now shovels) (now times) × (i < length (now times)) ⌝ }
     requires { ⌜ IsOthers (now shovels) (now times) i (getD (now shovels) (known .chosen) 0) (length (now times)) o ⌝ }
     ensures { λ r. ⌜ r ≡ elsewhere known (now (shovels .entry)) (set (now (times .entry)) i v) ⌝ }

@@ -9,6 +9,8 @@ use case_fields::list::ROOM;
 use case_words::row;
 use draws::Draw;
 use generator::call;
+use margins::Margin;
+use margins::Nearest;
 use picks::Pick;
 
 // A step.
@@ -98,4 +100,36 @@ pub fn print_pick(card: &[u8], state: Numbers, shovels: &[u16], times: &[u32])
     let m = state.count;
     let picked = pick::call::pick(card, &mut words[..m], shovels, times);
     print_picked(picked, state, words);
+}
+
+// A change that sends the truck elsewhere, and the changed pick.
+fn print_nearest(n: Nearest) {
+    io::write_all(1, b"change ");
+    io::print_decimal(1, n.changed as u64);
+    if n.raised {
+        io::write_all(1, b" raised ");
+    } else {
+        io::write_all(1, b" lowered ");
+    }
+    io::print_decimal(1, n.seconds as u64);
+    io::write_all(1, b" shovel ");
+    io::print_decimal(1, n.shovel as u64);
+    io::write_all(1, b" ties ");
+    answer::print_number(n.ties);
+    io::write_all(1, b"taken ");
+    io::print_decimal(1, n.taken as u64);
+    io::write_all(1, b"\n");
+}
+
+// A margin. The state is lent to read only, so that a refusal leaves it as lent.
+pub fn print_margin(card: &[u8], state: Numbers, shovels: &[u16], times: &[u32])
+    requires { ⌜ state .count ≤ room ⌝ }
+{
+    let words = state.words;
+    let m = state.count;
+    let found = margin::call::margin(card, &words[..m], shovels, times);
+    match found {
+        Margin::Least(n) => print_nearest(n),
+        Margin::Refused(number) => answer::print_refused(number, true),
+    }
 }

@@ -1,4 +1,4 @@
-// Cases on a card and a state: step, back, draw, words and pick, from the line to the answer.
+// Cases on a card and a state: step, back, draw, words, pick and margin, from the line to the answer.
 mod calls;
 pub mod states;
 
@@ -7,4 +7,10 @@ pub enum Move {
     Step,
     Back,
     Draw,
+}
+
+// The calls on a list of shovels and times.
+pub enum Ask {
+    Pick,
+    Margin,
 }

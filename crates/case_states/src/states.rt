@@ -1,6 +1,7 @@
 // The lines of cases on a card and a state.
 ghost use Prim.Native.Nat.{_≤_};
 ghost use Rattle.case_fields.specs.Lists.{room};
+use super::Ask;
 use super::Move;
 use super::calls;
 use case_answers::answer;
@@ -50,7 +51,15 @@ pub fn replay_words(line: &[u8], card: &[u8]) {
 }
 
 // The first s of the shovels and the first t of the times; a full array can't be read.
-fn replay_parts(card: &[u8], state: Numbers, shovels: &[u16], s: usize, times: &[u32], t: usize)
+fn replay_parts(
+    ask: Ask,
+    card: &[u8],
+    state: Numbers,
+    shovels: &[u16],
+    s: usize,
+    times: &[u32],
+    t: usize,
+)
     requires { ⌜ state .count ≤ room ⌝ }
 {
     if shovels.len() <= s {
@@ -59,22 +68,33 @@ fn replay_parts(card: &[u8], state: Numbers, shovels: &[u16], s: usize, times: &
     if times.len() <= t {
         return answer::print_syntax();
     }
-    calls::print_pick(card, state, &shovels[0..s], &times[0..t]);
+    match ask {
+        Ask::Pick => calls::print_pick(card, state, &shovels[0..s], &times[0..t]),
+        Ask::Margin => calls::print_margin(card, state, &shovels[0..s], &times[0..t]),
+    }
 }
 
-// The lists of a pick.
-fn replay_lists(line: &[u8], card: &[u8], state: Numbers)
+// The lists of a pick or a margin.
+fn replay_lists(line: &[u8], ask: Ask, card: &[u8], state: Numbers)
     requires { ⌜ state .count ≤ room ⌝ }
 {
     let shovels = list::numbers_of(line::field(line, 3), false, HALF);
     let times = list::numbers_of(line::field(line, 4), false, WORD);
     let numbers = shovels.halves;
     let seconds = times.words;
-    replay_parts(card, state, &numbers, shovels.count, &seconds, times.count);
+    replay_parts(
+        ask,
+        card,
+        state,
+        &numbers,
+        shovels.count,
+        &seconds,
+        times.count,
+    );
 }
 
-// pick CARD STATE SHOVELS TIMES
-pub fn replay_pick(line: &[u8], card: &[u8]) {
+// pick CARD STATE SHOVELS TIMES, margin CARD STATE SHOVELS TIMES
+pub fn replay_asked(line: &[u8], ask: Ask, card: &[u8]) {
     let state = list::numbers_of(line::field(line, 2), true, WORD);
     if line::fields(line) != 5 {
         return answer::print_syntax();
@@ -82,5 +102,5 @@ pub fn replay_pick(line: &[u8], card: &[u8]) {
     if ROOM <= state.count {
         return answer::print_syntax();
     }
-    replay_lists(line, card, state);
+    replay_lists(line, ask, card, state);
 }

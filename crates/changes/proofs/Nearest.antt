@@ -111,15 +111,23 @@ module _ (shovels times : List ℕ) (Wanted : List ℕ → Type 0) (by : ByTies 
       where
         above : x < w → u ≤ x → Beside shovels times Wanted e x
         above l h =
-            inr (inr (omega (arith, m .up (omega arith) .1), h, close (x + 1) (le-ltb (x + 1) x (omega arith) ∙ sym (le-ltb w x (omega arith))) (ne-eqb (x + 1) x (omega arith) ∙ sym (ne-eqb w x (omega arith)))
-            (omega arith) (λ z. (omega arith, omega arith)) (λ z. absurd (omega arith))))
+            inr (inr (
+              omega (arith, m .up (omega arith) .1),
+              h,
+              close (x + 1) (le-ltb (x + 1) x (omega arith) ∙ sym (le-ltb w x (omega arith))) (ne-eqb (x + 1) x (omega arith) ∙ sym (ne-eqb w x (omega arith)))
+                  (omega arith) (λ z. (omega arith, omega arith)) (λ z. absurd (omega arith)),
+            ))
 
         go : Dec (w < x) → Dec (w ≡ x) → Dec (u < x) → Dec (u ≡ x)
             → Beside shovels times Wanted e x
         go (yes l) q (yes h) g = absurd (crosses (lt-ltb w x l ∙ sym (lt-ltb u x h)) (ne-eqb w x (omega arith) ∙ sym (ne-eqb u x (omega arith))))
         go (yes l) q (no h) g =
-            inr (inl (omega arith, omega arith, close (x - 1) (lt-ltb (x - 1) x (omega arith) ∙ sym (lt-ltb w x l)) (ne-eqb (x - 1) x (omega arith) ∙ sym (ne-eqb w x (omega arith)))
-            (omega arith) (λ z. absurd (omega arith)) (λ z. (omega arith, omega arith))))
+            inr (inl (
+              omega arith,
+              omega arith,
+              close (x - 1) (lt-ltb (x - 1) x (omega arith) ∙ sym (lt-ltb w x l)) (ne-eqb (x - 1) x (omega arith) ∙ sym (ne-eqb w x (omega arith)))
+                  (omega arith) (λ z. absurd (omega arith)) (λ z. (omega arith, omega arith)),
+            ))
         go (no l) (yes q) h g =
             inl (close x (ap (λ (v : ℕ). ltb v x) (sym q)) (ap (λ (v : ℕ). eqb v x) (sym q)) (λ z. m .other (q ∙ z)) (λ z. (omega arith, omega arith)) (λ z. (omega arith, omega arith)))
         go (no l) (no q) h (yes g) = above (omega arith) (omega arith)

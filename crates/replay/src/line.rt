@@ -3,6 +3,7 @@ use case_answers::answer;
 use case_cards::cards;
 use case_fields::line;
 use case_fields::list;
+use case_states::Ask;
 use case_states::Move;
 use case_states::states;
 use case_strips::strips;
@@ -17,6 +18,7 @@ enum Call {
     Words,
     Strip,
     Pick,
+    Margin,
 }
 
 // A call on the first n bytes; a full array can't be read.
@@ -33,7 +35,8 @@ fn replay_bytes(line: &[u8], call: Call, bytes: &[u8], n: usize) {
         Call::Draw => states::replay_moved(line, Move::Draw, card),
         Call::Words => states::replay_words(line, card),
         Call::Strip => strips::replay_strip(line, card),
-        Call::Pick => states::replay_pick(line, card),
+        Call::Pick => states::replay_asked(line, Ask::Pick, card),
+        Call::Margin => states::replay_asked(line, Ask::Margin, card),
     }
 }
 
@@ -70,6 +73,9 @@ fn replay_case(line: &[u8]) {
     }
     if check::same(word, b"pick") {
         return replay_call(line, Call::Pick);
+    }
+    if check::same(word, b"margin") {
+        return replay_call(line, Call::Margin);
     }
     if check::same(word, b"write") {
         return cards::replay_write(line);
