@@ -34,7 +34,10 @@ use Rattle.picks.proofs.Choice.{pick-chooses, pick-order}
 use Rattle.picks.proofs.Steps.{pick-steps, pick-undone}
 use Rattle.picks.proofs.Shift.{standby-alike}
 use Rattle.picks.proofs.Fair.{picks-fair}
-use Rattle.demands.specs.Demands.{ByTable, nothing, AnsweredOrRefused, Ready, Published, Undone, SameBytes, SameLots, AcceptedIffCovers, FilledAsDrawn, FairRanks, Demands}
+use Rattle.margins.proofs.Answers.{margin-refused, margin-one}
+use Rattle.margins.proofs.Alike.{margin-order}
+use Rattle.margins.proofs.Firm.{counts-unrefused, told-counts, told-least, firm-exactly, alone-firm}
+use Rattle.demands.specs.Demands.{ByTable, nothing, AnsweredOrRefused, Ready, Published, Undone, SameBytes, SameLots, AcceptedIffCovers, FilledAsDrawn, FairRanks, NearestChange, Demands}
 
 -- ---- demand 1
 
@@ -68,6 +71,7 @@ answered-or-refused =
           let row = take place strip ++ orbitWords card xs count ++ drop (place + count) strip in
           by-first (λ b r. (r, (cond b row strip, cond b (orbit card xs count) xs))) (λ r. refl);
       ofPick = λ bytes xs shovels times. by-table;
+      ofMargin = λ bytes xs shovels times m h n. margin-refused bytes xs shovels times n m .0 h;
     }
 
 -- ---- demand 2
@@ -165,8 +169,35 @@ fair-ranks =
       loads = λ bytes xs shovels times n. picks-fair bytes xs shovels times (first-none _ n);
     }
 
+-- ---- document 02, Four
+
+pub nearest-change : NearestChange
+unfolding pickRefusal
+nearest-change =
+    record {
+      counts = told-counts;
+      least = told-least;
+      firm = λ bytes xs shovels times n. firm-exactly bytes xs shovels times (first-none _ n);
+      alone = λ bytes xs shovels times n one m h.
+          let z = first-none _ n in
+          firm-exactly bytes xs shovels times z m h .1 (alone-firm bytes xs shovels times z one);
+      unrefused = λ bytes xs shovels times c k. none-first _ (counts-unrefused bytes xs shovels times c k);
+      one = margin-one;
+      order = margin-order;
+    }
+
 -- ---- the whole
 
 pub demands : Demands
 demands =
-    record { one = answered-or-refused; twoA = published; twoB = undone; twoC = same-bytes; twoD = same-lots; three = accepted-iff-covers; requestOne = filled-as-drawn; requestTwo = fair-ranks }
+    record {
+      one = answered-or-refused;
+      twoA = published;
+      twoB = undone;
+      twoC = same-bytes;
+      twoD = same-lots;
+      three = accepted-iff-covers;
+      requestOne = filled-as-drawn;
+      requestTwo = fair-ranks;
+      requestFour = nearest-change;
+    }

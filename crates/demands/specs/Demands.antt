@@ -7,7 +7,7 @@ use mathlib.Core.List.{List, _++_}
 use Prim.Native.Nat.{ℕ, suc, _+_, _-_, _*_, _/_, _%_, _^_, _≤_, _<_}
 use lib.Dec.{eqb}
 use lib.ListN.{length, getD, take, drop}
-use Rattle.refusals.specs.Refusals.{Check, firstOf, NoneApplies}
+use Rattle.refusals.specs.Refusals.{noSuchChange, Check, firstOf, NoneApplies}
 use Rattle.cycle.specs.Notation.{count, iterate, bit}
 use Rattle.cycle.specs.Fair.{givesRank}
 use Rattle.tsc.specs.declared.Card.{Card}
@@ -30,6 +30,12 @@ use Rattle.ties.specs.Order.{SameShovels}
 use Rattle.samples.specs.Samples.{mostTaken, limit, taken, drawnRank, drawnState}
 use Rattle.picks.specs.declared.Pick.the-variants as Pick
 use Rattle.picks.specs.Picks.{pickChecks, picking, wordsTaken, picked}
+use Rattle.changes.specs.declared.Change.{Change}
+use Rattle.changes.specs.Change.{changed, Counts}
+use Rattle.margins.specs.declared.Nearest.{Nearest}
+use Rattle.margins.specs.declared.Margin.{Margin}
+use Rattle.margins.specs.declared.Margin.the-variants as Margin
+use Rattle.margins.specs.Margins.{Elsewhere, Tells, IsMargin}
 use Rattle.picks.specs.Shift.{Request, answers, stateAfter, Alike}
 use Rattle.picks.specs.Fair.{sentByFirst}
 
@@ -66,6 +72,9 @@ pub record AnsweredOrRefused : Type 0 where
       ByTable Pick.Refused (pickChecks bytes xs shovels times) xs
       (Pick.Shovel (chosen shovels times (drawnRank card xs k)) k (taken card xs k), drawnState card xs k)
       (picking bytes xs shovels times, picked bytes xs shovels times)
+  -- a margin is refused as the pick is; where it is not, document 02, Four, below
+  pub ofMargin : (bytes xs shovels times : List ℕ) (m : Margin) → IsMargin bytes xs shovels times m → let r = firstOf (pickChecks bytes xs shovels times) in
+      r ≢ 0 → m ≡ Margin.Refused r
 
 -- ---- demand 2: each step and word equals the published definition, step back undoes step and step undoes step back for accepted cards, an accepted card
 -- written out again has the same bytes, a tie goes by drawn rank among the equal shovels by ascending number, so list order makes no difference
@@ -160,6 +169,32 @@ pub record FairRanks : Type 0 where
       count (states card) (λ t. sentByFirst (getD shovels i 0) (picking bytes (orbit card xs t) shovels times))
       ≡ limit card k / k * 2 ^ ((card .words - 1) * card .width)
 
+-- ---- document 02, Four: the smallest number of seconds, at least 1, by which one shovel's time, lowered or raised and still 0 to 4294967295, would send the truck
+-- elsewhere from the same state. Among equal changes the lower shovel number wins, then lowering before raising. A change whose pick would be refused doesn't
+-- count. 19 when no such change exists, as with a list of one. (The state is lent to read only.)
+
+pub record NearestChange : Type 0 where
+  -- the change that is told counts, and is told with the changed pick
+  pub counts : (bytes xs shovels times : List ℕ) (n : Nearest) → IsMargin bytes xs shovels times (Margin.Least n)
+      → (c : Change) × Counts times (Elsewhere bytes xs shovels times) c × Tells bytes xs shovels times c n
+  -- no change that counts comes before it
+  pub least : (bytes xs shovels times : List ℕ) (n : Nearest) → IsMargin bytes xs shovels times (Margin.Least n)
+      → (e : Change) → Counts times (Elsewhere bytes xs shovels times) e → let number = getD shovels (e .place) 0 in
+      (n .seconds ≤ e .seconds) × (n .seconds ≡ e .seconds → n .changed ≤ number)
+      × (n .seconds ≡ e .seconds → n .changed ≡ number → n .raised ≡ true → e .raised ≡ true)
+  -- 19 exactly where none counts, once the pick is not refused; so for a list of one
+  pub firm : (bytes xs shovels times : List ℕ) → NoneApplies (pickChecks bytes xs shovels times) → (m : Margin) → IsMargin bytes xs shovels times m
+      → (m ≡ Margin.Refused (noSuchChange .number)) ↔ ((c : Change) → Counts times (Elsewhere bytes xs shovels times) c → ⊥)
+  pub alone : (bytes xs shovels times : List ℕ) → NoneApplies (pickChecks bytes xs shovels times) → length times ≡ 1
+      → (m : Margin) → IsMargin bytes xs shovels times m → m ≡ Margin.Refused (noSuchChange .number)
+  -- a change whose pick is refused doesn't count
+  pub unrefused : (bytes xs shovels times : List ℕ) (c : Change) → Counts times (Elsewhere bytes xs shovels times) c
+      → NoneApplies (pickChecks bytes xs shovels (changed times c))
+  -- there is one answer, whatever the order of the list
+  pub one : (bytes xs shovels times : List ℕ) (m m₂ : Margin) → IsMargin bytes xs shovels times m → IsMargin bytes xs shovels times m₂ → m ≡ m₂
+  pub order : (bytes xs shovels times shovels₂ times₂ : List ℕ) → SameShovels shovels times shovels₂ times₂
+      → (m m₂ : Margin) → IsMargin bytes xs shovels times m → IsMargin bytes xs shovels₂ times₂ m₂ → m₂ ≡ m
+
 -- ---- the whole
 
 pub record Demands : Type 0 where
@@ -171,3 +206,4 @@ pub record Demands : Type 0 where
   pub three : AcceptedIffCovers
   pub requestOne : FilledAsDrawn
   pub requestTwo : FairRanks
+  pub requestFour : NearestChange

@@ -2,3 +2,4 @@
 pub mod Changed
 pub mod Answers
 pub mod Alike
+pub mod Firm
