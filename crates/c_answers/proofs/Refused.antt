@@ -13,7 +13,7 @@ use Rattle.tsc.specs.declared.Card.{Card}
 use Rattle.card_format.specs.declared.Reading.{Reading}
 use Rattle.card_format.specs.declared.Written.{Written}
 use Rattle.card_format.specs.declared.Written.the-variants.{Refused}
-use Rattle.refusals.specs.Refusals.{firstOf, outOfRange}
+use Rattle.refusals.specs.Refusals.{firstOf, outOfRange, noSuchChange}
 use Rattle.card_format.specs.Reading.{cardOf, formChecks, noCard, reading}
 use Rattle.card_format.proofs.Verdict.{answering-refused}
 use Rattle.card_format.specs.Writing.{writeChecks, writing, pageAfter}
@@ -25,7 +25,11 @@ use Rattle.draws.proofs.Called.{drawing-refused}
 use Rattle.picks.specs.declared.Pick.{Pick}
 use Rattle.picks.specs.Picks.{pickRefusal, picking, picked}
 use Rattle.picks.proofs.Picking.{picking-refused}
-use Rattle.c_answers.specs.Answers.{drawn, choice, cardValues, readCard, writtenLength, overlong, writtenFrom, pageFrom}
+use Rattle.margins.specs.declared.Margin.{Margin}
+use Rattle.margins.specs.declared.Margin.the-variants as margin
+use Rattle.margins.proofs.Answers.{Passed, margin-passed, margin-refused}
+use Rattle.c_answers.specs.declared.MarginAnswer.{MarginAnswer}
+use Rattle.c_answers.specs.Answers.{drawn, choice, marginAnswer, IsMarginAnswer, cardValues, readCard, writtenLength, overlong, writtenFrom, pageFrom}
 
 -- what every answer is made by: a value with refusal 0 where none applies, else the refusal
 told : {A : Type 0} (refusal : A → ℕ) (r : ℕ) (value refused : A) → refusal value ≡ 0 → refusal refused ≡ r → refusal (cond (eqb r 0) value refused) ≡ r
@@ -60,6 +64,25 @@ module _ (bytes xs shovels times : List ℕ) where
       let p = picking-refused bytes xs shovels times _ (λ z. ne (pick-told ∙ z)) refl in
       let c = sym (ap choice (p .0)) in
       (λ i. c i .shovel, λ i. c i .ties, λ i. c i .taken, sym (p .1))
+
+-- a margin's: the pick's refusal, or else 19, or none
+module _ (bytes xs shovels times : List ℕ) (r : MarginAnswer) (h : IsMarginAnswer bytes xs shovels times r) where
+  pub margin-told : pickRefusal bytes xs shovels times ≢ 0 → r .refusal ≡ pickRefusal bytes xs shovels times
+  margin-told n = ap (λ (r : MarginAnswer). r .refusal) (h .2 ∙ ap marginAnswer (margin-refused bytes xs shovels times n (h .0) .0 (h .1)))
+
+  pub margin-nineteen : pickRefusal bytes xs shovels times ≡ 0 → r .refusal ≢ 0 → r .refusal ≡ noSuchChange .number
+  margin-nineteen z = go (h .0) (margin-passed bytes xs shovels times z (h .0) .0 (h .1)) (h .2)
+    where
+      go : (m : Margin) → Passed bytes xs shovels times m → r ≡ marginAnswer m → r .refusal ≢ 0 → r .refusal ≡ noSuchChange .number
+      go (margin.Least n) p e ne = absurd (ne (ap (λ (r : MarginAnswer). r .refusal) e))
+      go (margin.Refused q) p e ne = ap (λ (r : MarginAnswer). r .refusal) e ∙ p .0
+
+  pub margin-zeros : r .refusal ≢ 0 → r ≡ record { seconds = 0; changed = 0; shovel = 0; raised = 0; ties = 0; taken = 0; refusal = r .refusal }
+  margin-zeros = go (h .0) (h .2)
+    where
+      go : (m : Margin) → r ≡ marginAnswer m → r .refusal ≢ 0 → r ≡ record { seconds = 0; changed = 0; shovel = 0; raised = 0; ties = 0; taken = 0; refusal = r .refusal }
+      go (margin.Least n) e ne = absurd (ne (ap (λ (r : MarginAnswer). r .refusal) e))
+      go (margin.Refused q) e ne = e ∙ ap (λ (q : ℕ). marginAnswer (margin.Refused q)) (sym (ap (λ (r : MarginAnswer). r .refusal) e))
 
 module _ (bytes : List ℕ) where
   pub read-told : readCard bytes .refusal ≡ firstOf (formChecks bytes)
