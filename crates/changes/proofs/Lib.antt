@@ -3,3 +3,4 @@ pub mod After
 pub mod Order
 pub mod Nearest
 pub mod Listing
+pub mod Worked
