@@ -4,7 +4,8 @@
 
 A loop end is a conditional jump of which one way stays in the innermost loop around it and the other leaves that loop; a
 loop has one. That it goes backward is not enough: compilers put the end of a branch before its start. Held to this are
-one step as a whole, which step and draw must call, the loops of many steps and of the step back, and whatever these call.
+one step as a whole, which step and draw must call, the loop of many steps, which fill and margin must call, that of the
+step back, and whatever these call.
 The loop in which a pick tries words may end at several places, and has the one division that makes a rank; it branches
 nowhere else.
 """
@@ -15,8 +16,9 @@ import subprocess
 import sys
 
 STEP = "stepping::step::next_state"
-CALLERS = ["tiedraw_step", "tiedraw_draw"]
-LOOPED = ["tiedraw_fill", "tiedraw_step_back"]
+ROW = "outputs::row::fill_words"
+CALLERS = {"tiedraw_step": STEP, "tiedraw_draw": STEP, "tiedraw_fill": ROW, "tiedraw_margin": ROW}
+LOOPED = [ROW, "tiedraw_step_back"]
 # A pick asks of each word whether it decides, and divides by the number of ties.
 TRIED = "tiedraw_pick"
 OUTSIDE = ["memcpy", "memset"]
@@ -213,9 +215,9 @@ class Check:
         ways = Ways(self.body(name))
         self.hold(name, ways, ways.reached, loops_in(ways, ways.reached), "all of it")
 
-    def calls_step(self, name):
-        """Whether a function calls the step: it has no step of its own then."""
-        return any(instruction.calls() and instruction.callee() == STEP for instruction in self.body(name))
+    def calls(self, name, callee):
+        """Whether a function calls another: it has no step of its own then."""
+        return any(instruction.calls() and instruction.callee() == callee for instruction in self.body(name))
 
     def hold_tries(self, name):
         """Holds the loop of a function in which whole words are masked, that is, in which steps are made."""
@@ -246,9 +248,9 @@ def main(archive):
     try:
         check = Check(disassembled(archive))
         check.hold_function(STEP)
-        for name in CALLERS:
-            if not check.calls_step(name):
-                raise Unexpected(f"{name}: does not call {STEP}")
+        for name, callee in CALLERS.items():
+            if not check.calls(name, callee):
+                raise Unexpected(f"{name}: does not call {callee}")
         for name in LOOPED:
             check.hold_loops(name)
         check.hold_tries(TRIED)

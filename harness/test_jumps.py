@@ -10,13 +10,12 @@ import unittest
 import jumps
 
 LOOP = "mov $4,%ecx\n1: dec %ecx\njne 1b\nret"
-CALL = f'call "{jumps.STEP}"\nret'
 # words tried: masks, a division, and an end in the middle
 MASKS = "pand %xmm0,%xmm1\n" * (jumps.MASKED + 1)
 TRIES = f"1: {MASKS}test %eax,%eax\nje 2f\ndiv %ecx\ndec %ecx\njne 1b\n2: ret"
 GOOD = {
     jumps.STEP: "xor %eax,%eax\nret",
-    **{name: CALL for name in jumps.CALLERS},
+    **{name: f'call "{callee}"\nret' for name, callee in jumps.CALLERS.items()},
     **{name: LOOP for name in jumps.LOOPED},
     jumps.TRIED: TRIES,
 }
@@ -66,17 +65,18 @@ class Jumps(unittest.TestCase):
 
     def test_a_branch_in_a_loop(self):
         body = f"mov $4,%ecx\n1: {BRANCH}dec %ecx\njne 1b\nret"
-        self.assertIn("a branch", found(tiedraw_fill=body))
+        self.assertIn("a branch", found(outputs__row__fill_words=body))
 
     def test_a_branch_that_jumps_backward(self):
         self.assertIn("a branch", found(tiedraw_step_back=BACKWARD))
 
     def test_a_loop_with_two_ends(self):
         body = "mov $4,%ecx\n1: test %eax,%eax\nje 2f\ndec %ecx\njne 1b\n2: ret"
-        self.assertIn("a second time", found(tiedraw_fill=body))
+        self.assertIn("a second time", found(outputs__row__fill_words=body))
 
     def test_a_caller_with_a_step_of_its_own(self):
         self.assertIn("does not call", found(tiedraw_draw="ret"))
+        self.assertIn("does not call", found(tiedraw_fill=LOOP))
 
     def test_a_pick_that_branches_between_words(self):
         self.assertIn("a branch", found(tiedraw_pick=f"1: {MASKS}test %eax,%eax\nje 2f\ninc %eax\n2: dec %ecx\njne 1b\nret"))
@@ -87,7 +87,7 @@ class Jumps(unittest.TestCase):
     def test_what_is_not_there(self):
         self.assertIn("not in the archive", found(tiedraw_pick=None))
         self.assertIn("0 loops with steps", found(tiedraw_pick=LOOP))
-        self.assertIn("no loop", found(tiedraw_fill="ret"))
+        self.assertIn("no loop", found(tiedraw_step_back="ret"))
 
 
 if __name__ == "__main__":
