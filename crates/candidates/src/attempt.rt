@@ -42,7 +42,7 @@ pub fn attempt(
     Best::Least(c)
 }
 
-// It becomes a second less than the others' least time, unless that is 0 or more than it.
+// It becomes a second less than the others' least time, unless that is 0 or its own is less. Asked for as above.
 pub fn attempt_below(
     known: Known,
     shovels: &[u16],
@@ -65,7 +65,7 @@ pub fn attempt_below(
     attempt(known, shovels, times, i, o, o.time - 1, best)
 }
 
-// It becomes a second more, unless there is no greater time, or it is more.
+// It becomes a second more than that, unless there is no greater time or its own is more. Asked for as above.
 pub fn attempt_above(
     known: Known,
     shovels: &[u16],

@@ -44,7 +44,7 @@ fn earlier(shovels: &[u16], c: Change, e: Change) -> bool
     !c.raised && e.raised
 }
 
-// Whether c comes before the best change so far, if there is one.
+// Whether c comes before the best change so far, if there is one. Both are changes of the list, as above.
 pub fn comes_first(shovels: &[u16], c: Change, best: Best) -> bool
     requires { ⌜ (c .place < length (now shovels)) × Placed (length (now shovels)) best ⌝ }
     ensures { λ r. ⌜ r ≡ comesFirst (now (shovels .entry)) c best ⌝ }

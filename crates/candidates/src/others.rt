@@ -39,7 +39,7 @@ fn joined(o: Others, other: bool, t: u32, lower: bool) -> Others
     o
 }
 
-// All shovels but the one at place i, with the lower numbers than y.
+// All shovels but the one at place i, and the numbers lower than y. The pick has refused lists that are uneven or too long.
 pub fn others_of(shovels: &[u16], times: &[u32], i: usize, y: u16) -> Others
     requires { ⌜ (length (now shovels) ≡ length (now times)) × (length (now times) ≤ mostShovels) ⌝ }
     ensures { λ r. ⌜ IsOthers (now (shovels .entry)) (now (times .entry)) i y (length (now (times .entry))) r ⌝ }

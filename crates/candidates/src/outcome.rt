@@ -62,7 +62,8 @@ fn outcome_of(known: Known, shovels: &[u16], times: &[u32], i: usize, o: Others,
     }
 }
 
-// Whether a pick with such ties is not refused and goes elsewhere: the chosen shovel is no tie, or has another rank than the one drawn.
+// Whether a pick with such ties is not refused and goes elsewhere: the chosen shovel is no tie, or has another rank than the one drawn. A list has a tie at least,
+// and no more than shovels.
 fn leaves(known: Known, o: Outcome) -> bool
     requires { ⌜ (known .width ≤ widestWidth) × (0 < o .ties) × (o .ties ≤ mostShovels) ⌝ }
     ensures { λ r. ⌜ r ≡ (leb (o .ties) (2 ^ known .width) && not (o .tie && eqb (o .rank) (ranked (known .width) (known .words) (o .ties) .rank))) ⌝ }
@@ -79,7 +80,7 @@ fn leaves(known: Known, o: Outcome) -> bool
     o.rank != drawn.rank as usize
 }
 
-// Whether it does where the time at place i is v.
+// Whether it does where the time at place i is v. The search has found the others, as above.
 pub fn goes_elsewhere(
     known: Known,
     shovels: &[u16],
