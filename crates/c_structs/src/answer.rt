@@ -1,16 +1,14 @@
 // Answers taken apart into the structs that C sees: the values and refusal 0, or zeros and the refusal.
 ghost use mathlib.Core.Path.{_≡_};
-ghost use Rattle.c_answers.specs.Answers.{drawn, choice, marginAnswer, writtenLength, cardReading};
+ghost use Rattle.c_answers.specs.Answers.{drawn, choice, writtenLength, cardReading};
 use c_answers::CardReading;
 use c_answers::CardValues;
 use c_answers::Choice;
 use c_answers::DrawnWord;
-use c_answers::MarginAnswer;
 use c_answers::WrittenLength;
 use card_format::Reading;
 use card_format::Written;
 use draws::Draw;
-use margins::Margin;
 use picks::Pick;
 
 // A draw's answer.
@@ -42,32 +40,6 @@ pub fn choice_of(answer: Pick) -> Choice
         },
         Pick::Refused(number) => Choice {
             shovel: 0,
-            ties: 0,
-            taken: 0,
-            refusal: number,
-        },
-    }
-}
-
-// A margin's.
-pub fn margin_of(answer: Margin) -> MarginAnswer
-    ensures { λ r. ⌜ r ≡ marginAnswer answer ⌝ }
-{
-    match answer {
-        Margin::Least(nearest) => MarginAnswer {
-            seconds: nearest.seconds,
-            changed: nearest.changed,
-            shovel: nearest.shovel,
-            raised: nearest.raised as u8,
-            ties: nearest.ties,
-            taken: nearest.taken,
-            refusal: 0,
-        },
-        Margin::Refused(number) => MarginAnswer {
-            seconds: 0,
-            changed: 0,
-            shovel: 0,
-            raised: 0,
             ties: 0,
             taken: 0,
             refusal: number,

@@ -17,10 +17,12 @@ use Rattle.changes.specs.Others.{changeTo, before}
 use Rattle.changes.proofs.After.{LeastOther, SameTies, same-count, same-rank}
 use Rattle.changes.proofs.Order.{no-later-refl, no-later-trans, Told, before-told}
 use Rattle.changes.proofs.Nearest.{Close, Beside, ByTies, nearest, several}
-use Rattle.candidates.specs.declared.Known.{Known}
-use Rattle.candidates.specs.declared.Best.{Best}
-use Rattle.candidates.specs.declared.Best.the-variants.{Nothing, Least}
-use Rattle.candidates.specs.Best.{elsewhere, Listed, Placed, comesFirst, attempted, Sound, LeadsOver, BestOf}
+use Rattle.outcomes.specs.declared.Known.{Known}
+use Rattle.change_order.specs.declared.Best.{Best}
+use Rattle.change_order.specs.declared.Best.the-variants.{Nothing, Least}
+use Rattle.outcomes.specs.Elsewhere.{elsewhere, Listed}
+use Rattle.change_order.specs.First.{Placed, comesFirst}
+use Rattle.candidates.specs.Best.{attempted, Sound, LeadsOver, BestOf}
 
 -- ---- the places of changes
 

@@ -6,14 +6,16 @@ ghost use lib.Dec.{eqb, ltb};
 ghost use lib.ListN.{length, getD};
 ghost use Rattle.changes.specs.Change.{mostTime};
 ghost use Rattle.changes.specs.Others.{changeTo};
-ghost use Rattle.candidates.specs.Others.{IsOthers};
-ghost use Rattle.candidates.specs.Best.{Several, Placed, attempted};
-use super::Best;
-use super::Known;
-use super::order;
-use super::others::Others;
-use super::outcome;
+ghost use Rattle.tie_others.specs.Others.{IsOthers};
+ghost use Rattle.outcomes.specs.Elsewhere.{Several};
+ghost use Rattle.change_order.specs.First.{Placed};
+ghost use Rattle.candidates.specs.Best.{attempted};
+use change_order::Best;
+use change_order::order;
 use changes::MOST_TIME;
+use outcomes::Known;
+use outcomes::outcome;
+use tie_others::others::Others;
 
 // The time at place i becomes v. The search has found the others, and has kept no change but of the list.
 pub fn attempt(

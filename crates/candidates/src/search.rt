@@ -3,11 +3,12 @@ ghost use mathlib.Core.Path.{_≡_};
 ghost use mathlib.Core.Bool.{true};
 ghost use Prim.Native.Nat.{_+_, _<_};
 ghost use lib.ListN.{length};
-ghost use Rattle.candidates.specs.Best.{elsewhere, Several, Listed, BestOf};
-use super::Best;
-use super::Known;
+ghost use Rattle.outcomes.specs.Elsewhere.{elsewhere, Several, Listed};
+ghost use Rattle.candidates.specs.Best.{BestOf};
 use super::attempt;
-use super::others;
+use change_order::Best;
+use outcomes::Known;
+use tie_others::others;
 
 // The best change once those of shovel i are tried: its time becomes the others' least time, or a second less or more. The search has tried those before it.
 fn try_shovel(known: Known, shovels: &[u16], times: &[u32], i: usize, best: Best) -> Best

@@ -26,9 +26,10 @@ use Rattle.tries.proofs.Ranks.{ranked-row}
 use Rattle.changes.specs.declared.Change.{Change}
 use Rattle.changes.specs.Change.{changed, Counts, LeastChange}
 use Rattle.changes.proofs.Listing.{length-changed, counts-same, least-same}
-use Rattle.candidates.specs.declared.Known.{Known}
-use Rattle.candidates.specs.declared.Best.the-variants as best
-use Rattle.candidates.specs.Best.{elsewhere, Listed, Sound, LeadsOver, BestOf}
+use Rattle.outcomes.specs.declared.Known.{Known}
+use Rattle.change_order.specs.declared.Best.the-variants as best
+use Rattle.outcomes.specs.Elsewhere.{elsewhere, Listed}
+use Rattle.candidates.specs.Best.{Sound, LeadsOver, BestOf}
 use Rattle.picks.specs.declared.Pick.the-variants.{Shovel}
 use Rattle.picks.specs.Picks.{picking}
 use Rattle.picks.proofs.Picking.{pick-passed}

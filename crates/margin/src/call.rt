@@ -2,8 +2,8 @@
 ghost use Rattle.margins.specs.Margins.{IsMargin};
 use super::changed;
 use super::chosen;
-use candidates::Best;
 use candidates::search;
+use change_order::Best;
 use margins::Margin;
 use pick::listing;
 

@@ -7,9 +7,9 @@ ghost use Rattle.ties.specs.Ties.{mostShovels, ties, chosen};
 ghost use Rattle.tries.specs.Tries.{ranked};
 ghost use Rattle.changes.specs.Change.{moved, Within, changed};
 use super::chosen;
-use candidates::Known;
 use changes::Change;
 use margins::Nearest;
+use outcomes::Known;
 use tie_list::check::MOST_SHOVELS;
 
 // A time raised, or else lowered, by some seconds.

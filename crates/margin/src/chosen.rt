@@ -11,7 +11,7 @@ ghost use Rattle.ties.specs.Ties.{mostShovels, ties, hasRank, chosen};
 ghost use Rattle.tie_rank.specs.Listed.{Listed};
 ghost use Rattle.samples.specs.Samples.{mostTaken};
 ghost use Rattle.tries.specs.Tries.{ranked};
-use candidates::Known;
+use outcomes::Known;
 use tie_rank::rank;
 use tie_time::time;
 use tries::row;

@@ -16,6 +16,7 @@ use c_answers::DrawnWord;
 use c_answers::MarginAnswer;
 use c_answers::WrittenLength;
 use c_structs::answer;
+use c_structs::nearest;
 use card::check;
 use card_read::read;
 use card_table::table;
@@ -119,7 +120,7 @@ pub extern "C" fn tiedraw_margin(
 ) -> MarginAnswer
     ensures { λ r. ⌜ IsMarginAnswer (now (card .entry)) (now (state .entry)) (now (shovels .entry)) (now (times .entry)) r ⌝ }
 {
-    answer::margin_of(margin::call::margin(card, state, shovels, times))
+    nearest::margin_of(margin::call::margin(card, state, shovels, times))
 }
 
 // The length of the card written, or refusal 2, 6 to 9 or 16. A table longer than the array is refused by 2, and a shorter one counts as followed by zeros.

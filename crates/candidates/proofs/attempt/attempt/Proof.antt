@@ -1,4 +1,4 @@
-use Rattle.candidates.specs.declared.Best.the-variants.{Least}
+use Rattle.change_order.specs.declared.Best.the-variants.{Least}
 use mathlib.Core.Path.{_≡_, sym, ap, _∙_, subst}
 use mathlib.Core.Bool.{Bool}
 use native.Mathlib.Omega.{arith}
@@ -6,17 +6,19 @@ use borrow.Author.Tests.{not-true, not-false}
 use Rattle.changes.specs.declared.Change.{Change}
 use Rattle.changes.specs.Others.{changeTo}
 use Rattle.changes.proofs.Nearest.{changed-to}
-use Rattle.candidates.specs.declared.Best.{Best}
-use Rattle.candidates.specs.Best.{elsewhere, comesFirst, attempted}
+use Rattle.change_order.specs.declared.Best.{Best}
+use Rattle.outcomes.specs.Elsewhere.{elsewhere}
+use Rattle.change_order.specs.First.{comesFirst}
+use Rattle.candidates.specs.Best.{attempted}
 use Rattle.candidates.proofs.Attempts.{attempt-none, attempt-later, attempt-stays, attempt-best}
 use borrow.Author.Needs.{needs}
 use Rattle.candidates.proofs.attempt.attempt.Statement.{statement}
 use Rattle.candidates.proofs.attempt.attempt.Tie as tie
 use Rattle.candidates.proofs.attempt.attempt.Reads as reads
 use Rattle.candidates.proofs.attempt.attempt.Lts as lts
-use Rattle.candidates.proofs.order.change_to.Reads as change-to-reads
-use Rattle.candidates.proofs.order.comes_first.Reads as comes-first-reads
-use Rattle.candidates.proofs.outcome.goes_elsewhere.Reads as goes-elsewhere-reads
+use Rattle.change_order.proofs.order.change_to.Reads as change-to-reads
+use Rattle.change_order.proofs.order.comes_first.Reads as comes-first-reads
+use Rattle.outcomes.proofs.outcome.goes_elsewhere.Reads as goes-elsewhere-reads
 
 -- src/attempt.rt:24:33
 mul-change-to : tie.Need-mul-change-to

@@ -3,7 +3,8 @@ use mathlib.Core.Bool.{true}
 use Prim.Native.Nat.{ℕ, _-_, _≤_}
 use native.Mathlib.Omega.{arith}
 use lib.ListN.{length}
-use Rattle.candidates.specs.Best.{elsewhere, BestOf}
+use Rattle.outcomes.specs.Elsewhere.{elsewhere}
+use Rattle.candidates.specs.Best.{BestOf}
 use Rattle.candidates.proofs.Attempts.{best-none, best-alone}
 use Rattle.candidates.proofs.search.least_change.Statement.{statement}
 use Rattle.candidates.proofs.search.least_change.Tie as tie

@@ -8,9 +8,10 @@ use borrow.Author.Needs.{needs}
 use lib.Dec.{eqb, ltb}
 use lib.ListN.{length, getD}
 use Rattle.changes.specs.Others.{changeTo}
-use Rattle.candidates.specs.declared.Best.{Best}
-use Rattle.candidates.specs.Best.{Placed, attempted}
-use Rattle.candidates.proofs.Joined.{others-least}
+use Rattle.change_order.specs.declared.Best.{Best}
+use Rattle.change_order.specs.First.{Placed}
+use Rattle.candidates.specs.Best.{attempted}
+use Rattle.tie_others.proofs.Joined.{others-least}
 use Rattle.candidates.proofs.Attempts.{placed-either, placed-next, placed-sound, best-found}
 use Rattle.candidates.proofs.search.try_shovel.Statement.{statement}
 use Rattle.candidates.proofs.search.try_shovel.Tie as tie

@@ -8,8 +8,9 @@ use borrow.Author.Needs.{needs}
 use lib.ListN.{length}
 use Rattle.draws.proofs.Opening.{Clear, begun}
 use Rattle.draws.proofs.Called.{ready}
-use Rattle.candidates.specs.declared.Best.{Best}
-use Rattle.candidates.specs.Best.{elsewhere, BestOf}
+use Rattle.change_order.specs.declared.Best.{Best}
+use Rattle.outcomes.specs.Elsewhere.{elsewhere}
+use Rattle.candidates.specs.Best.{BestOf}
 use Rattle.picks.specs.Picks.{pickRefusal}
 use Rattle.picks.proofs.Picking.{told-call, told-later}
 use Rattle.pick.proofs.Passed.{Free, free}

@@ -1,0 +1,2 @@
+-- Laws of the test of two changes.
+pub mod Before

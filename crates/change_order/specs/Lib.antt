@@ -1,0 +1,2 @@
+-- The best change so far, and what comes before it.
+pub mod First

@@ -1,0 +1,2 @@
+-- Laws of picks of changed times.
+pub mod Outcomes

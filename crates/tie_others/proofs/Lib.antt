@@ -1,0 +1,2 @@
+-- Laws of the other shovels.
+pub mod Joined

@@ -1,0 +1,2 @@
+-- What the other shovels come to.
+pub mod Others
