@@ -1,20 +1,19 @@
 -- One change tried, and those of a shovel: what the best change is then.
 use mathlib.Core.Path.{_≡_, refl, sym, ap, _∙_, subst}
-use mathlib.Core.Logic.{_≢_, _⊎_, inl, inr}
+use mathlib.Core.Logic.{_≢_, inl, inr}
 use mathlib.Core.Bool.{Bool, true, false, cond, not, _&&_, _||_, and-eq-true-iff, and-false, true≢false}
 use mathlib.Core.List.{List}
-use Prim.Native.Nat.{ℕ, suc, _+_, _-_, _^_, _≤_, _<_}
+use Prim.Native.Nat.{ℕ, _+_, _-_, _^_, _≤_, _<_}
 use native.Mathlib.Decide.{ℕ-discrete, decLt}
 use native.Mathlib.Omega.{arith}
 use borrow.Author.Tests.{eq-eqb, ne-eqb, lt-ltb, le-ltb, ltb-true, ltb-false}
 use lib.Dec.{eqb, leb, ltb}
-use lib.ListN.{length, getD, set}
-use Rattle.ties.specs.Ties.{ties, isTie, rank, hasRank}
-use Rattle.tries.specs.Tries.{ranked}
+use lib.ListN.{length, getD}
+use Rattle.ties.specs.Ties.{ties, hasRank}
 use Rattle.changes.specs.declared.Change.{Change}
-use Rattle.changes.specs.Change.{mostTime, moved, Within, changed, Counts, NoLater}
-use Rattle.changes.specs.Others.{changeTo, before}
-use Rattle.changes.proofs.After.{LeastOther, SameTies, same-count, same-rank}
+use Rattle.changes.specs.Change.{mostTime, Within, changed, Counts, NoLater}
+use Rattle.changes.specs.Others.{changeTo}
+use Rattle.changes.proofs.After.{LeastOther, same-count, same-rank}
 use Rattle.changes.proofs.Order.{no-later-refl, no-later-trans, Told, before-told}
 use Rattle.changes.proofs.Nearest.{Close, Beside, ByTies, nearest, several}
 use Rattle.outcomes.specs.declared.Known.{Known}

@@ -1,19 +1,19 @@
 -- Ties after one time has become v: they depend on v only by its side of the least other time.
 use mathlib.Core.Path.{_≡_, refl, sym, ap, ap₂, _∙_}
 use mathlib.Core.Logic.{_≢_}
-use mathlib.Core.Bool.{Bool, true, false, cond, not, _&&_, _||_, and-true}
+use mathlib.Core.Bool.{Bool, true, false, cond, not, _&&_, _||_}
 use mathlib.Core.List.{List}
 use Prim.Native.Nat.{ℕ, zero, suc, _+_, _≤_, _<_}
 use native.Mathlib.Nat.{le-refl}
 use native.Mathlib.Decide.{ℕ-discrete, decLt}
 use native.Mathlib.Omega.{arith}
 use borrow.Author.Tests.{lt-ltb, le-ltb, lt-leb, eq-eqb, ne-eqb}
-use lib.Dec.{eqb, leb, ltb}
+use lib.Dec.{eqb, ltb}
 use lib.ListN.{length, getD, set, length-set}
 use lib.Seq.{getD-set-same, getD-set-other}
 use Rattle.cycle.specs.Notation.{one, count, first}
 use Rattle.cycle.proofs.Every.{every-not}
-use Rattle.cycle.proofs.Count.{count-none, count-next, count-ext, count-add, count-never}
+use Rattle.cycle.proofs.Count.{count-next, count-ext, count-add, count-never}
 use Rattle.ties.specs.Ties.{isTie, ties, rank, hasRank, chosen}
 use Rattle.ties.proofs.Least.{tie-of}
 use Rattle.changes.specs.Others.{otherAt}

@@ -1,5 +1,4 @@
 -- What inner functions answer on the way to the least change. The contracts of the calls do without.
-use mathlib.Core.Path.{_≡_}
 use mathlib.Core.Bool.{Bool, not, _&&_, _||_}
 use mathlib.Core.List.{List}
 use Prim.Native.Nat.{ℕ, _+_, _-_}

@@ -5,13 +5,13 @@ use mathlib.Core.List.{List}
 use Prim.Native.Nat.{ℕ, _<_}
 use native.Mathlib.Decide.{ℕ-discrete}
 use native.Mathlib.Omega.{arith}
-use lib.ListN.{length, getD}
+use lib.ListN.{length}
 use Rattle.ties.specs.Order.{Permutes, reordered, SameShovels}
 use Rattle.ties.proofs.Order.{length-reordered, getD-reordered}
 use Rattle.tie_list.proofs.Allowed.{Allowed}
 use Rattle.changes.specs.declared.Change.{Change}
 use Rattle.changes.specs.Change.{changed}
-use Rattle.changes.proofs.Listing.{there, changed-reordered, counts-there, counts-back, least-there}
+use Rattle.changes.proofs.Listing.{there, changed-reordered, counts-back, least-there}
 use Rattle.picks.specs.declared.Pick.{Pick}
 use Rattle.picks.specs.Picks.{pickRefusal, picking}
 use Rattle.picks.proofs.Picking.{pick-passed}

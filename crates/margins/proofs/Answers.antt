@@ -1,20 +1,17 @@
 -- What an answer comes to where the pick is refused, and where it is not; that there is one answer; THE LEAST CHANGE and 19.
 use mathlib.Core.Path.{_≡_, refl, sym, ap, _∙_, subst}
 use mathlib.Core.Logic.{_↔_, _≢_}
-use mathlib.Core.Bool.{Bool}
 use mathlib.Core.List.{List}
 use Prim.Native.Nat.{ℕ}
 use native.Mathlib.Decide.{ℕ-discrete}
-use native.Mathlib.Omega.{arith}
-use lib.ListN.{getD}
 use Rattle.refusals.specs.Refusals.{noSuchChange}
 use Rattle.tie_list.proofs.Allowed.{Allowed}
 use Rattle.changes.specs.declared.Change.{Change}
-use Rattle.changes.specs.Change.{changed, Counts, NoLater, LeastChange}
+use Rattle.changes.specs.Change.{changed, Counts, LeastChange}
 use Rattle.changes.proofs.Listing.{least-one}
 use Rattle.picks.specs.declared.Pick.{Pick}
 use Rattle.picks.specs.declared.Pick.the-variants as pick
-use Rattle.picks.specs.Picks.{pickRefusal, picking}
+use Rattle.picks.specs.Picks.{pickRefusal}
 use Rattle.picks.proofs.Picking.{pick-passed, picking-refused, picking-chosen}
 use Rattle.margins.specs.declared.Nearest.{Nearest}
 use Rattle.margins.specs.declared.Margin.{Margin}

@@ -22,7 +22,7 @@ use Rattle.samples.specs.Samples.{taken, drawnRank, tieChecks}
 use Rattle.samples.proofs.Many.{ties-fit, ties-within}
 use Rattle.changes.proofs.Listing.{numbers-apart}
 use Rattle.picks.specs.declared.Pick.{Pick}
-use Rattle.picks.specs.declared.Pick.the-variants.{Shovel, Refused}
+use Rattle.picks.specs.declared.Pick.the-variants.{Shovel}
 use Rattle.picks.specs.Picks.{pickRefusal, picking}
 use Rattle.picks.proofs.Picking.{refusal-later, pick-passed, picking-refused, picking-chosen, ties-few}
 use Rattle.picks.proofs.Choice.{drawn-rank-lt}

@@ -1,6 +1,5 @@
 -- The ties once the time at place i is v, by what the others come to: v is less than their least time, the same, or more.
 use mathlib.Core.Path.{_≡_, refl, sym, ap, _∙_}
-use mathlib.Core.Logic.{_≢_}
 use mathlib.Core.Bool.{Bool, true, false, cond, not, _&&_, _||_, and-true}
 use mathlib.Core.List.{List}
 use Prim.Native.Nat.{ℕ, _+_, _^_, _≤_, _<_}
@@ -8,12 +7,11 @@ use native.Mathlib.Omega.{arith}
 use borrow.Author.Tests.{lt-ltb, le-ltb, eq-eqb, ne-eqb}
 use lib.Dec.{eqb, leb, ltb}
 use lib.ListN.{length, getD, set}
-use Rattle.cycle.specs.Notation.{one, count}
+use Rattle.cycle.specs.Notation.{one}
 use Rattle.cycle.proofs.Count.{count-ext}
 use Rattle.ties.specs.Ties.{isTie, ties, rank, hasRank}
 use Rattle.ties.proofs.Least.{ties-some, ties-le}
 use Rattle.tries.specs.Tries.{ranked}
-use Rattle.changes.specs.Others.{otherAt}
 use Rattle.changes.proofs.After.{LeastOther, tieAfter, tie-after, count-after}
 use Rattle.outcomes.specs.declared.Known.{Known}
 use Rattle.tie_others.specs.declared.others.Others.{Others}

@@ -3,35 +3,25 @@ use borrow.Author.Tests.{eq-eqb, ne-eqb, lt-ltb, le-ltb}
 use borrow.Author.Needs.{needs}
 use Rattle.candidates.proofs.attempt.attempt_below.Statement.{statement}
 use Rattle.candidates.proofs.attempt.attempt_below.Tie as tie
-use Rattle.candidates.proofs.attempt.attempt_below.Reads as reads
-use Rattle.candidates.proofs.attempt.attempt_below.Lts as lts
-use Rattle.candidates.proofs.attempt.attempt.Reads as attempt-reads
 
--- src/attempt.rt:45:9
 returns : tie.Need-returns
 returns c = rw (eq-eqb _ _ (c .if1 .taken)) refl
 
--- src/attempt.rt:47:8
 mul-if2 : tie.Need-mul-if2
 mul-if2 c = search needs
 
--- src/attempt.rt:47:8
 shared-slice-read-if2 : tie.Need-shared-slice-read-if2
 shared-slice-read-if2 c = search needs
 
--- src/attempt.rt:48:9
 returns-2 : tie.Need-returns-2
 returns-2 c = rw (ne-eqb _ _ (c .before .before .before .if1 .left), lt-ltb _ _ (c .if2 .taken)) refl
 
--- src/attempt.rt:50:42
 sub-attempt : tie.Need-sub-attempt
 sub-attempt c = search needs
 
--- src/attempt.rt:50:5
 attempt-requires : tie.Need-attempt-requires
 attempt-requires c κs = search needs
 
--- src/attempt.rt:38:1
 returns-3 : tie.Need-returns-3
 returns-3 c = rw (ne-eqb _ _ (c .before .before .before .before .before .if1 .left), le-ltb _ _ (c .before .before .if2 .left)) (c .attempt .ensures)
 

@@ -6,20 +6,20 @@ use Rattle.outcomes.proofs.Outcomes.{outcome-test, outcome-few}
 use borrow.Author.Needs.{needs}
 use Rattle.outcomes.proofs.outcome.goes_elsewhere.Statement.{statement}
 use Rattle.outcomes.proofs.outcome.goes_elsewhere.Tie as tie
-use Rattle.outcomes.proofs.outcome.goes_elsewhere.Reads as reads
-use Rattle.outcomes.proofs.outcome.goes_elsewhere.Lts as lts
-use Rattle.outcomes.proofs.outcome.leaves.Reads as leaves-reads
-use Rattle.outcomes.proofs.outcome.outcome_of.Reads as outcome-of-reads
 
--- src/outcome.rt:88:9
 outcome-of-requires : tie.Need-outcome-of-requires
 outcome-of-requires c κs = search needs
 
--- src/outcome.rt:89:5
 leaves-requires : tie.Need-leaves-requires
-leaves-requires c κs = let s = c .before .before .before in let a = s .args in let z = length-set (a .times .now) (a .i) (a .v) in let f = outcome-few (a .shovels .now) (set (a .times .now) (a .i) (a .v)) (a .known .chosen) mostShovels _ (c .outcome-of .ensures) (omega (arith, z, s .pre .0 .1)) (omega (arith, z, s .pre .0 .0 .1 .few)) in (s .pre .0 .0 .1 .width, f .0, f .1)
+leaves-requires c κs =
+    let s = c .before .before .before in
+    let a = s .args in
+    let l = s .pre .0 in
+    let ys = set (a .times .now) (a .i) (a .v) in
+    let z = length-set (a .times .now) (a .i) (a .v) in
+    let f = outcome-few (a .shovels .now) ys (a .known .chosen) mostShovels _ (c .outcome-of .ensures) (omega (arith, z, l .1)) (omega (arith, z, l .0 .1 .few)) in
+    (l .0 .1 .width, f .0, f .1)
 
--- src/outcome.rt:83:1
 returns : tie.Need-returns
 returns c = c .leaves .ensures ∙ outcome-test _ _ _ _ (c .before .outcome-of .ensures)
 
