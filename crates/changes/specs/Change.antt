@@ -31,7 +31,7 @@ pub record Counts (times : List ℕ) (Wanted : List ℕ → Type 0) (c : Change)
   pub within : Within (c .raised) (getD times (c .place) 0) (c .seconds)
   pub wanted : Wanted (changed times c)
 
--- e does not come before c: of fewer seconds, else of the lower number of the changed shovel, else lowered before raised
+-- e does not come before c. First come fewer seconds, then the lower number of the changed shovel, then lowered before raised
 pub record NoLater (shovels : List ℕ) (c e : Change) : Type 0 where
   pub seconds : c .seconds ≤ e .seconds
   pub number : c .seconds ≡ e .seconds → getD shovels (c .place) 0 ≤ getD shovels (e .place) 0
