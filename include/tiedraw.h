@@ -32,8 +32,8 @@ extern "C" {
 /* The version of this header, and as one number. A client was compiled for the library that is loaded where
    tiedraw_version() / 1000 is TIEDRAW_VERSION_NUMBER / 1000; the shared library's name ends in those two numbers. */
 #define TIEDRAW_VERSION_MAJOR 0
-#define TIEDRAW_VERSION_MINOR 3
-#define TIEDRAW_VERSION_PATCH 2
+#define TIEDRAW_VERSION_MINOR 4
+#define TIEDRAW_VERSION_PATCH 0
 #define TIEDRAW_VERSION_NUMBER (TIEDRAW_VERSION_MAJOR * 1000000 + TIEDRAW_VERSION_MINOR * 1000 + TIEDRAW_VERSION_PATCH)
 
 /* The most words of a state, entries of a table, bytes of an accepted card, shovels of a pick, and words taken for it. */

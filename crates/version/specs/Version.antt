@@ -5,10 +5,10 @@ abbrev pub versionMajor : ℕ
 versionMajor = 0
 
 abbrev pub versionMinor : ℕ
-versionMinor = 3
+versionMinor = 4
 
 abbrev pub versionPatch : ℕ
-versionPatch = 2
+versionPatch = 0
 
 abbrev pub versionNumber : ℕ
 versionNumber = versionMajor * 1000000 + versionMinor * 1000 + versionPatch

@@ -1,12 +1,12 @@
-// The version of the library, 0.3.2 (VERSION, include/tiedraw.h).
+// The version of the library, 0.4.0 (VERSION, include/tiedraw.h).
 ghost use mathlib.Core.Path.{_≡_};
 ghost use Rattle.version.specs.Version.{versionNumber};
 
 const MAJOR: u32 = 0;
 
-const MINOR: u32 = 3;
+const MINOR: u32 = 4;
 
-const PATCH: u32 = 2;
+const PATCH: u32 = 0;
 
 // As one number.
 pub fn number() -> u32
