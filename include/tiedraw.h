@@ -37,9 +37,9 @@ extern "C" {
 #define TIEDRAW_VERSION_NUMBER (TIEDRAW_VERSION_MAJOR * 1000000 + TIEDRAW_VERSION_MINOR * 1000 + TIEDRAW_VERSION_PATCH)
 
 /* The most words of a state, entries of a table, bytes of an accepted card, shovels of a pick, and words taken for it. */
-#define TIEDRAW_MOST_WORDS 4
+#define TIEDRAW_MOST_WORDS 8
 #define TIEDRAW_TABLE_SIZE (1 << TIEDRAW_MOST_WORDS)
-#define TIEDRAW_MOST_CARD_BYTES 26
+#define TIEDRAW_MOST_CARD_BYTES 267
 #define TIEDRAW_MOST_SHOVELS 64
 #define TIEDRAW_MOST_TAKEN 16
 
@@ -47,7 +47,7 @@ extern "C" {
  * A card is a map byte and then the fields whose bit is 1, from bit 0 up. m, n and C are the first, second and sixth.
  *
  *   bit  field         bytes               allowed                           if absent
- *   0    words m       1                   2 to 4                            4
+ *   0    words m       1                   2 to 8                            4
  *   1    width n       1                   2 to 32                           32
  *   2    table         2^m                 entries below 2^m, one cycle (7)  TSC-1's, for m = 4 alone
  *   3    odd power     1                   0 to 255, odd (9)                 1
@@ -141,9 +141,10 @@ tiedraw_margin_answer tiedraw_margin(const uint8_t *card, size_t card_len, const
                                      size_t time_count);
 
 /* Writes the card of these values at the front of the page, and answers its length; bytes past it are untouched. A
-   field is written only where it differs from its absent value. The table has up to 16 entries: what is not handed
-   over counts as 0, entries past 2^words must be 0 (2), and more than 16 are refused by 2; no table at all is one of
-   zeros, not TSC-1's. Or refusal 2, 6 to 9 or 16. */
+   field is written only where it differs from its absent value. The table has up to 256 entries
+   (TIEDRAW_TABLE_SIZE): what is not handed over counts as 0, entries past 2^words must be 0 (2), and more than 256 are
+   refused by 2; no table at all is one of zeros, not TSC-1's. No page of TIEDRAW_MOST_CARD_BYTES is too small. Or
+   refusal 2, 6 to 9 or 16. */
 tiedraw_written tiedraw_write(uint8_t words, uint8_t width, const uint8_t *table, size_t table_len,
                               uint8_t odd_power, uint8_t even_power, uint32_t constant, uint8_t filter,
                               uint8_t sum_term, uint8_t *page, size_t page_len);

@@ -9,7 +9,7 @@ from typing import Any, Callable, Iterator
 
 from . import Generator, Refused, __version__, check, library_version, new_card, read
 from ._library import MOST_WORDS
-from ._new_card import FEWEST_WORDS, NARROWEST, WIDEST, between
+from ._new_card import DEFAULT_WORDS, FEWEST_WORDS, NARROWEST, WIDEST, between
 from ._text import card_bytes, number, shovel_time, state_text, state_words, value_lines
 
 ABOUT = """\
@@ -108,7 +108,7 @@ def _parser() -> argparse.ArgumentParser:
 
 def _new_options(new: argparse.ArgumentParser) -> None:
     for name, least, most, default, about in [
-        ("words", FEWEST_WORDS, MOST_WORDS, MOST_WORDS, "words of a state"),
+        ("words", FEWEST_WORDS, MOST_WORDS, DEFAULT_WORDS, "words of a state"),
         ("width", NARROWEST, WIDEST, WIDEST, "bits of a word"),
         ("filter", 1, 2, 1, "filter"),
     ]:

@@ -11,9 +11,9 @@ from ._version import __version__
 
 LIBRARY, VERSION = load()
 
-MOST_WORDS = 4
+MOST_WORDS = 8
 MOST_SHOVELS = 64
-MOST_CARD_BYTES = 26
+MOST_CARD_BYTES = 267
 MOST_TAKEN = 16
 
 

@@ -13,6 +13,7 @@ from ._numbers import whole
 from ._values import Values
 
 FEWEST_WORDS, NARROWEST, WIDEST = 2, 2, 32
+DEFAULT_WORDS = Values().words  # TSC-1's
 
 
 def between(name: str, number: int, least: int, most: int) -> int:
@@ -45,8 +46,8 @@ def _cycle(size: int, below: Callable[[int], int]) -> tuple[int, ...]:
     return tuple(table)
 
 
-def new_card(words: int = MOST_WORDS, width: int = WIDEST, filter: int = 1, seed: str | None = None) -> bytes:
-    """A card that the library accepts: its table a random cycle, its constant odd, random and of full width.
+def new_card(words: int = DEFAULT_WORDS, width: int = WIDEST, filter: int = 1, seed: str | None = None) -> bytes:
+    """A card that the library accepts, of 2 to 8 words: its table a random cycle, its constant odd, random and of full width.
 
     Powers and sum term are those of TSC-1. A seed gives the same card on every machine: the table's numbers are drawn
     first, from the last entry down, then the constant's bits between its highest and its lowest, which are 1.

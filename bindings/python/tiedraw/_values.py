@@ -33,7 +33,7 @@ class Margin(NamedTuple):
 
 
 class Values(NamedTuple):
-    """The eight values of a card; those of TSC-1 unless given. The table has 2^words entries."""
+    """The eight values of a card; those of TSC-1 unless given. There are 2 to 8 words, and the table has 2^words entries."""
 
     words: int = 4
     width: int = 32

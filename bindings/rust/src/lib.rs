@@ -27,11 +27,11 @@ pub use refusal::Refusal;
 pub use version::{check_version, library_version, Version, VersionMismatch, VERSION};
 
 /// No state has more words.
-pub const MOST_WORDS: usize = 4;
+pub const MOST_WORDS: usize = 8;
 /// No table has more entries.
 pub const TABLE_SIZE: usize = 1 << MOST_WORDS;
 /// No accepted card has more bytes.
-pub const MOST_CARD_BYTES: usize = 26;
+pub const MOST_CARD_BYTES: usize = 267;
 /// No pick is among more shovels.
 pub const MOST_SHOVELS: usize = 64;
 /// No pick takes more words.
@@ -67,11 +67,11 @@ pub struct Margin {
 /// The eight values of a card; by default TSC-1's.
 #[derive(Clone, Debug, PartialEq, Eq)]
 pub struct Values {
-    /// the words of a state
+    /// the words of a state, 2 to [`MOST_WORDS`]
     pub words: u8,
     /// the bits of a word
     pub width: u8,
-    /// 2^words entries; for [`write()`] up to 16, and what is missing counts as 0
+    /// 2^words entries; for [`write()`] up to [`TABLE_SIZE`], and what is missing counts as 0
     pub table: Vec<u8>,
     /// how often the table is applied where the selector bit is 1
     pub odd_power: u8,
