@@ -99,7 +99,7 @@ fn values() -> Values {
 fn values_become_a_card() {
     assert_eq!(Card::from_values(&values()).unwrap().bytes(), PROGRAM);
     let overlong = Values {
-        table: vec![0; 17],
+        table: vec![0; tiedraw::TABLE_SIZE + 1],
         ..values()
     };
     assert_eq!(Card::from_values(&overlong), Err(Refusal::OutOfRange));

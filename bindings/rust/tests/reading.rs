@@ -5,8 +5,8 @@ const PROGRAM: &[u8] = &[0x27, 2, 2, 1, 2, 3, 0, 1, 0, 0, 0];
 const TSC2: &[u8] = &[
     0x74, 5, 2, 11, 12, 13, 4, 3, 14, 15, 8, 1, 6, 7, 10, 9, 0, 0, 1, 0, 0, 0, 2,
 ];
-/// every field but the words, so that no card is longer
-const LONGEST: &[u8] = &[
+/// every field but the words: the longest card of 4 words
+const LONG: &[u8] = &[
     0xfe, 31, 5, 2, 11, 12, 13, 4, 3, 14, 15, 8, 1, 6, 7, 10, 9, 0, 3, 4, 0x55, 0x44, 0x33, 0x22,
     2, 0,
 ];
@@ -35,7 +35,7 @@ fn a_card_is_read() {
         ..tsc1()
     };
     assert_eq!(tiedraw::read(PROGRAM), Ok(program));
-    let longest = Values {
+    let long = Values {
         words: 4,
         width: 31,
         table: vec![5, 2, 11, 12, 13, 4, 3, 14, 15, 8, 1, 6, 7, 10, 9, 0],
@@ -45,7 +45,7 @@ fn a_card_is_read() {
         filter: 2,
         sum_term: 0,
     };
-    assert_eq!(tiedraw::read(LONGEST), Ok(longest));
+    assert_eq!(tiedraw::read(LONG), Ok(long));
 }
 
 #[test]
@@ -69,7 +69,7 @@ fn the_reader_refuses_by_1_to_6_alone() {
 
 #[test]
 fn a_card_knows_its_values_and_they_make_it_again() {
-    for bytes in [&[0], PROGRAM, TSC2, LONGEST, &[0x02, 29], &[0x10, 0]] {
+    for bytes in [&[0], PROGRAM, TSC2, LONG, &[0x02, 29], &[0x10, 0]] {
         let card = Card::new(bytes).unwrap();
         assert_eq!(tiedraw::read(bytes).as_ref(), Ok(card.values()));
         assert_eq!(card.words(), usize::from(card.values().words));
@@ -89,10 +89,7 @@ fn tsc1_is_the_default() {
 }
 
 #[test]
-fn the_bounds_are_reached() {
-    assert_eq!(Card::default().words(), tiedraw::MOST_WORDS);
-    assert_eq!(Values::default().table.len(), tiedraw::TABLE_SIZE);
-    assert_eq!(LONGEST.len(), tiedraw::MOST_CARD_BYTES);
+fn the_most_shovels_are_picked_from() {
     let mut server = Generator::new(Card::default(), &[0; 4]).unwrap();
     let shovel = |number| Shovel { number, time: 9 };
     let most: Vec<Shovel> = (0..tiedraw::MOST_SHOVELS as u16).map(shovel).collect();
