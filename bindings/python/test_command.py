@@ -64,7 +64,7 @@ class Command(unittest.TestCase):
             self.assertEqual(self.printed("margin", PROGRAM, state, *times), answer)
 
     def test_new_cards_can_be_given_back(self):
-        for size in [(), ("--words", "2", "--width", "7"), ("--filter", "2", "--seed", "south pit")]:
+        for size in [(), ("--words", "2", "--width", "7"), *(("--words", str(words)) for words in (3, 5, 6, 7, 8)), ("--filter", "2", "--seed", "south pit")]:
             lines = self.printed("new", *size)
             self.assertEqual([line[:2] for line in lines[1:]], ["# "] * 8)
             with tempfile.TemporaryDirectory() as folder:
@@ -113,7 +113,7 @@ class Command(unittest.TestCase):
             ("'1.5' is not a whole number", "pick", PROGRAM, "0,0", "7=1.5"),
             ("'7' is not SHOVEL=SECONDS", "margin", PROGRAM, "0,0", "7"),
             ("SECONDS: 4294967296 is more than 32 bits", "margin", PROGRAM, "0,0", "7=4294967296"),
-            ("words: 5 is not 2 to 4", "new", "--words", "5"),
+            ("words: 9 is not 2 to 8", "new", "--words", "9"),
             ("width: 1 is not 2 to 32", "new", "--width", "1"),
             ("'x' is not a whole number", "new", "--filter", "x"),
         ]:

@@ -94,7 +94,7 @@ class Spans(Filling):
         self.assertEqual(by_function, (tuple(after), single.state))
 
     def test_cards_of_every_size(self):
-        for words in (2, 3, 4):
+        for words in range(2, tiedraw.MOST_WORDS + 1):
             for width in (2, 7, 31, 32):
                 card = tiedraw.new_card(words, width, 1 + width % 2, seed="strip")
                 desk, single, into = Generator(card, [1] * words), Generator(card, [1] * words), strip(100)

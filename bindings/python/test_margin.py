@@ -8,7 +8,7 @@ import unittest
 
 import tiedraw
 from papers import cases, numbers
-from tiedraw import MOST_SHOVELS, Generator, Margin, Refusal, Refused
+from tiedraw import MOST_SHOVELS, MOST_WORDS, Generator, Margin, Refusal, Refused
 
 PROGRAM = bytes.fromhex("27 02 02 01 02 03 00 01 00 00 00")
 MOST = 2**32 - 1
@@ -54,7 +54,7 @@ def situations(count):
     """Cards of narrow words, states, and short lists of times that are close together, by chance; also at both ends of a time."""
     chance = random.Random(4)
     for _ in range(count):
-        words, width = chance.randint(2, 4), chance.choice([2, 2, 3, 5, 32])
+        words, width = chance.randint(2, MOST_WORDS), chance.choice([2, 2, 3, 5, 32])
         card = tiedraw.new_card(words, width, chance.randint(1, 2), str(chance.random()))
         apart, shovels = chance.randint(0, 5), chance.sample(range(2**16), chance.randint(1, 7))
         least = chance.choice([0, 0, 300, MOST - apart])
@@ -151,7 +151,7 @@ class Order(unittest.TestCase):
 
 REFUSED = {
     1: (b"", [0, 0], [7], [300]),
-    2: (b"\x01\x05", [0, 0], [7], [300]),
+    2: (b"\x01\x09", [0, 0], [7], [300]),
     3: (b"\x01\x04", [0, 0], [7], [300]),
     4: (b"\x01\x03", [0, 0], [7], [300]),
     5: (b"\x00\x00", [0, 0], [7], [300]),

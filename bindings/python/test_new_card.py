@@ -5,14 +5,15 @@ import unittest
 
 import tiedraw
 
-SIZES = [(words, width) for words in (2, 3, 4) for width in range(2, 33)]
+SIZES = [(words, width) for words in range(2, tiedraw.MOST_WORDS + 1) for width in range(2, 33)]
 
 
 class NewCards(unittest.TestCase):
-    def test_two_hundred_of_every_size_are_accepted(self):
+    def test_many_of_every_size_are_accepted(self):
+        """Of more than four words fewer: a table of 256 entries takes its time."""
         for words, width in SIZES:
             for filter in (1, 2):
-                for _ in range(100):
+                for _ in range(100 if words <= 4 else 10):
                     tiedraw.check(tiedraw.new_card(words, width, filter))
 
     def test_values_are_as_asked(self):
@@ -45,8 +46,8 @@ class NewCards(unittest.TestCase):
 
     def test_what_is_asked_wrongly_is_named(self):
         for message, arguments in {
-            "words: 5 is not 2 to 4": {"words": 5},
-            "words: 1 is not 2 to 4": {"words": 1},
+            "words: 9 is not 2 to 8": {"words": 9},
+            "words: 1 is not 2 to 8": {"words": 1},
             "width: 33 is not 2 to 32": {"width": 33},
             "filter: 0 is not 1 to 2": {"filter": 0},
         }.items():

@@ -7,7 +7,7 @@ import unittest
 
 import tiedraw
 from papers import cases, numbers
-from tiedraw import MOST_SHOVELS, MOST_TAKEN, Generator, Refusal, Refused
+from tiedraw import MOST_SHOVELS, MOST_TAKEN, MOST_WORDS, Generator, Refusal, Refused
 
 PROGRAM = bytes.fromhex("27 02 02 01 02 03 00 01 00 00 00")
 RUNS = bytes.fromhex("e7 02 06 01 02 03 00 31 00 00 00 02 00")  # from 39, 19 on, sixteen words of 33 and more
@@ -49,7 +49,7 @@ def reckoned(desk, times):
 def any_card(chance):
     """An accepted card, of narrow words as often as not."""
     width = chance.choice([chance.randint(2, 7), chance.randint(8, 32)])
-    card = tiedraw.new_card(chance.randint(2, 4), width, chance.randint(1, 2), str(chance.random()))
+    card = tiedraw.new_card(chance.randint(2, MOST_WORDS), width, chance.randint(1, 2), str(chance.random()))
     odd, even, sum_term = 2 * chance.randint(0, 5) + 1, 2 * chance.randint(0, 5), chance.randint(0, 1)
     return tiedraw.write(tiedraw.read(card)._replace(odd_power=odd, even_power=even, sum_term=sum_term))
 

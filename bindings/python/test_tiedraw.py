@@ -65,7 +65,7 @@ class Document(unittest.TestCase):
         self.assertEqual(tiedraw.write(values, 2**40), PROGRAM)
         self.refused(Refusal.BUFFER_TOO_SMALL, tiedraw.write, values, 10)
         self.refused(Refusal.BUFFER_TOO_SMALL, tiedraw.write, values, 0)
-        self.refused(Refusal.OUT_OF_RANGE, tiedraw.write, Values(table=[0] * 17))
+        self.refused(Refusal.OUT_OF_RANGE, tiedraw.write, Values(table=[0] * 257))
 
     def test_what_is_checked_is_what_is_kept(self):
         desk = tiedraw.Generator(array.array("H", [0]), array.array("L", [0] * 4))
