@@ -64,7 +64,8 @@ class Command(unittest.TestCase):
             self.assertEqual(self.printed("margin", PROGRAM, state, *times), answer)
 
     def test_new_cards_can_be_given_back(self):
-        for size in [(), ("--words", "2", "--width", "7"), *(("--words", str(words)) for words in (3, 5, 6, 7, 8)), ("--filter", "2", "--seed", "south pit")]:
+        words = [("--words", str(number)) for number in (3, 5, 6, 7, 8)]
+        for size in [(), *words, ("--words", "2", "--width", "7"), ("--filter", "2", "--seed", "south pit")]:
             lines = self.printed("new", *size)
             self.assertEqual([line[:2] for line in lines[1:]], ["# "] * 8)
             with tempfile.TemporaryDirectory() as folder:

@@ -7,17 +7,10 @@ import random
 import unittest
 
 import tiedraw
-from tiedraw import MOST_CARD_BYTES, MOST_WORDS, Generator, Refused, Values
+from test_ranks import any_card, told
+from tiedraw import MOST_CARD_BYTES, MOST_WORDS, Generator, Values
 
 FEW, MANY = range(2, 5), range(5, MOST_WORDS + 1)
-
-
-def told(call, *arguments):
-    """What a call answers, or the number by which it refuses."""
-    try:
-        return call(*arguments)
-    except Refused as refused:
-        return refused.number
 
 
 def values(words, width=32, **others):
@@ -60,14 +53,6 @@ def filtered(card, state):
     return (word + sum(rotate(state[k], k) for k in range(4, card.words))) % 2**card.width
 
 
-def any_values(chance, words):
-    """An accepted card of so many words, of narrow ones as often as not."""
-    width = chance.choice([chance.randint(2, 8), chance.randint(9, 32)])
-    card = tiedraw.new_card(words, width, chance.randint(1, 2), str(chance.random()))
-    odd, even, sum_term = 2 * chance.randint(0, 5) + 1, 2 * chance.randint(0, 5), chance.randint(0, 1)
-    return tiedraw.read(card)._replace(odd_power=odd, even_power=even, sum_term=sum_term)
-
-
 class Walks(unittest.TestCase):
     def test_the_papers_words_are_reckoned(self):
         state = stepped(Values(), (0,) * 4)
@@ -82,10 +67,9 @@ class Walks(unittest.TestCase):
 
     def test_by_chance(self):
         chance = random.Random(6)
-        for words in [*FEW, *MANY]:
-            for _ in range(60):
-                card = any_values(chance, words)
-                self.as_reckoned(card, tuple(chance.getrandbits(card.width) for _ in range(words)))
+        for _ in range(500):
+            card = tiedraw.read(any_card(chance))
+            self.as_reckoned(card, tuple(chance.getrandbits(card.width) for _ in range(card.words)))
 
     def test_further_words_of_every_width(self):
         """Also where k is 0 modulo the width, and the word is added as it is."""
