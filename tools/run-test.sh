@@ -26,6 +26,7 @@ expect "verdict 0" 0 "${run[@]}" CARD=$'# TSC-1\n00 # every field is absent'
 expect "verdict 6" 1 "${run[@]}" CARD=$'02\n1C'
 expect "verdict 1" 1 "${run[@]}" CARD=
 expect "verdict 0" 0 "${run[@]}" FILE=cards/p2.hex
+expect "verdict 0" 0 "${run[@]}" FILE=cards/eight.hex
 expect "CARD: ';' is no hex digit" 1 "${run[@]}" CARD="00; touch $work/run"
 expect "CARD: '\$' is no hex digit" 1 "${run[@]}" CARD="\$(shell touch $work/run)"
 expect "CARD: '\`' is no hex digit" 1 "${run[@]}" CARD="\`touch $work/run\`"

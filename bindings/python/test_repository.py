@@ -6,6 +6,7 @@ import unittest
 
 import tiedraw
 from tiedraw import Refusal
+from tiedraw._text import card_bytes
 
 ROOT = pathlib.Path(__file__).resolve().parents[2]
 
@@ -88,10 +89,11 @@ class Bounds(unittest.TestCase):
 
 class Cards(unittest.TestCase):
     def test_the_cards_are_read_by_the_command_line(self):
-        from tiedraw._text import card_bytes
-
         for file in sorted((ROOT / "cards").glob("*.hex")):
             tiedraw.check(card_bytes(f"@{file}"))
+
+    def test_the_card_of_eight_words_is_made_by_its_seed(self):
+        self.assertEqual(card_bytes(f"@{ROOT / 'cards/eight.hex'}"), tiedraw.new_card(8, seed="eight"))
 
 
 if __name__ == "__main__":
