@@ -258,14 +258,17 @@ pub fn step(card: &Card, state: &[u32]) -> Vec<u32> {
 /// The one state whose step is the given state, for an accepted card. Selector bit i depends
 /// only on columns below i (document 002, Definition 2), so the columns come up from the lowest.
 pub fn step_back(card: &Card, state: &[u32]) -> Vec<u32> {
+    let mut place_of = vec![0; card.table.len()]; // an accepted table has every entry
+    for (place, entry) in card.table.iter().enumerate() {
+        place_of[usize::from(*entry)] = place as u8;
+    }
     let mut before = vec![0; state.len()];
     for i in 0..card.width {
         // columns i and above are still 0 here, which leaves bit i as it is
         let alpha = selector(card, &before);
         let mut value = column(state, i);
         for _ in 0..power(card, alpha, i) {
-            let place = card.table.iter().position(|&entry| entry == value);
-            value = place.expect("an accepted table has every entry") as u8;
+            value = place_of[usize::from(value)];
         }
         put_column(&mut before, i, value);
     }
