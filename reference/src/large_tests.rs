@@ -63,7 +63,7 @@ fn tables() {
             }
         }
     }
-    // m = 4 still takes 16 entries: 16 more are left over
+    // m = 4 still takes 16 entries, of which the last is 16 here; then 16 are left over
     assert_eq!(check(&[&[0x04][..], &ring(5)].concat()), 2);
     assert_eq!(check(&[&[0x04][..], &ring(4), &ring(4)].concat()), 5);
 }
