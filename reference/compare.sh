@@ -35,10 +35,10 @@ $programs/replay < $fresh/stdin > $fresh/stdout
 stored $fresh/stdin crates/replay/stdin
 stored $fresh/stdout crates/replay/stdout
 
-# the program's outputs
+# the outputs of the program; `long` is a card of 267 bytes and more behind it, past the 512 that are read
 $programs/inspect < crates/inspect_card/stdin > $fresh/inspect_card
 stored $fresh/inspect_card crates/inspect_card/stdout
-for input in p1 p2 refused nothing long; do
+for input in p1 p2 refused nothing long eight_words; do
     $programs/inspect < crates/inspect_inputs/data/$input
 done > $fresh/inspect_inputs
 stored $fresh/inspect_inputs crates/inspect_inputs/stdout

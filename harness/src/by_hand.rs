@@ -1,41 +1,43 @@
 //! The generator in Rust as one would write it by hand for speed, for any accepted card: what the library's fill is timed
 //! beside. All columns at once by minterm masks, and column by column, with the same selector and word. And how near a pick
-//! is, for the library's margin.
+//! is, for the library's margin. Written for cards of up to M words with E = 2^M entries, so that a small card does not pay
+//! for the largest.
 
 use reference::{mask, Card};
 use std::array::from_fn;
-use tiedraw::{Choice, Margin, Shovel, MOST_TAKEN, MOST_WORDS, TABLE_SIZE};
+use tiedraw::{Choice, Margin, Shovel, MOST_TAKEN};
 
 /// Words past the card's are 0.
-pub type State = [u32; MOST_WORDS];
-type Entries = [u32; TABLE_SIZE];
+pub type State<const M: usize> = [u32; M];
 
 /// What depends on the card alone, worked out once.
-pub struct Setup {
+pub struct Setup<const M: usize, const E: usize> {
     /// n
     width: u32,
     /// 2^n - 1
     low: u32,
     /// ones in each word past m
-    absent: State,
+    absent: State<M>,
     constant: u32,
     /// 2^n - 1 where the selector has the term 2s, else 0
     doubled: u32,
     filter: u8,
     /// places of the filter's rotations, below n
     rotations: [u32; 5],
+    /// those of each word from x4 on
+    more: State<M>,
     /// the table's even power, then its odd one
-    powers: [Entries; 2],
+    powers: [[u32; E]; 2],
 }
 
 /// The table applied k times, for every entry; 0 past 2^m, which no column holds.
-fn power(table: &[u8], k: u8) -> Entries {
+fn power<const E: usize>(table: &[u8], k: u8) -> [u32; E] {
     let image = |x: usize| (0..k).fold(x, |x, _| usize::from(table[x]));
     from_fn(|x| if x < table.len() { image(x) as u32 } else { 0 })
 }
 
-impl Setup {
-    pub fn new(card: &Card) -> Setup {
+impl<const M: usize, const E: usize> Setup<M, E> {
+    pub fn new(card: &Card) -> Setup<M, E> {
         let low = mask(card.width);
         let rotations = match card.filter {
             1 => [9, 15, 7, 0, 0],
@@ -49,11 +51,12 @@ impl Setup {
             doubled: low * u32::from(card.sum_term),
             filter: card.filter,
             rotations: rotations.map(|places| places % u32::from(card.width)),
+            more: from_fn(|k| k as u32 % u32::from(card.width)),
             powers: [card.even_power, card.odd_power].map(|k| power(&card.table, k)),
         }
     }
 
-    fn selector(&self, x: &State) -> u32 {
+    fn selector(&self, x: &State<M>) -> u32 {
         let mut p = self.low;
         let mut sum = 0u32;
         for (word, absent) in x.iter().zip(&self.absent) {
@@ -72,7 +75,14 @@ impl Setup {
         (x << places & self.low) | (x >> 1 >> (self.width - 1 - places))
     }
 
-    fn word(&self, x: &State) -> u32 {
+    fn word(&self, x: &State<M>) -> u32 {
+        let more = x.iter().zip(&self.more).skip(4);
+        more.fold(self.word_of_four(x), |sum, (&word, &places)| {
+            self.add(sum, self.rotated(word, places))
+        })
+    }
+
+    fn word_of_four(&self, x: &State<M>) -> u32 {
         let [a, b, c, d, e] = self.rotations;
         if self.filter == 2 {
             let first = self.add(self.rotated(x[0], a), x[1]);
@@ -92,7 +102,7 @@ impl Setup {
 // ---- By minterm masks.
 
 /// The columns that hold c.
-fn holding(setup: &Setup, x: &State, c: u32) -> u32 {
+fn holding<const M: usize, const E: usize>(setup: &Setup<M, E>, x: &State<M>, c: u32) -> u32 {
     let mut t = setup.low;
     for (k, word) in x.iter().enumerate() {
         t &= word ^ (c >> k & 1).wrapping_sub(1);
@@ -101,17 +111,17 @@ fn holding(setup: &Setup, x: &State, c: u32) -> u32 {
 }
 
 /// Image d put in at the columns t.
-fn put(after: &mut State, t: u32, d: u32) {
+fn put<const M: usize>(after: &mut State<M>, t: u32, d: u32) {
     for (k, word) in after.iter_mut().enumerate() {
         *word |= t & 0u32.wrapping_sub(d >> k & 1);
     }
 }
 
-fn step_by_masks(setup: &Setup, x: &State) -> State {
+fn step_by_masks<const M: usize, const E: usize>(setup: &Setup<M, E>, x: &State<M>) -> State<M> {
     let a = setup.selector(x);
     let [even, odd] = &setup.powers;
-    let (mut u, mut v) = ([0; MOST_WORDS], [0; MOST_WORDS]);
-    for c in 0..TABLE_SIZE {
+    let (mut u, mut v) = ([0; M], [0; M]);
+    for c in 0..E {
         let t = holding(setup, x, c as u32);
         put(&mut u, t, odd[c]);
         put(&mut v, t, even[c]);
@@ -121,12 +131,11 @@ fn step_by_masks(setup: &Setup, x: &State) -> State {
 
 // ---- Column by column.
 
-fn step_by_columns(setup: &Setup, x: &State) -> State {
+fn step_by_columns<const M: usize, const E: usize>(setup: &Setup<M, E>, x: &State<M>) -> State<M> {
     let a = setup.selector(x);
-    let mut after = [0; MOST_WORDS];
+    let mut after = [0; M];
     for i in 0..setup.width {
-        let bit = |k: usize| x[k] >> i & 1;
-        let column = bit(0) | bit(1) << 1 | bit(2) << 2 | bit(3) << 3;
+        let column = (0..M).fold(0, |column, k| column | (x[k] >> i & 1) << k);
         let to = setup.powers[(a >> i & 1) as usize][column as usize];
         for (k, word) in after.iter_mut().enumerate() {
             *word |= (to >> k & 1) << i;
@@ -138,13 +147,13 @@ fn step_by_columns(setup: &Setup, x: &State) -> State {
 // ---- A strip of words.
 
 /// Fills a strip and carries the state on.
-pub type Fill = fn(&Setup, &mut State, &mut [u32]);
+pub type Fill<const M: usize, const E: usize> = fn(&Setup<M, E>, &mut State<M>, &mut [u32]);
 
-fn fill(
-    setup: &Setup,
-    state: &mut State,
+fn fill<const M: usize, const E: usize>(
+    setup: &Setup<M, E>,
+    state: &mut State<M>,
     strip: &mut [u32],
-    step: impl Fn(&Setup, &State) -> State,
+    step: impl Fn(&Setup<M, E>, &State<M>) -> State<M>,
 ) {
     let mut x = *state;
     for word in strip {
@@ -154,24 +163,32 @@ fn fill(
     *state = x;
 }
 
-pub fn fill_by_masks(setup: &Setup, state: &mut State, strip: &mut [u32]) {
+pub fn fill_by_masks<const M: usize, const E: usize>(
+    setup: &Setup<M, E>,
+    state: &mut State<M>,
+    strip: &mut [u32],
+) {
     fill(setup, state, strip, step_by_masks)
 }
 
-pub fn fill_by_columns(setup: &Setup, state: &mut State, strip: &mut [u32]) {
+pub fn fill_by_columns<const M: usize, const E: usize>(
+    setup: &Setup<M, E>,
+    state: &mut State<M>,
+    strip: &mut [u32],
+) {
     fill(setup, state, strip, step_by_columns)
 }
 
 // ---- How near a pick is: document 02, Four.
 
 /// The words from a state on, each drawn once, when it is first asked for.
-struct Words<'a> {
-    setup: &'a Setup,
-    state: State,
+struct Words<'a, const M: usize, const E: usize> {
+    setup: &'a Setup<M, E>,
+    state: State<M>,
     drawn: Vec<u32>,
 }
 
-impl Words<'_> {
+impl<const M: usize, const E: usize> Words<'_, M, E> {
     /// The word at a place up to the first that is not yet drawn.
     fn word(&mut self, place: usize) -> usize {
         if place == self.drawn.len() {
@@ -218,7 +235,11 @@ fn two_least(list: &[Shovel]) -> (u32, u32) {
 
 /// Of a sound list; none where the pick is firm or refused. A time is changed to less than the least of the others, to as
 /// much and to more, each by as little as can be.
-pub fn margin(setup: &Setup, state: &State, mut list: Vec<Shovel>) -> Option<Margin> {
+pub fn margin<const M: usize, const E: usize>(
+    setup: &Setup<M, E>,
+    state: &State<M>,
+    mut list: Vec<Shovel>,
+) -> Option<Margin> {
     list.sort_unstable_by_key(|shovel| shovel.number);
     let mut words = Words {
         setup,

@@ -5,7 +5,7 @@ use crate::inputs::Input;
 use reference::fill::call_fill;
 use reference::margin::{call_margin, margin_by_all_amounts};
 use reference::pick::{call_pick, limit};
-use reference::{call_write, Card, TABLE_ENTRIES};
+use reference::{call_write, Card, MOST_WORDS, TABLE_ENTRIES};
 use std::hint::black_box;
 use std::iter::once;
 use tiedraw::{ffi, MOST_TAKEN};
@@ -264,7 +264,7 @@ fn second_margin(input: &Input) -> Result<Values, u8> {
     ]))
 }
 
-/// The second program's writer takes document 01's array of 16 entries; the library's rule for tables of another length is put around it.
+/// The second program's writer takes the papers' array of 256 entries; the library's rule for tables of another length is put around it.
 fn second_write(values: &Card, page: &[u8]) -> Observed {
     let mut lent = page.to_vec();
     let mut card = values.clone();
@@ -280,10 +280,17 @@ fn second_write(values: &Card, page: &[u8]) -> Observed {
 
 // ---- The comparison.
 
+/// Whether a card's bytes name five to eight words, also where it is refused.
+fn is_large(card: &[u8]) -> bool {
+    matches!(card, [map, 5..=MOST_WORDS, ..] if map & 1 == 1)
+}
+
 /// What the calls but the margin told on one input, where the two sides agree.
 #[derive(Default)]
 pub struct Told {
     pub refusals: [u8; MARGIN],
+    /// for each call, whether there were more than four words
+    pub large: [bool; MARGIN],
     /// where the pick is counted, as `pick_column` says
     pub pick: Option<usize>,
     /// words that the fill wrote
@@ -332,6 +339,10 @@ pub fn compare(input: &Input) -> Result<Told, String> {
     for (call, name) in CALLS[..MARGIN].iter().enumerate() {
         let after = compare_call(call, input)?;
         told.refusals[call] = after.refusal;
+        told.large[call] = match *name {
+            "write" => (5..=MOST_WORDS).contains(&input.values.words),
+            _ => is_large(&input.card),
+        };
         match *name {
             "pick" => told.pick = pick_column(input, &after),
             "fill" if after.refusal == 0 => told.filled = input.span.1,
@@ -354,6 +365,8 @@ pub const MARGINS: [&str; 6] = [
 /// What the margin told on one input, where the two sides agree.
 pub struct ToldMargin {
     pub refusal: u8,
+    /// whether there were more than four words
+    pub large: bool,
     /// the place in MARGINS
     pub column: Option<usize>,
 }
@@ -370,6 +383,7 @@ pub fn compare_margin(input: &Input) -> Result<ToldMargin, String> {
     let half = MARGINS.len() / 2 * usize::from(all_amounts(input));
     Ok(ToldMargin {
         refusal: after.refusal,
+        large: is_large(&input.card),
         column: column.map(|column| half + column),
     })
 }

@@ -2,7 +2,10 @@
 //! and inputs for the margin, which the second program finds by trying, so that each takes long.
 
 use crate::random::Random;
-use reference::{check, encode, mask, step_back, word, Card, TSC1_CONSTANT, TSC1_TABLE};
+use reference::{
+    check, encode, mask, step_back, word, Card, MOST_WORDS, TABLE_ENTRIES, TSC1_CONSTANT,
+    TSC1_TABLE,
+};
 
 /// One input: each of the library's calls takes some of it.
 #[derive(Clone, Debug, PartialEq)]
@@ -64,7 +67,7 @@ impl Input {
 
 /// Values that the check accepts: the swaps (Sattolo) make a random single cycle. Some fields have their absent values.
 fn accepted_values(words: u8, width: u8, random: &mut Random) -> Card {
-    let mut table: Vec<u8> = (0..1 << words).collect();
+    let mut table: Vec<u8> = (0..=u8::MAX).take(1 << words).collect();
     for place in (1..table.len()).rev() {
         table.swap(place, random.below(place));
     }
@@ -103,9 +106,16 @@ pub fn sound_form(words: u8, width: u8, random: &mut Random) -> Card {
     card
 }
 
+/// Up to four words as often as more, and eight as often as five to seven.
+fn word_count(random: &mut Random) -> u8 {
+    let few = random.within(2, 4) as u8;
+    let many = [random.within(5, 7) as u8, MOST_WORDS][random.below(2)];
+    [few, many][random.below(2)]
+}
+
 /// Values of sound form, of 32 bits, any width or a narrow one; or those of a slow card.
 fn sound_values(random: &mut Random) -> Card {
-    let words = random.within(2, 4) as u8;
+    let words = word_count(random);
     match random.below(6) {
         0..=2 => sound_form(words, 32, random),
         3 => sound_form(words, random.within(2, 32) as u8, random),
@@ -127,7 +137,7 @@ fn slow_values(words: u8, random: &mut Random) -> Card {
 
 /// Values that the check accepts, of 2 to 4 bits, any width or 32, or those of a slow card.
 fn margin_values(random: &mut Random) -> Card {
-    let words = random.within(2, 4) as u8;
+    let words = word_count(random);
     match random.below(5) {
         0 | 1 => accepted_values(words, random.within(2, 4) as u8, random),
         2 => accepted_values(words, random.within(2, 32) as u8, random),
@@ -144,8 +154,14 @@ fn card_bytes(sound: &Card, random: &mut Random) -> Vec<u8> {
         0 => bytes[place] = random.byte(),
         1 => bytes[place] ^= 1 << random.below(8),
         2 => bytes.truncate(place),
-        3 => bytes.extend((0..random.within(1, 40)).map(|_| random.byte())),
-        4 => bytes = (0..random.below(40)).map(|_| random.byte()).collect(),
+        3 => {
+            let most = [1, 40, 300][random.below(3)];
+            bytes.extend((0..random.within(1, most)).map(|_| random.byte()));
+        }
+        4 => {
+            let most = [40, 300, 600][random.below(3)];
+            bytes = (0..random.below(most)).map(|_| random.byte()).collect();
+        }
         5 => bytes = small_card(random),
         6 => bytes = idle_card(sound, random),
         _ => {}
@@ -156,7 +172,7 @@ fn card_bytes(sound: &Card, random: &mut Random) -> Vec<u8> {
 /// A random map with plausible fields after it.
 fn small_card(random: &mut Random) -> Vec<u8> {
     let mut bytes = vec![random.byte() & [0xff, 0xdb, 0x03, 0xc3][random.below(4)]];
-    bytes.extend((0..random.below(12)).map(|_| random.below(5) as u8));
+    bytes.extend((0..random.below(12)).map(|_| random.below(10) as u8));
     bytes
 }
 
@@ -193,12 +209,12 @@ fn idle_card(sound: &Card, random: &mut Random) -> Vec<u8> {
 
 /// State words: mostly a state of the card's size, also one whose next word is large; else of another size, or with high bits.
 fn state_words(card: &Card, random: &mut Random) -> Vec<u32> {
-    if card.words == 4 && random.once_in(6) && check(&encode(card)) == 0 {
+    if card.words >= 4 && random.once_in(6) && check(&encode(card)) == 0 {
         return before_large_word(card, random);
     }
     let right = usize::from(card.words);
     let size = match random.below(24) {
-        0 | 1 => random.below(7),
+        0 | 1 => random.below(11),
         2 => right + [256, 65536][random.below(2)],
         _ => right,
     };
@@ -218,17 +234,19 @@ fn state_words(card: &Card, random: &mut Random) -> Vec<u32> {
 
 /// A state of an accepted card, also one whose next word is large.
 fn sound_state(card: &Card, random: &mut Random) -> Vec<u32> {
-    if card.words == 4 && random.once_in(4) {
+    if card.words >= 4 && random.once_in(4) {
         return before_large_word(card, random);
     }
     let mut word = || random.word() as u32 & mask(card.width);
     (0..card.words).map(|_| word()).collect()
 }
 
-/// A state of an accepted card of four words whose next word is one of the 64 largest, so that wide cards have words passed over too. Either filter adds the last state word.
+/// A state of an accepted card of four words or more whose next word is one of the 64 largest, so that wide cards have words passed over too. Either filter adds x3.
 fn before_large_word(card: &Card, random: &mut Random) -> Vec<u32> {
     let largest = mask(card.width);
-    let mut after: Vec<u32> = (0..4).map(|_| random.word() as u32 & largest).collect();
+    let mut after: Vec<u32> = (0..card.words)
+        .map(|_| random.word() as u32 & largest)
+        .collect();
     let bits = random.below(7);
     let wanted = largest.wrapping_sub(random.below(1 << bits) as u32);
     after[3] = 0;
@@ -385,17 +403,28 @@ fn lists(width: u8, random: &mut Random) -> (Vec<u16>, Vec<u32>) {
     (shovels, times)
 }
 
-/// The writer's values: those of a card, with the table as it is or filled up, cut or overlong; some with a value out of range.
+/// The writer's values: those of a card, with the table as it is or filled up, cut, overlong or with an unused entry that may not be 0; some with a value out of range.
 fn writer_values(mut values: Card, random: &mut Random) -> Card {
+    let size = values.table.len();
     match random.below(10) {
-        0 => values.table.resize(16, 0),
-        1 => values.table.resize(random.below(20), random.byte() % 2),
-        2 => values.table.extend((0..random.below(4)).map(|_| 0)),
+        0 => values.table.resize(TABLE_ENTRIES, 0),
+        1 => {
+            let most = [size, TABLE_ENTRIES][random.below(2)];
+            values
+                .table
+                .resize(random.below(most + 4), random.byte() % 2);
+        }
+        2 => values.table.resize(size + random.below(4), 0),
+        3 => values.table.resize(TABLE_ENTRIES + random.below(4), 0),
+        4 if size < TABLE_ENTRIES => {
+            values.table.resize(TABLE_ENTRIES, 0);
+            values.table[random.within(size, TABLE_ENTRIES - 1)] = random.byte();
+        }
         _ => {}
     }
     let any = random.byte();
     match random.below(24) {
-        0 => values.words = [0, 1, 5, any][random.below(4)],
+        0 => values.words = [0, 1, 9, any, word_count(random)][random.below(5)],
         1 => values.width = [0, 1, 33, any][random.below(4)],
         2 => values.filter = [0, 3, any][random.below(3)],
         3 => values.sum_term = [2, any][random.below(2)],
@@ -409,12 +438,15 @@ fn writer_values(mut values: Card, random: &mut Random) -> Card {
     values
 }
 
-/// A page of a length around the one needed, or of any up to 40, with random bytes on it.
+/// A page of a length around the one needed, or of any up to 300, with random bytes on it.
 fn page_for(values: &Card, random: &mut Random) -> Vec<u8> {
     let mut needed = values.clone();
-    needed.table.resize(1 << values.words.clamp(2, 4), 0);
-    let length = match random.below(4) {
+    needed
+        .table
+        .resize(1 << values.words.clamp(2, MOST_WORDS), 0);
+    let length = match random.below(8) {
         0 => random.below(40),
+        1 => random.below(300),
         _ => (encode(&needed).len() + random.below(5)).saturating_sub(2),
     };
     (0..length).map(|_| random.byte()).collect()

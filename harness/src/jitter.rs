@@ -1,13 +1,16 @@
 //! Whether a call takes as long whatever the selector is: medians for states chosen by their selectors.
 
-use crate::by_hand::State;
+use crate::by_hand;
 use crate::random::Random;
 use crate::timing::within;
 use reference::{selector, Card};
 use std::array::from_fn;
 use std::hint::black_box;
 use std::time::Instant;
-use tiedraw::TABLE_SIZE;
+
+/// Four words, and the columns they make.
+type State = by_hand::State<4>;
+const COLUMNS: usize = 16;
 
 /// A call is too short for the clock: a block, one call from each of so many states, is timed. With 512 the processor
 /// learns their selectors by heart, and a branch on the selector's bits does not show; with 4096 it does.
@@ -34,7 +37,7 @@ fn with_column(state: &State, i: u32, c: u32) -> State {
 fn state_with(card: &Card, wanted: u32, random: &mut Random) -> State {
     let mut state = [0; 4];
     for i in 0..32 {
-        let mut columns: [u32; TABLE_SIZE] = from_fn(|c| c as u32);
+        let mut columns: [u32; COLUMNS] = from_fn(|c| c as u32);
         random.shuffle(&mut columns);
         let states = columns.map(|c| with_column(&state, i, c));
         // above the top column nothing is asked for

@@ -1,11 +1,13 @@
 //! Seeded cases for `replay`, always the same ones, in sections that each open with a comment.
 //!
 //! The walks (`step`, `back`, `draw`, `words`), the picks, the cards (`check`, `read`), the writer
-//! (`write`), the form of a line, the strips (`strip`), the fair ranks of picks and the margins
-//! (`margin`) have a module each, in the order in which they came, so that earlier cases stay as
-//! they are. States that go on from case to case come from this crate's own calls.
+//! (`write`), the form of a line, the strips (`strip`), the fair ranks of picks, the margins
+//! (`margin`) and the cards of five to eight words have a module each, in the order in which they
+//! came, so that earlier cases stay as they are. States that go on from case to case come from this
+//! crate's own calls.
 
 mod cards;
+mod large;
 mod margins;
 mod picks;
 mod ranks;
@@ -87,7 +89,7 @@ impl Maker {
         random_card(words, width, &mut self.x)
     }
 
-    /// A random card of random size that the check accepts.
+    /// A random card of two to four words that the check accepts.
     fn any_card(&mut self) -> Card {
         let words = 2 + self.below(3) as u8;
         let width = 2 + self.below(31) as u8;
@@ -97,7 +99,7 @@ impl Maker {
 
 /// A card that the check accepts; the swaps (Sattolo) make a random ring of the table.
 pub fn random_card(words: u8, width: u8, x: &mut u32) -> Card {
-    let mut table: Vec<u8> = (0..1 << words).collect();
+    let mut table: Vec<u8> = (0..=u8::MAX).take(1 << words).collect();
     for place in (1..table.len()).rev() {
         table.swap(place, next(x) as usize % place);
     }
@@ -129,6 +131,7 @@ pub fn cases() -> Vec<u8> {
     strips::make(&mut maker);
     ranks::make(&mut maker);
     margins::make(&mut maker);
+    large::make(&mut maker);
     maker.lines
 }
 
@@ -223,7 +226,7 @@ mod tests {
         assert!(count("strip", "strip") >= 300 && count("strip", "refused 17") >= 100);
         assert!(count("margin", "change") >= 600 && count("margin", "refused 19") >= 30);
         assert!(rows.iter().filter(|row| row.1 == "syntax").count() >= 1_000);
-        assert!(cases().len() < 2_600_000);
+        assert!(cases().len() < 4_000_000);
     }
 
     /// The words that a pick took, by the case `words`: all but the last are passed over, the last

@@ -124,7 +124,7 @@ mod tests {
     fn as_single_draws_and_in_parts() {
         let mut x = 3;
         for _ in 0..500 {
-            let (words, width) = (2 + next(&mut x) % 3, 2 + next(&mut x) % 31);
+            let (words, width) = (2 + next(&mut x) % 7, 2 + next(&mut x) % 31);
             let card = encode(&random_card(words as u8, width as u8, &mut x));
             let low = mask(width as u8);
             let start: Vec<u32> = (0..words).map(|_| next(&mut x) & low).collect();

@@ -7,6 +7,8 @@
 
 pub mod cases;
 pub mod fill;
+#[cfg(test)]
+mod large_tests;
 pub mod margin;
 pub mod pick;
 pub mod replay;
@@ -15,8 +17,12 @@ pub mod replay;
 pub const TSC1_TABLE: [u8; 16] = [3, 5, 9, 13, 1, 6, 11, 15, 4, 0, 8, 14, 10, 7, 2, 12];
 /// The table of TSC-2, document 002 (19).
 pub const TSC2_TABLE: [u8; 16] = [5, 2, 11, 12, 13, 4, 3, 14, 15, 8, 1, 6, 7, 10, 9, 0];
+/// The most words of a state, the largest m (document 02, Five).
+pub const MOST_WORDS: u8 = 8;
 /// The entries of the array in which the writer takes a table, 2^m for the largest m.
-pub const TABLE_ENTRIES: usize = 16;
+pub const TABLE_ENTRIES: usize = 1 << MOST_WORDS;
+/// The most bytes that the program reads (document 02, Five).
+pub const MOST_READ: usize = 512;
 /// The constant C of TSC-1, document 002 (13).
 pub const TSC1_CONSTANT: u32 = 0x1248_8421;
 
@@ -62,20 +68,25 @@ fn field(rest: &mut &[u8], present: bool, low: u8, high: u8, absent: u8) -> Resu
     Ok(value)
 }
 
+/// True when each entry is below 2^m, which for m = 8 is every byte.
+fn entries_in_range(table: &[u8], words: u8) -> bool {
+    table.iter().all(|&entry| u32::from(entry) < 1 << words)
+}
+
 /// Reads a card of sound form; refusals 1 to 6.
 pub fn read(bytes: &[u8]) -> Result<Card, u8> {
     let mut rest = bytes;
     let map = take(&mut rest, 1)?[0];
     let present = |bit: u8| (map >> bit) & 1 == 1;
 
-    let words = field(&mut rest, present(0), 2, 4, 4)?;
+    let words = field(&mut rest, present(0), 2, MOST_WORDS, 4)?;
     let width = field(&mut rest, present(1), 2, 32, 32)?;
     let table = match (present(2), words) {
         (true, _) => take(&mut rest, 1 << words)?.to_vec(),
         (false, 4) => TSC1_TABLE.to_vec(),
         (false, _) => return Err(4),
     };
-    if table.iter().any(|&entry| entry >= 1 << words) {
+    if !entries_in_range(&table, words) {
         return Err(2);
     }
     if present(2) && table == TSC1_TABLE {
@@ -152,10 +163,10 @@ pub fn check(bytes: &[u8]) -> u8 {
 /// Writes a card; refusals 2, 6, 7, 8, 9. A field stands only when it differs from its absent
 /// value, the table always when m is not 4. A table of any other length than 2^m is 2.
 pub fn write(card: &Card) -> Result<Vec<u8>, u8> {
-    let in_range = (2..=4).contains(&card.words)
+    let in_range = (2..=MOST_WORDS).contains(&card.words)
         && (2..=32).contains(&card.width)
         && card.table.len() == 1 << card.words
-        && card.table.iter().all(|&entry| entry < 1 << card.words)
+        && entries_in_range(&card.table, card.words)
         && (1..=2).contains(&card.filter)
         && card.sum_term <= 1;
     if !in_range {
@@ -247,14 +258,17 @@ pub fn step(card: &Card, state: &[u32]) -> Vec<u32> {
 /// The one state whose step is the given state, for an accepted card. Selector bit i depends
 /// only on columns below i (document 002, Definition 2), so the columns come up from the lowest.
 pub fn step_back(card: &Card, state: &[u32]) -> Vec<u32> {
+    let mut place_of = vec![0; card.table.len()]; // an accepted table has every entry
+    for (place, entry) in card.table.iter().enumerate() {
+        place_of[usize::from(*entry)] = place as u8;
+    }
     let mut before = vec![0; state.len()];
     for i in 0..card.width {
         // columns i and above are still 0 here, which leaves bit i as it is
         let alpha = selector(card, &before);
         let mut value = column(state, i);
         for _ in 0..power(card, alpha, i) {
-            let place = card.table.iter().position(|&entry| entry == value);
-            value = place.expect("an accepted table has every entry") as u8;
+            value = place_of[usize::from(value)];
         }
         put_column(&mut before, i, value);
     }
@@ -270,15 +284,16 @@ fn rotate_left(value: u32, amount: u8, width: u8) -> u32 {
     ((value << by) | (value >> (width - by))) & mask(width)
 }
 
-/// The filter of a state, document 002 (15) and (20). The output word is the filter of the
+/// The filter of a state, document 002 (15) and (20), of its first four words; either adds the
+/// words from x4 on, xk turned by k (document 02, Five). The output word is the filter of the
 /// state after the step, so the caller steps first.
 pub fn word(card: &Card, state: &[u32]) -> u32 {
     let rotate = |value: u32, amount: u8| rotate_left(value, amount, card.width);
     let add = |left: u32, right: u32| left.wrapping_add(right) & mask(card.width);
-    let mut x = [0; 4]; // absent words count as 0
+    let mut x = [0; MOST_WORDS as usize]; // absent words count as 0
     x[..state.len()].copy_from_slice(state);
 
-    if card.filter == 1 {
+    let of_four = if card.filter == 1 {
         let first = rotate(add(rotate(x[0], 9), x[1]), 15);
         let second = add(rotate(x[2], 7), x[3]);
         add(first, second)
@@ -287,7 +302,8 @@ pub fn word(card: &Card, state: &[u32]) -> u32 {
         let second = rotate(add(rotate(x[0], 13), x[2]), 22);
         let third = add(rotate(x[0], 12), x[3]);
         add(add(first, second), third)
-    }
+    };
+    (4..MOST_WORDS).fold(of_four, |sum, k| add(sum, rotate(x[usize::from(k)], k)))
 }
 
 // ---- Calls on card bytes and a lent state (document 01, Refusal table) ----
@@ -305,10 +321,10 @@ fn accept_call(card: &[u8], state: &[u32]) -> Result<Card, u8> {
 }
 
 /// Writes a card to the front of the page and answers its length, or a refusal number with the
-/// page unchanged: 2, 6, 7, 8, 9, then 16. The table is the array of 16 entries, those from 2^m on
+/// page unchanged: 2, 6, 7, 8, 9, then 16. The table is the array of 256 entries, those from 2^m on
 /// 0; a table of any other length is 2.
 pub fn call_write(values: &Card, page: &mut [u8]) -> Result<usize, u8> {
-    if !(2..=4).contains(&values.words) || values.table.len() != TABLE_ENTRIES {
+    if !(2..=MOST_WORDS).contains(&values.words) || values.table.len() != TABLE_ENTRIES {
         return Err(2);
     }
     let mut card = values.clone();
@@ -381,7 +397,7 @@ mod tests {
     /// checks; given values that equal the absent ones; the ranges; 8 and 9 by one field.
     const VERDICTS: &str = "00 = 0, = 1, 01 03 = 4, 02 1c = 6, 02 1d = 0,
         05 02 00 01 02 03 = 7, 05 02 00 01 02 03 00 = 5, 08 01 = 3, 08 02 = 9, 08 03 = 0, 10 00 = 0,
-        01 01 = 2, 01 05 = 2, 01 04 = 3, 02 21 = 2, 02 20 = 3, 05 02 01 02 03 03 = 7,
+        01 01 = 2, 01 05 = 4, 01 04 = 3, 02 21 = 2, 02 20 = 3, 05 02 01 02 03 03 = 7,
         27 02 02 01 02 03 00 02 00 00 00 = 8, 27 02 02 01 02 03 00 04 00 00 00 = 6,
         c0 03 = 2, 05 03 09 = 1, 01 03 ff = 4, 09 03 = 4, 02 08 = 6, 20 21 84 48 = 1,
         04 03 05 09 0d 01 06 0b 0f 04 00 08 0e 0a 07 02 0c = 3,
@@ -439,7 +455,7 @@ mod tests {
     fn step_back_undoes_step() {
         let mut x = 1;
         for _ in 0..4000 {
-            let (words, width) = (2 + next(&mut x) % 3, 2 + next(&mut x) % 31);
+            let (words, width) = (2 + next(&mut x) % 7, 2 + next(&mut x) % 31);
             let card = random_card(words as u8, width as u8, &mut x);
             let low = mask(card.width);
             let state: Vec<u32> = (0..words).map(|_| next(&mut x) & low).collect();

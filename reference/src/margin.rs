@@ -300,7 +300,7 @@ mod tests {
 
     /// A card, most of them narrow, and a state of it.
     fn random_call(x: &mut u32) -> (Vec<u8>, Vec<u32>) {
-        let words = 2 + (next(x) % 3) as u8;
+        let words = 2 + (next(x) % 7) as u8;
         let width = 2 + (next(x) % [2, 3, 31][next(x) as usize % 3]) as u8;
         let state = (0..words).map(|_| next(x) & mask(width)).collect();
         (encode(&random_card(words, width, x)), state)

@@ -282,7 +282,7 @@ mod tests {
         let mut x = 4;
         let mut most = 0;
         for _ in 0..20_000 {
-            let (words, width) = (2 + next(&mut x) % 3, 2 + next(&mut x) % 7);
+            let (words, width) = (2 + next(&mut x) % 7, 2 + next(&mut x) % 7);
             let card = encode(&random_card(words as u8, width as u8, &mut x));
             let low = mask(width as u8);
             let state: Vec<u32> = (0..words).map(|_| next(&mut x) & low).collect();

@@ -1,6 +1,6 @@
 //! How long the library's calls take, beside Rust on the same machine in the same run. Prints nanoseconds a call, or a word of a fill, and ratios.
 
-use harness::by_hand::{self, fill_by_columns, fill_by_masks, Fill, Setup, State};
+use harness::by_hand::{self, fill_by_columns, fill_by_masks};
 use harness::jitter::steady;
 use harness::timing::{measure, within, Subject};
 use reference::{accept, Card};
@@ -27,6 +27,11 @@ const THREE_WORDS: &[u8] = &[0x27, 3, 24, 3, 5, 0, 6, 2, 7, 1, 4, 0x01, 0x48, 0x
 const WORST_POWERS: &[u8] = &[0x18, 255, 254];
 /// TSC-1 with words of 6 bits and as many bits of its constant
 const NARROW: &[u8] = &[0x22, 6, 0x21, 0, 0, 0];
+
+/// Rust's, for cards of up to four words.
+type State = by_hand::State<4>;
+type Setup = by_hand::Setup<4, 16>;
+type Fill = by_hand::Fill<4, 16>;
 
 /// The cards whose fill is held to Rust's.
 const FILLED: [(&str, &[u8]); 3] = [("P1", P1), ("P2", P2), ("3 words of 24 bits", THREE_WORDS)];

@@ -7,16 +7,33 @@ use harness::random::Random;
 use std::panic::catch_unwind;
 use std::process::exit;
 use std::sync::atomic::{AtomicUsize, Ordering};
-use tiedraw::MOST_TAKEN;
+use tiedraw::{Refusal, MOST_TAKEN};
 
-/// inputs, or cards, of one random stream
+/// inputs of one random stream
 const BLOCK: usize = 1000;
 /// inputs of the margin beside each block: the second program takes long for them
 const OF_MARGIN: usize = 125;
-/// cards of each size whose walks are counted out
-const CARDS: usize = 3000;
-/// the most bits of a state for that
-const MOST_BITS: u8 = 12;
+/// The sizes whose walks are counted out, and cards of each: up to 12 bits of a state with two to four words, up to 16 with
+/// five to eight.
+const WALKS: [(u8, u8, usize); 15] = [
+    (2, 2, 3000),
+    (2, 3, 3000),
+    (2, 4, 3000),
+    (2, 5, 3000),
+    (2, 6, 3000),
+    (3, 2, 3000),
+    (3, 3, 3000),
+    (3, 4, 3000),
+    (4, 2, 3000),
+    (4, 3, 3000),
+    (5, 2, 1000),
+    (5, 3, 300),
+    (6, 2, 600),
+    (7, 2, 300),
+    (8, 2, 200),
+];
+/// cards of one random stream
+const OF_WALKS: usize = 100;
 
 /// the last refusal's number
 const REFUSALS: usize = 19;
@@ -34,11 +51,17 @@ const TELLS: [&[usize]; CALLS.len()] = [
     &[0, 1, 2, 3, 4, 5, 6, 7, 8, 9, 10, 11, 12, 13, 14, 15, 18, 19],
 ];
 
+/// For each call: answers, then refusals by their numbers.
+type Answers = [[usize; REFUSALS + 1]; CALLS.len()];
+/// The cards that are counted apart.
+const SIZES: [&str; 2] = ["up to four words", "five to eight words"];
+
 /// How often each call told each refusal, how many picks passed over how many words, how many words were filled in, and how
 /// many margins there were of each kind.
 #[derive(Default)]
 struct Tally {
-    told: [[usize; REFUSALS + 1]; CALLS.len()],
+    /// up to four words, and other cards; then five to eight words
+    told: [Answers; SIZES.len()],
     /// without ties, then with 0 to MOST_TAKEN words passed over
     picks: [usize; MOST_TAKEN + 2],
     filled: usize,
@@ -54,7 +77,8 @@ fn add_up(sums: &mut [usize], counts: &[usize]) {
 
 impl Tally {
     fn add(&mut self, other: &Tally) {
-        for (sums, counts) in self.told.iter_mut().zip(&other.told) {
+        let sums = self.told.iter_mut().flatten();
+        for (sums, counts) in sums.zip(other.told.iter().flatten()) {
             add_up(sums, counts);
         }
         add_up(&mut self.picks, &other.picks);
@@ -62,9 +86,13 @@ impl Tally {
         add_up(&mut self.margins, &other.margins);
     }
 
+    fn count_answer(&mut self, call: usize, refusal: u8, large: bool) {
+        self.told[usize::from(large)][call][usize::from(refusal)] += 1;
+    }
+
     fn count(&mut self, told: Told) {
         for (call, refusal) in told.refusals.into_iter().enumerate() {
-            self.told[call][usize::from(refusal)] += 1;
+            self.count_answer(call, refusal, told.large[call]);
         }
         if let Some(column) = told.pick {
             self.picks[column] += 1;
@@ -73,17 +101,26 @@ impl Tally {
     }
 
     fn count_margin(&mut self, told: ToldMargin) {
-        self.told[MARGIN][usize::from(told.refusal)] += 1;
+        self.count_answer(MARGIN, told.refusal, told.large);
         if let Some(column) = told.column {
             self.margins[column] += 1;
         }
     }
 
+    /// A refusal that a call never told, with either size of cards.
+    fn untold(&self) -> Option<String> {
+        for (size, answers) in SIZES.iter().zip(&self.told) {
+            for (call, tells) in TELLS.iter().enumerate() {
+                if let Some(refusal) = tells.iter().find(|&&refusal| answers[call][refusal] == 0) {
+                    return Some(format!("{size}: {} never told {refusal}", CALLS[call]));
+                }
+            }
+        }
+        None
+    }
+
     /// What never came up: a refusal of a call, a number of words passed over, or a kind of margin.
     fn missing(&self) -> Option<String> {
-        let never = |call: usize| TELLS[call].iter().find(move |&&r| self.told[call][r] == 0);
-        let untold =
-            |call| never(call).map(|refusal| format!("{} never told {refusal}", CALLS[call]));
         let empty = self.picks.iter().position(|&picks| picks == 0);
         let no_pick = empty.map(|column| match column {
             0 => "every pick had ties".to_string(),
@@ -91,8 +128,7 @@ impl Tally {
         });
         let empty = self.margins.iter().position(|&margins| margins == 0);
         let no_margin = empty.map(|column| format!("no margin {}", MARGINS[column]));
-        let missing = (0..CALLS.len()).find_map(untold);
-        missing.or(no_pick).or(no_margin)
+        self.untold().or(no_pick).or(no_margin)
     }
 
     /// How many words all picks passed over.
@@ -167,9 +203,11 @@ fn compare_inputs(seed: u64, inputs: usize) {
         blocks * OF_MARGIN,
         total.filled
     );
-    println!("answers, then refusals 1 to {REFUSALS}:");
-    for (name, sums) in CALLS.iter().zip(&total.told) {
-        println!("{name:>9} {}", columns(sums));
+    for (size, answers) in SIZES.iter().zip(&total.told) {
+        println!("{size}: answers, then refusals 1 to {REFUSALS}:");
+        for (name, sums) in CALLS.iter().zip(answers) {
+            println!("{name:>9} {}", columns(sums));
+        }
     }
     println!(
         "picks without ties, then with 0 to {MOST_TAKEN} words passed over, {} in all:",
@@ -184,58 +222,71 @@ fn compare_inputs(seed: u64, inputs: usize) {
     }
 }
 
-/// Whether the walk from a state brings up every state once and then returns, counted out with the second program's step.
-fn covers(card: &reference::Card, start: &[u32]) -> bool {
-    let width = usize::from(card.width);
+/// Whether the walk from a state by these steps brings up every state once and then returns, counted out.
+fn covers(width: u8, start: &[u32], step: impl Fn(&mut Vec<u32>)) -> bool {
     let number = |state: &[u32]| state.iter().fold(0, |sum, &x| sum << width | x as usize);
-    let mut seen = vec![false; 1 << (width * start.len())];
+    let mut seen = vec![false; 1 << (usize::from(width) * start.len())];
     let mut state = start.to_vec();
     for _ in 0..seen.len() {
         if std::mem::replace(&mut seen[number(&state)], true) {
             return false;
         }
-        state = reference::step(card, &state);
+        step(&mut state);
     }
     state == start
 }
 
-/// The verdicts on some cards of one size, each held to its walk from a random start: how many are accepted.
-fn walk_block(seed: u64, block: usize, words: u8, width: u8) -> Result<usize, String> {
+/// The verdict on a card, held to its walk from a start by the second program's step, which is the papers' definition; with
+/// more than four words an accepted card's walk by the library's step must cover as well.
+fn walk(card: &reference::Card, start: &[u32]) -> Result<u8, String> {
+    let bytes = reference::encode(card);
+    let verdict = tiedraw::check(&bytes).map_or_else(Refusal::number, |()| 0);
+    let by_definition = |state: &mut Vec<u32>| *state = reference::step(card, state);
+    let by_library = |state: &mut Vec<u32>| tiedraw::step(&bytes, state).expect("an accepted card");
+    let mut agrees = (verdict == 0) == covers(card.width, start, by_definition);
+    if verdict == 0 && card.words > 4 {
+        agrees &= covers(card.width, start, by_library);
+    }
+    let differs = || {
+        let card = hex(&bytes);
+        format!("card {card}: verdict {verdict}, but the walk from {start:x?} says otherwise")
+    };
+    agrees.then_some(verdict).ok_or_else(differs)
+}
+
+/// How often each verdict was told on some cards of one size, each walked from a random start.
+fn walk_block(seed: u64, block: usize, words: u8, width: u8) -> Result<[usize; 10], String> {
     let mut random = Random::new(
         seed ^ u64::from(words) << 40 ^ u64::from(width) << 48,
         block as u64,
     );
-    let mut accepted = 0;
-    for _ in 0..BLOCK {
+    let mut verdicts = [0; 10];
+    for _ in 0..OF_WALKS {
         let card = sound_form(words, width, &mut random);
-        let bytes = reference::encode(&card);
         let start: Vec<u32> = (0..words)
             .map(|_| random.word() as u32 & reference::mask(width))
             .collect();
-        let verdict = tiedraw::check(&bytes);
-        if verdict.is_ok() != covers(&card, &start) {
-            return Err(format!(
-                "card {}: {verdict:?}, but the walk from {start:x?} says otherwise",
-                hex(&bytes)
-            ));
-        }
-        accepted += usize::from(verdict.is_ok());
+        verdicts[usize::from(walk(&card, &start)?)] += 1;
     }
-    Ok(accepted)
+    Ok(verdicts)
 }
 
 fn count_out_walks(seed: u64) {
-    println!("walks counted out, {CARDS} cards of sound form for each size:");
-    for words in 2..=4 {
-        for width in (2..=32).take_while(|width| words * width <= MOST_BITS) {
-            let accepted: usize =
-                run_blocks(CARDS / BLOCK, |block| walk_block(seed, block, words, width))
-                    .into_iter()
-                    .sum();
-            println!(
-                "{words} words of {width} bits: {accepted} accepted, all of full length; {} refused, none of full length",
-                CARDS - accepted
-            );
+    println!("walks of cards of sound form counted out:");
+    for (words, width, cards) in WALKS {
+        let mut verdicts = [0; 10];
+        for some in run_blocks(cards / OF_WALKS, |block| {
+            walk_block(seed, block, words, width)
+        }) {
+            add_up(&mut verdicts, &some);
+        }
+        let [accepted, .., ring, even, powers] = verdicts;
+        println!(
+            "{words} words of {width} bits: {accepted} accepted, all of full length; {ring}, {even} and {powers} refused by 7, 8 and 9, none of full length"
+        );
+        if [accepted, ring, even, powers].contains(&0) {
+            println!("a verdict never came up");
+            exit(1);
         }
     }
 }

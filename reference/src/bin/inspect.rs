@@ -1,12 +1,14 @@
 //! The program of document 01, for comparison: the verdict on the card in standard input and, for
 //! an accepted card, four draws from the all-zero state.
 
-use reference::{accept, call_draw};
+use reference::{accept, call_draw, MOST_READ};
 use std::io::Read;
 
 fn main() -> std::io::Result<()> {
     let mut card = Vec::new();
-    std::io::stdin().take(64).read_to_end(&mut card)?;
+    std::io::stdin()
+        .take(MOST_READ as u64)
+        .read_to_end(&mut card)?;
     let values = match accept(&card) {
         Ok(values) => values,
         Err(refusal) => {

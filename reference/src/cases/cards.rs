@@ -1,4 +1,4 @@
-//! Cards: the check and the reader, with the refusals 1 to 9 and 1 to 6.
+//! Cards of two to four words: the check and the reader, with the refusals 1 to 9 and 1 to 6.
 
 use super::{bytes, Maker, FULL, PROGRAM, TSC1, TSC2};
 use crate::encode;
@@ -15,7 +15,7 @@ const ORDER: &str = "c003 050309 0103ff 0903 0303 030320 030321 2208218448 22082
 const CHANGES: [(usize, &[u8]); 24] = [
     (0, &[0x7f]),                    // no bit for the sum term: long
     (0, &[0xfb]),                    // no bit for the table: tableless
-    (1, &[5]),                       // words: range
+    (1, &[5]),                       // words: the table is short
     (1, &[4]),                       // words: idle
     (2, &[1]),                       // width: range
     (2, &[33]),                      // width: range
@@ -69,12 +69,12 @@ fn listed(maker: &mut Maker, content: &str, cards: &str) {
 }
 
 /// A check and a read of the same card.
-fn both(maker: &mut Maker, card: &[u8]) {
+pub(super) fn both(maker: &mut Maker, card: &[u8]) {
     check(maker, card);
     maker.line(format!("read {}", hex(card)));
 }
 
-fn check(maker: &mut Maker, card: &[u8]) {
+pub(super) fn check(maker: &mut Maker, card: &[u8]) {
     maker.line(format!("check {}", hex(card)));
 }
 
@@ -86,10 +86,19 @@ fn accepted(maker: &mut Maker) {
     }
 }
 
-/// The map and its fields, none of them idle; refused only where the table is missing.
+/// The map and its fields, none of them idle; refused only where the table is missing. Words, if
+/// given, are 2 or 3.
 fn fields(maker: &mut Maker, map: u8) -> Vec<u8> {
+    let words = match map & 1 {
+        1 => 2 + maker.byte() % 2,
+        _ => 4,
+    };
+    fields_for(maker, map, words)
+}
+
+/// The same for this number of words.
+pub(super) fn fields_for(maker: &mut Maker, map: u8, words: u8) -> Vec<u8> {
     let bit = |number: u8| (map >> number) & 1 == 1;
-    let words = if bit(0) { 2 + maker.byte() % 2 } else { 4 };
     let width = 29 + maker.byte() % 3;
     let values = maker.card(words, width);
     let constant = (values.constant & 0x1fff_ffff).to_le_bytes();
@@ -160,27 +169,31 @@ fn small_tables(maker: &mut Maker) {
     }
 }
 
-/// Tables for m = 3 and 4: the same entry everywhere, all entries in place, two rings, a ring that
-/// leaves 0 out, one entry changed, any entries.
 fn broken_rings(maker: &mut Maker) {
     maker.section("cards: broken rings for m = 3 and 4");
     for words in [3, 4].repeat(20) {
-        let ring = maker.card(words, 32).table;
-        let size = ring.len();
-        let mut tables = vec![ring.clone(); 6];
-        tables[0] = vec![maker.below(size) as u8; size];
-        tables[1] = (0..size as u8).collect();
-        let (one, other) = (maker.below(size), maker.below(size));
-        tables[2].swap(one, other);
-        let last = ring.iter().position(|&entry| entry == 0).unwrap_or(0);
-        tables[3][last] = ring[0];
-        tables[4][one] = other as u8;
-        tables[5] = (0..size).map(|_| maker.below(size) as u8).collect();
-        for table in tables {
+        for table in broken_tables(maker, words) {
             let map: &[u8] = if words == 4 { &[0x04] } else { &[0x05, 3] };
             check(maker, &[map, &table].concat());
         }
     }
+}
+
+/// Tables made of a ring: the same entry everywhere, all entries in place, two rings, a ring that
+/// leaves 0 out, one entry changed, any entries.
+pub(super) fn broken_tables(maker: &mut Maker, words: u8) -> Vec<Vec<u8>> {
+    let ring = maker.card(words, 32).table;
+    let size = ring.len();
+    let mut tables = vec![ring.clone(); 6];
+    tables[0] = vec![maker.below(size) as u8; size];
+    tables[1] = (0..size).map(|place| place as u8).collect();
+    let (one, other) = (maker.below(size), maker.below(size));
+    tables[2].swap(one, other);
+    let last = ring.iter().position(|&entry| entry == 0).unwrap_or(0);
+    tables[3][last] = ring[0];
+    tables[4][one] = other as u8;
+    tables[5] = (0..size).map(|_| maker.below(size) as u8).collect();
+    tables
 }
 
 fn powers(maker: &mut Maker) {
@@ -220,12 +233,17 @@ fn two_changes(maker: &mut Maker) {
         for second in &CHANGES[number..] {
             let mut card = bytes(FULL);
             for (place, change) in [first, second] {
-                card.resize(card.len().max(place + change.len()), 0);
-                card[*place..place + change.len()].copy_from_slice(change);
+                put(&mut card, *place, change);
             }
             both(maker, &card);
         }
     }
+}
+
+/// Writes a change over the card, which grows where it ends before it.
+pub(super) fn put(card: &mut Vec<u8>, place: usize, change: &[u8]) {
+    card.resize(card.len().max(place + change.len()), 0);
+    card[place..place + change.len()].copy_from_slice(change);
 }
 
 fn damaged(maker: &mut Maker) {
@@ -246,7 +264,7 @@ fn damaged(maker: &mut Maker) {
 }
 
 /// A byte changed, a bit flipped, a map bit flipped, a byte put in or left out, two swapped.
-fn damage(maker: &mut Maker, card: &mut Vec<u8>) {
+pub(super) fn damage(maker: &mut Maker, card: &mut Vec<u8>) {
     let place = maker.below(card.len());
     match maker.below(9) {
         0 => card[place] = maker.byte(),

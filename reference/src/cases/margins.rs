@@ -11,7 +11,7 @@ const MAX: u32 = u32::MAX;
 /// Lists of shovels and times for the refusals: good; firm; empty; a shovel twice; two more that are
 /// firm; uneven; a shovel twice among later and among too many equals; too many for words of 2 bits;
 /// at last one shovel before too many, which is firm with the program's card from 0, 0.
-const LISTS: [(&str, &str); 14] = [
+pub(super) const LISTS: [(&str, &str); 14] = [
     ("7,4", "305,300"),
     ("7", "300"),
     ("-", "-"),

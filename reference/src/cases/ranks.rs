@@ -22,7 +22,7 @@ pub fn make(maker: &mut Maker) {
 }
 
 /// A card as the cases have it.
-fn text(card: &Card) -> String {
+pub(super) fn text(card: &Card) -> String {
     hex(&encode(card))
 }
 
@@ -88,7 +88,7 @@ fn find(maker: &mut Maker, filter: u8, sum_term: u8, passed: usize) -> (Card, Ve
 }
 
 /// How many words are passed over for k equals, 16 at most.
-fn passed_over(card: &Card, start: &[u32], k: usize) -> usize {
+pub(super) fn passed_over(card: &Card, start: &[u32], k: usize) -> usize {
     let limit = limit(card.width, k);
     let mut state = start.to_vec();
     for passed in 0..16 {
@@ -121,9 +121,10 @@ fn around_the_limit(maker: &mut Maker) {
     }
 }
 
-/// A random state after which this word comes, for a card of four words: either filter adds x3.
-fn before(maker: &mut Maker, card: &Card, wanted: u32) -> Vec<u32> {
-    let mut after = maker.state(4, card.width);
+/// A random state after which this word comes, for a card of four words or more: either filter
+/// adds x3.
+pub(super) fn before(maker: &mut Maker, card: &Card, wanted: u32) -> Vec<u32> {
+    let mut after = maker.state(card.words, card.width);
     after[3] = 0;
     after[3] = wanted.wrapping_sub(word(card, &after)) & mask(card.width);
     step_back(card, &after)
@@ -131,11 +132,11 @@ fn before(maker: &mut Maker, card: &Card, wanted: u32) -> Vec<u32> {
 
 /// A list of shovels from 1 up, but for the last: how many shovels, times and equals there are,
 /// and the last shovel.
-type List = (usize, usize, usize, usize);
+pub(super) type List = (usize, usize, usize, usize);
 
 /// Lists around k equals, which are one too many: refused by 18, also among later shovels; good
 /// with one equal less; refused by 12, 14 and 15, also for a later shovel that stands twice.
-fn lists(k: usize) -> [List; 9] {
+pub(super) fn lists(k: usize) -> [List; 9] {
     [
         (k, k, k, k),
         (k + 2, k + 2, k, k + 2),
@@ -169,7 +170,7 @@ fn too_many(maker: &mut Maker) {
     }
 }
 
-fn pick_list(maker: &mut Maker, card: &str, state: &str, list: &List) {
+pub(super) fn pick_list(maker: &mut Maker, card: &str, state: &str, list: &List) {
     let &(shovel_count, time_count, ties, last) = list;
     let mut shovels: Vec<u16> = (1..=shovel_count as u16).collect();
     shovels[shovel_count - 1] = last as u16;

@@ -39,7 +39,7 @@ const FAR: [(u32, u32); 26] = [
 
 /// Spans of a strip of three words, for the order of the refusals: good, with no words wanted, one
 /// word too many, past the end with no words wanted.
-const SPANS: [(usize, usize); 4] = [(1, 2), (1, 0), (1, 3), (4, 0)];
+pub(super) const SPANS: [(usize, usize); 4] = [(1, 2), (1, 0), (1, 3), (4, 0)];
 
 /// Cards and states: a word too large, too many or too few words, also with one too large, and
 /// the largest words that are good.
@@ -97,7 +97,13 @@ pub fn make(maker: &mut Maker) {
 }
 
 /// The case with these fields.
-fn strip(maker: &mut Maker, card: &[u8], state: &[u32], lent: &[u32], span: (usize, usize)) {
+pub(super) fn strip(
+    maker: &mut Maker,
+    card: &[u8],
+    state: &[u32],
+    lent: &[u32],
+    span: (usize, usize),
+) {
     let (card, state, lent) = (hex(card), words(state), words(lent));
     let (place, count) = span;
     maker.line(format!("strip {card} {state} {lent} {place} {count}"));
@@ -116,12 +122,12 @@ fn filled(
 }
 
 /// A strip of random words, of 32 bits whatever the card.
-fn random_strip(maker: &mut Maker, length: usize) -> Vec<u32> {
+pub(super) fn random_strip(maker: &mut Maker, length: usize) -> Vec<u32> {
     (0..length).map(|_| maker.word()).collect()
 }
 
 /// A random span of a strip of this length.
-fn random_span(maker: &mut Maker, length: usize) -> (usize, usize) {
+pub(super) fn random_span(maker: &mut Maker, length: usize) -> (usize, usize) {
     let place = maker.below(length + 1);
     (place, maker.below(length - place + 1))
 }

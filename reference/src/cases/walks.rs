@@ -1,4 +1,4 @@
-//! Walks: words, steps, steps back and draws.
+//! Walks of cards of two to four words: words, steps, steps back and draws.
 
 use super::{bytes, Maker, FULL, PROGRAM, REFUSED, TSC1, TSC2};
 use crate::replay::{commas, hex, words};
@@ -12,7 +12,7 @@ const STARTS: [[u32; 4]; 4] = [
     [0x8000_0000, 0x0000_0001, 0x7fff_ffff, 0x1248_8421],
 ];
 
-const CALLS: [&str; 4] = ["step", "back", "draw", "words"];
+pub(super) const CALLS: [&str; 4] = ["step", "back", "draw", "words"];
 
 pub fn make(maker: &mut Maker) {
     published(maker);
@@ -59,7 +59,7 @@ fn sizes(maker: &mut Maker) {
 /// Words from the start. A step back from the start, the step that undoes it, and one more back;
 /// a step from the start and the step back that undoes it. A draw from the state after the words,
 /// and three steps back from there.
-fn run(maker: &mut Maker, card: &Card, start: &[u32], count: usize) {
+pub(super) fn run(maker: &mut Maker, card: &Card, start: &[u32], count: usize) {
     let bytes = hex(&encode(card));
     maker.line(format!("words {bytes} {} {count}", words(start)));
     let mut call = |name, state: &[u32]| maker.line(format!("{name} {bytes} {}", words(state)));
@@ -93,7 +93,7 @@ fn counts(maker: &mut Maker) {
 }
 
 /// One of the calls; `words` with a count of 0, 1 or 1024.
-fn call(maker: &mut Maker, name: &str, card: &str, state: &str) {
+pub(super) fn call(maker: &mut Maker, name: &str, card: &str, state: &str) {
     let count = match name {
         "words" => [" 0", " 1", " 1024"][maker.below(3)],
         _ => "",

@@ -1,10 +1,14 @@
-//! The writer, with the refusals 2, 6, 7, 8, 9 and 16.
+//! The writer of cards of two to four words, with the refusals 2, 6, 7, 8, 9 and 16.
 
 use super::{bytes, Maker, FULL, PROGRAM, TSC1, TSC2};
 use crate::replay::commas;
-use crate::{accept, encode, Card, TABLE_ENTRIES, TSC1_CONSTANT, TSC1_TABLE};
+use crate::{accept, encode, Card, TSC1_CONSTANT, TSC1_TABLE};
 
-/// Changes that the writer refuses, for values with 3 words and 17 bits.
+/// The most entries handed over here, those of four words. Larger tables are in the module `large`.
+const ENTRIES: usize = 16;
+
+/// Changes that the writer refuses, for values with 3 words and 17 bits. With 5 words the table is
+/// no ring.
 const CHANGES: [fn(&mut Card); 20] = [
     |values| values.words = 0,
     |values| values.words = 1,
@@ -41,7 +45,7 @@ pub fn make(maker: &mut Maker) {
 }
 
 /// The case with the table as it stands; C in decimal or in hex.
-fn write(maker: &mut Maker, values: &Card, page: usize) {
+pub(super) fn write(maker: &mut Maker, values: &Card, page: usize) {
     let constant = match maker.below(2) {
         0 => format!("{}", values.constant),
         _ => format!("0x{:x}", values.constant),
@@ -131,10 +135,10 @@ fn entries(maker: &mut Maker) {
     maker.section("write: table entries at and past the end of their range, and unused ones");
     for card in [TSC2, PROGRAM, FULL].map(values) {
         let size = card.table.len();
-        for place in 0..TABLE_ENTRIES {
+        for place in 0..ENTRIES {
             for entry in [1, size - 1, size, 255] {
                 let mut changed = card.clone();
-                changed.table.resize(TABLE_ENTRIES, 0);
+                changed.table.resize(ENTRIES, 0);
                 changed.table[place] = entry as u8;
                 write(maker, &changed, 26);
             }
@@ -146,7 +150,7 @@ fn entries(maker: &mut Maker) {
 fn short_tables(maker: &mut Maker) {
     maker.section("write: tables of each length");
     for card in [TSC1, TSC2, PROGRAM, FULL].map(values) {
-        for count in 0..=TABLE_ENTRIES {
+        for count in 0..=ENTRIES {
             let mut changed = card.clone();
             changed.table.resize(count, 0);
             write(maker, &changed, 30);
@@ -197,7 +201,7 @@ fn powers(maker: &mut Maker) {
 fn two_changes(maker: &mut Maker) {
     maker.section("write: one or two changes, for the order");
     let mut full = values(FULL);
-    full.table.resize(TABLE_ENTRIES, 0);
+    full.table.resize(ENTRIES, 0);
     for (number, first) in CHANGES.iter().enumerate() {
         for second in &CHANGES[number..] {
             let mut changed = full.clone();
@@ -224,7 +228,7 @@ fn random_values(maker: &mut Maker) {
             6 => card.table.push(maker.byte() % 2),
             _ => {}
         }
-        card.table.truncate(TABLE_ENTRIES);
+        card.table.truncate(ENTRIES);
         let page = 10 + maker.below(20);
         write(maker, &card, page);
     }
