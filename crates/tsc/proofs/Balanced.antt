@@ -9,20 +9,22 @@ use Prim.Native.Nat.{ℕ, zero, suc, _+_, _-_, _*_, _/_, _%_, _^_, _≤_, _<_}
 use native.Mathlib.Nat.{add-comm, mul-one, mul-comm, suc-mul, mod-lt}
 use native.Mathlib.Omega.{arith}
 use lib.Dec.{eqb}
-use lib.ListN.{getD}
+use lib.ListN.{length, getD}
 use lib.Pow.{pow-pos, pow-add}
 use Rattle.cycle.specs.Notation.{bit, count}
 use Rattle.cycle.specs.Fair.{largestMultiple, givesRank}
 use Rattle.cycle.proofs.Bits.{bits-ext}
 use Rattle.cycle.proofs.Pigeonhole.{count-equal}
+use Rattle.cycle.proofs.Sum.{sum-ext}
 use Rattle.cycle.proofs.Remainder.{add-mod-injective, count-spread, ranks-fair}
 use Rattle.tsc.specs.declared.Card.{Card}
+use Rattle.tsc.specs.Constants.{filterWords}
 use Rattle.tsc.specs.Columns.{InRange}
-use Rattle.tsc.specs.Word.{_⊞_, _⋘_, filter1, filter2, word}
+use Rattle.tsc.specs.Word.{_⊞_, _⋘_, filter1, filter2, further, filtered, word}
 use Rattle.tsc.specs.Step.{step}
 use Rattle.tsc.specs.Coverage.{IsState, states, stepBack, ListsStates, WellFormed, FullPeriod}
 use Rattle.tsc.proofs.Number.{number, number-below, number-injective, stateOf, stateOf-in-range, stateOf-injective, numbers-list, count-listed}
-use Rattle.tsc.proofs.Word.{rotate-lt, rotate-bit, word-lt}
+use Rattle.tsc.proofs.Word.{rotate-lt, rotate-bit, filtered-lt, word-lt}
 use Rattle.tsc.proofs.StepBack.{step-back-in-range, step-of-back, back-only}
 
 -- ---- a filter, for fixed other words, is injective in x1
@@ -58,13 +60,28 @@ module _ (card : Card) (two : 2 ≤ card .words) (pos : 0 < card .width) where
   n = card .width
 
   word-injective : (x y z : ℕ) (xs : List ℕ) → y < 2 ^ n → z < 2 ^ n → word card (x ∷ y ∷ xs) ≡ word card (x ∷ z ∷ xs) → y ≡ z
-  unfolding word filter1 filter2
-  word-injective x y z xs ly lz = go (eqb (card .filter) 2)
+  unfolding word filter1 filter2 further
+  word-injective x y z xs ly lz e =
+      go (eqb (card .filter) 2)
+      (plus-injective n (rest y) (filtered card (words y)) (filtered card (words z)) (filtered-lt card (words y)) (filtered-lt card (words z))
+      (e ∙ ap (_⊞_ n (filtered card (words z))) (sym rest-same)))
     where
-      filtered : Bool → ℕ → ℕ
-      filtered b y = let w : ℕ → ℕ = λ k. getD (x ∷ y ∷ xs) k 0 in cond b (filter2 n w) (filter1 n w)
+      words : ℕ → ℕ → ℕ
+      words y = λ k. getD (x ∷ y ∷ xs) k 0
 
-      go : (b : Bool) → filtered b y ≡ filtered b z → y ≡ z
+      -- the further words, x1 not among them
+      rest : ℕ → ℕ
+      rest y = further n (words y) (length (x ∷ y ∷ xs) - filterWords)
+
+      past : (j : ℕ) → filterWords + j ≡ suc (suc (2 + j))
+      past j = omega arith
+
+      rest-same : rest y ≡ rest z
+      rest-same =
+          sum-ext (length (x ∷ y ∷ xs) - filterWords) _ _ (λ j l.
+          ap (λ (v : ℕ). _⋘_ n v (filterWords + j)) (ap (words y) (past j) ∙ ap (words z) (sym (past j))))
+
+      go : (b : Bool) → cond b (filter2 n (words y)) (filter1 n (words y)) ≡ cond b (filter2 n (words z)) (filter1 n (words z)) → y ≡ z
       go false e = turned-injective n pos _ _ _ y z ly lz e
       go true e = turned-injective n pos _ _ _ y z ly lz (plus-injective n _ _ _ (plus-lt n _ _) (plus-lt n _ _) e)
 

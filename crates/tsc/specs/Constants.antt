@@ -7,11 +7,15 @@ abbrev pub fewestWords : ℕ
 fewestWords = 2
 
 abbrev pub mostWords : ℕ
-mostWords = 4
+mostWords = 8
 
 -- m of a card that does not give it, and of TSC-1 and TSC-2: the one m whose table may be absent
 abbrev pub defaultWords : ℕ
 defaultWords = 4
+
+-- words that the filters of document 002 take (15, 20): those past them are added by themselves (document 02, Five)
+abbrev pub filterWords : ℕ
+filterWords = 4
 
 -- bits n of a word
 abbrev pub narrowestWidth : ℕ

@@ -1,11 +1,13 @@
--- The output word of a state: filters 1 and 2 (document 002, 15 and 20), within n bits as document 01 says.
+-- The output word of a state: filters 1 and 2 (document 002, 15 and 20), within n bits as document 01 says, and the words past those that they take
+-- (document 02, Five).
 use mathlib.Core.Bool.{cond}
 use mathlib.Core.List.{List}
 use Prim.Native.Nat.{ℕ, suc, _+_, _-_, _*_, _/_, _%_, _^_}
 use lib.Dec.{eqb}
-use lib.ListN.{getD}
-use Rattle.cycle.specs.Notation.{tabulate}
+use lib.ListN.{length, getD}
+use Rattle.cycle.specs.Notation.{sum, tabulate}
 use Rattle.tsc.specs.declared.Card.{Card}
+use Rattle.tsc.specs.Constants.{filterWords}
 use Rattle.tsc.specs.Step.{orbit}
 
 module _ (n : ℕ) where
@@ -27,11 +29,19 @@ module _ (n : ℕ) where
   unfoldable pub filter2 : (ℕ → ℕ) → ℕ
   filter2 x = ((x 0 ⋘ 11 ⊞ x 1) ⋘ 14) ⊞ ((x 0 ⋘ 13 ⊞ x 2) ⋘ 22) ⊞ (x 0 ⋘ 12 ⊞ x 3)
 
+  -- document 02, Five: so many words from x4 up, each turned left by its number modulo n
+  unfoldable pub further : (ℕ → ℕ) → ℕ → ℕ
+  further x count = sum count (λ j. x (filterWords + j) ⋘ (filterWords + j))
+
+-- what the card's filter makes of x0 to x3
+abbrev pub filtered : Card → (ℕ → ℕ) → ℕ
+filtered card x = cond (eqb (card .filter) 2) (filter2 (card .width) x) (filter1 (card .width) x)
+
 -- the word of a state; absent words count as 0. The word of a draw is that of the state after the step
 unfoldable pub word : Card → List ℕ → ℕ
 word card xs =
     let x : ℕ → ℕ = λ k. getD xs k 0 in
-    cond (eqb (card .filter) 2) (filter2 (card .width) x) (filter1 (card .width) x)
+    _⊞_ (card .width) (filtered card x) (further (card .width) x (length xs - filterWords))
 
 -- the words of states number 1 to count of the orbit: what so many draws give
 unfoldable pub orbitWords : Card → List ℕ → ℕ → List ℕ

@@ -1,7 +1,7 @@
 // The types that a generator is made of. What they mean is in specs/, and what holds of them in proofs/.
 
 // The most words of a state, and the entries of a table for that many.
-pub const MOST_WORDS: usize = 4;
+pub const MOST_WORDS: usize = 8;
 
 pub const TABLE_SIZE: usize = 1 << MOST_WORDS;
 
