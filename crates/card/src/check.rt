@@ -1,33 +1,39 @@
 // Checking a card: refusals 1 to 9, and demand 3.
 ghost use mathlib.Core.Path.{_≡_};
-ghost use Prim.Native.Nat.{_≤_};
+ghost use Prim.Native.Nat.{ℕ, _^_, _<_, _≤_};
+ghost use lib.ListN.{getD};
 ghost use Rattle.tsc.specs.Constants.{mostWords};
-ghost use Rattle.tsc.specs.Coverage.{WellFormed};
 ghost use Rattle.refusals.specs.Refusals.{firstOf};
 ghost use Rattle.card_format.specs.Verdict.{periodChecks, verdict, ZeroIffCovers, accepting};
+ghost use Rattle.card.specs.Period.{periodCard};
 use card_format::Reading;
 use card_read::read;
 use card_table::table;
 use card_values::answer;
-use tsc::Card;
+use tsc::TABLE_SIZE;
 
-// The first of refusals 7 to 9 that applies to a card's values, or 0. The check and the writer call it once refusals 1 to 6 are ruled out.
-pub fn period_refusal(card: Card) -> u8
-    requires { ⌜ WellFormed card × (card .words ≤ mostWords) ⌝ }
-    ensures { λ r. ⌜ r ≡ firstOf (periodChecks card) ⌝ }
+// The first of refusals 7 to 9 that applies to these values of a card, or 0. The check and the writer call it once refusals 1 to 6 are ruled out.
+pub fn period_refusal(
+    table: &[u8; TABLE_SIZE],
+    words: u8,
+    constant: u32,
+    odd_power: u8,
+    even_power: u8,
+) -> u8
+    requires { ⌜ (words ≤ mostWords) × ((y : ℕ) → y < 2 ^ words → getD (now table) y 0 < 2 ^ words) ⌝ }
+    ensures { λ r. ⌜ r ≡ firstOf (periodChecks (periodCard words (now (table .entry)) constant «odd_power» «even_power»)) ⌝ }
 {
-    let size = table::entries(card.words as u32);
-    let table = card.table;
+    let size = table::entries(words as u32);
     if table::first_return(table, size) != size {
         return refusals::NOT_SINGLE_CYCLE;
     }
-    if card.constant % 2 == 0 {
+    if constant % 2 == 0 {
         return refusals::EVEN_CONSTANT;
     }
-    if card.odd_power % 2 == 0 {
+    if odd_power % 2 == 0 {
         return refusals::POWER_PARITY;
     }
-    if card.even_power % 2 == 1 {
+    if even_power % 2 == 1 {
         return refusals::POWER_PARITY;
     }
     0
@@ -41,8 +47,13 @@ pub fn accept(card: &[u8]) -> Reading
     if found.refusal != 0 {
         return found;
     }
-    let values = found.card;
-    let number = period_refusal(values);
+    let number = period_refusal(
+        &found.card.table,
+        found.card.words,
+        found.card.constant,
+        found.card.odd_power,
+        found.card.even_power,
+    );
     if number != 0 {
         return answer::refused(number);
     }

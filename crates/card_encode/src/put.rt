@@ -27,8 +27,7 @@ fn is_written(card: Card, k: usize) -> bool
     ensures { λ r. ⌜ r ≡ isWritten card k ⌝ }
 {
     if k == field::TABLE {
-        let table = card.table;
-        return !table::is_tsc1(table, card.words as u32);
+        return !table::is_tsc1(&card.table, card.words as u32);
     }
     !field::is_absent(k, card.words as u32, number_of(card, k))
 }
@@ -77,9 +76,9 @@ fn put_number(x: u32, size: usize, part: &mut [u8])
 }
 
 // The first `size` entries of a table, at the start of the part.
-fn put_table(table: [u8; TABLE_SIZE], size: usize, part: &mut [u8])
+fn put_table(table: &[u8; TABLE_SIZE], size: usize, part: &mut [u8])
     requires { ⌜ (size ≤ 2 ^ mostWords) × (size ≤ length (now part)) ⌝ }
-    ensures { λ _. ⌜ now (part .exit) ≡ take size table ++ drop size (now (part .entry)) ⌝ }
+    ensures { λ _. ⌜ now (part .exit) ≡ take size (now (table .entry)) ++ drop size (now (part .entry)) ⌝ }
 {
     let mut i = 0;
     while i < size {
@@ -100,8 +99,7 @@ fn put_field(card: Card, k: usize, part: &mut [u8]) -> usize
     }
     let size = field::extent_of(k, card.words as u32);
     if k == field::TABLE {
-        let table = card.table;
-        put_table(table, size, part);
+        put_table(&card.table, size, part);
         return size;
     }
     put_number(number_of(card, k), size, part);

@@ -36,8 +36,7 @@ fn field_allowed(card: Card, k: usize) -> bool
     ensures { λ r. ⌜ r ≡ allowed (field (card .words) k) (numbersOf card k) ⌝ }
 {
     if k == field::TABLE {
-        let table = card.table;
-        return table::entries_allowed(table, card.words as u32);
+        return table::entries_allowed(&card.table, card.words as u32);
     }
     field::number_allowed(k, card.words as u32, number_of(card, k))
 }
@@ -51,8 +50,7 @@ fn in_range(card: Card) -> bool
             return false;
         }
     }
-    let table = card.table;
-    table::unused_clear(table, card.words as u32)
+    table::unused_clear(&card.table, card.words as u32)
 }
 
 // The first of refusals 2 and 6 to 9 that applies, or 0.
@@ -65,5 +63,11 @@ pub fn value_refusal(card: Card) -> u8
     if field::exceeds(card.constant, card.width as u32) {
         return refusals::CONSTANT_TOO_WIDE;
     }
-    check::period_refusal(card)
+    check::period_refusal(
+        &card.table,
+        card.words,
+        card.constant,
+        card.odd_power,
+        card.even_power,
+    )
 }

@@ -5,7 +5,7 @@ use Rattle.cycle.specs.Cycle.{returnFrom, firstReturn}
 use Rattle.tsc.specs.Columns.{column, fromColumns}
 use Rattle.tsc.specs.Selector.{andWords, sumWords, selector}
 use Rattle.tsc.specs.Step.{step}
-use Rattle.tsc.specs.Word.{_⊞_, _⋘_, filter1, filter2, word}
+use Rattle.tsc.specs.Word.{_⊞_, _⋘_, filter1, filter2, further, word}
 use Rattle.refusals.specs.Refusals.{firstOf}
 use Rattle.card_format.specs.Fields.{fields, field, numbers, allowed, same}
 use Rattle.card_format.specs.Reading.{offset, valuesAt, wordsOf, cardOf, partChecks, fieldChecks, checksTo, formChecks}
@@ -13,5 +13,5 @@ use Rattle.card_format.specs.Verdict.{periodChecks, verdict}
 use Rattle.card_format.specs.Examples.{rows, AllHold}
 
 pub rows-hold : AllHold rows
-unfolding sum tabulate iterate returnFrom firstReturn column fromColumns andWords sumWords selector step _⊞_ _⋘_ filter1 filter2 word firstOf fields field numbers allowed same offset valuesAt wordsOf cardOf partChecks fieldChecks checksTo formChecks periodChecks verdict rows
+unfolding sum tabulate iterate returnFrom firstReturn column fromColumns andWords sumWords selector step _⊞_ _⋘_ filter1 filter2 further word firstOf fields field numbers allowed same offset valuesAt wordsOf cardOf partChecks fieldChecks checksTo formChecks periodChecks verdict rows
 rows-hold = (refl, (refl, refl), (refl, (refl, refl), (refl, tt, (refl, tt, (refl, tt, (refl, (refl, refl), (refl, tt, (refl, tt, (refl, tt, (refl, tt, (refl, (refl, refl), (refl, (refl, refl), tt))))))))))))

@@ -46,7 +46,7 @@ fieldCount = 8
 
 -- no accepted card is longer
 abbrev pub mostCardBytes : ℕ
-mostCardBytes = 26
+mostCardBytes = 267
 
 abbrev pub tableBit : ℕ
 tableBit = 2

@@ -1,4 +1,4 @@
-// The table of a card: 2^m entries and, past them, zeros. Callers establish m ≤ mostWords from the words field: the reader has it past its checks, the
+// The table of a card: 2^m entries and, past them, zeros. It is lent, since 256 entries by value are copied. Callers establish m ≤ mostWords from the words field: the reader has it past its checks, the
 // writer has asked it first.
 ghost use mathlib.Core.Path.{_≡_};
 ghost use Prim.Native.Nat.{ℕ, _^_, _<_, _≤_};
@@ -53,9 +53,9 @@ pub fn absent_table() -> [u8; TABLE_SIZE]
 }
 
 // Whether each used entry is below 2^m.
-pub fn entries_allowed(table: [u8; TABLE_SIZE], m: u32) -> bool
+pub fn entries_allowed(table: &[u8; TABLE_SIZE], m: u32) -> bool
     requires { ⌜ m ≤ mostWords ⌝ }
-    ensures { λ r. ⌜ r ≡ allowed (field m tableBit) (take (2 ^ m) table) ⌝ }
+    ensures { λ r. ⌜ r ≡ allowed (field m tableBit) (take (2 ^ m) (now (table .entry))) ⌝ }
 {
     let size = entries(m);
     let mut i = 0;
@@ -69,9 +69,9 @@ pub fn entries_allowed(table: [u8; TABLE_SIZE], m: u32) -> bool
 }
 
 // Whether it is TSC-1's table.
-pub fn is_tsc1(table: [u8; TABLE_SIZE], m: u32) -> bool
+pub fn is_tsc1(table: &[u8; TABLE_SIZE], m: u32) -> bool
     requires { ⌜ m ≤ mostWords ⌝ }
-    ensures { λ r. ⌜ r ≡ same (take (2 ^ m) table) tsc1Table ⌝ }
+    ensures { λ r. ⌜ r ≡ same (take (2 ^ m) (now (table .entry))) tsc1Table ⌝ }
 {
     if m != DEFAULT_WORDS {
         return false;
@@ -87,9 +87,9 @@ pub fn is_tsc1(table: [u8; TABLE_SIZE], m: u32) -> bool
 }
 
 // Whether the entries past 2^m are 0.
-pub fn unused_clear(table: [u8; TABLE_SIZE], m: u32) -> bool
+pub fn unused_clear(table: &[u8; TABLE_SIZE], m: u32) -> bool
     requires { ⌜ m ≤ mostWords ⌝ }
-    ensures { λ r. ⌜ r ≡ unusedClear m table ⌝ }
+    ensures { λ r. ⌜ r ≡ unusedClear m (now (table .entry)) ⌝ }
 {
     let mut i = entries(m);
     while i < TABLE_SIZE {
@@ -102,10 +102,10 @@ pub fn unused_clear(table: [u8; TABLE_SIZE], m: u32) -> bool
 }
 
 // The table followed from 0: the number of steps until 0 returns, or 0 if it does not within `size`. Callers have entries that passed their check.
-pub fn first_return(table: [u8; TABLE_SIZE], size: usize) -> usize
+pub fn first_return(table: &[u8; TABLE_SIZE], size: usize) -> usize
     requires { ⌜ (0 < size) × (size ≤ 2 ^ mostWords) ⌝ }
-    requires { ⌜ ((y : ℕ) → y < size → getD table y 0 < size) ⌝ }
-    ensures { λ r. ⌜ r ≡ firstReturn (λ y. getD table y 0) size ⌝ }
+    requires { ⌜ ((y : ℕ) → y < size → getD (now table) y 0 < size) ⌝ }
+    ensures { λ r. ⌜ r ≡ firstReturn (λ y. getD (now (table .entry)) y 0) size ⌝ }
 {
     let mut x = table[0];
     let mut steps: usize = 1;

@@ -38,10 +38,10 @@ pub fn read_table(part: &[u8], v: Values) -> Values
         return refused_at(v, refusals::TRUNCATED);
     }
     let table = table::table_from(part, size);
-    if !table::entries_allowed(table, m) {
+    if !table::entries_allowed(&table, m) {
         return refused_at(v, refusals::OUT_OF_RANGE);
     }
-    if table::is_tsc1(table, m) {
+    if table::is_tsc1(&table, m) {
         return refused_at(v, refusals::REDUNDANT);
     }
     let numbers = v.numbers;

@@ -1,7 +1,7 @@
 -- What the calls answer and what the lent state words are after them (document 01, Refusal table, and Step, word and pick), for any bytes and any words.
 use mathlib.Core.Path.{_≡_}
 use mathlib.Core.Bool.{cond}
-use mathlib.Core.List.{List, [], _++_}
+use mathlib.Core.List.{List, _++_}
 use Prim.Native.Nat.{ℕ}
 use lib.Dec.{eqb}
 use Rattle.tsc.specs.declared.Card.{Card}
@@ -9,17 +9,15 @@ use Rattle.tsc.specs.Coverage.{IsState, stepBack}
 use Rattle.tsc.specs.Step.{step}
 use Rattle.tsc.specs.Word.{word}
 use Rattle.refusals.specs.Refusals.{Check, firstOf}
-use Rattle.card_format.specs.Reading.{cardOf, noCard}
+use Rattle.card_format.specs.Reading.{cardOf}
 use Rattle.card_format.specs.Verdict.{cardChecks}
-use Rattle.draws.specs.declared.Opened.{Opened}
 use Rattle.draws.specs.declared.Draw.{Draw}
 use Rattle.draws.specs.declared.Draw.the-variants.{Word, Refused}
-use Rattle.stepping.specs.State.{holding}
 use Rattle.state_words.specs.Checks.{stateChecks}
 
 -- what each call looks at: 1 to 9, then 10 and 11
 abbrev pub callChecks : List ℕ → List ℕ → List Check
-callChecks bytes xs = cardChecks bytes ++ stateChecks (cardOf bytes) xs
+callChecks bytes xs = cardChecks bytes ++ stateChecks (cardOf bytes .words) (cardOf bytes .width) xs
 
 -- the refusal that a step, a step back and a draw tell of a card's bytes and a state; 0 where none applies
 unfoldable pub refusalFor : List ℕ → List ℕ → ℕ
@@ -43,13 +41,3 @@ OnlyBefore card xs ys = IsState card xs × (step card xs ≡ ys) × ((zs : List 
 -- what a draw answers: the word of the state after the step, or the refusal
 unfoldable pub drawing : List ℕ → List ℕ → Draw
 drawing bytes xs = cond (eqb (refusalFor bytes xs) 0) (Word (word (cardOf bytes) (step (cardOf bytes) xs))) (Refused (refusalFor bytes xs))
-
--- what the calls begin with: the card's values and the state, or a refusal with neither
-abbrev pub opened : Card → List ℕ → Opened
-opened card xs = record { refusal = 0; card = card; state = holding xs }
-
-abbrev pub refusedOpening : ℕ → Opened
-refusedOpening r = record { refusal = r; card = noCard; state = holding [] }
-
-unfoldable pub opening : List ℕ → List ℕ → Opened
-opening bytes xs = cond (eqb (refusalFor bytes xs) 0) (opened (cardOf bytes) xs) (refusedOpening (refusalFor bytes xs))

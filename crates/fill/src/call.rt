@@ -1,6 +1,7 @@
 // The fill on lent slices: any bytes as a card, any words as a state, any strip, place and count. A refusal leaves state and strip as lent.
 ghost use mathlib.Core.Path.{_≡_};
 ghost use Rattle.fills.specs.Fills.{fillRefusal, filled, filledState};
+use card::check as accepted;
 use generator::call;
 use outputs::row;
 use spans::check;
@@ -13,16 +14,17 @@ pub fn fill(card: &[u8], state: &mut [u32], strip: &mut [u32], place: usize, cou
     ensures words { λ r. ⌜ now (strip .exit) ≡ filled (now (card .entry)) (now (state .entry)) (now (strip .entry)) place count ⌝ }
     ensures after { λ r. ⌜ now (state .exit) ≡ filledState (now (card .entry)) (now (state .entry)) (now (strip .entry)) place count ⌝ }
 {
-    let begun = call::open(card, state);
-    if begun.refusal != 0 {
-        return begun.refusal;
+    let found = accepted::accept(card);
+    let refused = call::call_refusal(found.refusal, found.card.words, found.card.width, state);
+    if refused != 0 {
+        return refused;
     }
     let told = check::span_refusal(strip.len(), place, count);
     if told != 0 {
         return told;
     }
-    let values = begun.card;
-    let held = begun.state;
+    let values = found.card;
+    let held = lent::load(state);
     let last = row::fill_words(values, held, count, &mut strip[place..]);
     lent::store(last, state);
     0

@@ -1,54 +1,32 @@
 // The calls on lent slices: any bytes as a card, any words as a state. A refusal leaves the state as lent.
 ghost use mathlib.Core.Path.{_≡_};
+ghost use mathlib.Core.Bool.{cond};
 ghost use Prim.Native.Nat.{ℕ, _^_, _<_};
+ghost use lib.Dec.{eqb};
 ghost use Rattle.tsc.specs.Coverage.{IsState, stepBack};
 ghost use Rattle.card_format.specs.Reading.{cardOf};
+ghost use Rattle.refusals.specs.Refusals.{firstOf};
+ghost use Rattle.state_words.specs.Checks.{stateChecks};
 ghost use Rattle.draws.specs.declared.Draw.the-variants.{Word};
-ghost use Rattle.draws.specs.Calls.{refusalFor, refusedOpening, opening, stepped, steppedBack, drawing, OnlyBefore};
+ghost use Rattle.draws.specs.Calls.{refusalFor, stepped, steppedBack, drawing, OnlyBefore};
 use card::check;
-use card_values::answer;
+use columns::power;
 use draws::Draw;
-use draws::Opened;
+use filters::filter;
 use outputs::next;
+use selectors::selector;
 use state_words::lent;
 use stepping::back;
 use stepping::step;
-use tsc::MOST_WORDS;
-use tsc::State;
 
-// A refusal, with a card that no check accepts and a state of zeros.
-fn refused(number: u8) -> Opened
-    ensures { λ r. ⌜ r ≡ refusedOpening number ⌝ }
+// The checks of every call: what the card is refused for, 1 to 9; or, where that is 0, the first of 10 and 11 that applies to a state of m words of n bits, or 0.
+pub fn call_refusal(refusal: u8, m: u8, n: u8, state: &[u32]) -> u8
+    ensures { λ r. ⌜ r ≡ cond (eqb refusal 0) (firstOf (stateChecks m n (now (state .entry)))) refusal ⌝ }
 {
-    let none = answer::refused(number);
-    let card = none.card;
-    Opened {
-        refusal: number,
-        card: card,
-        state: State {
-            words: [0; MOST_WORDS],
-        },
+    if refusal != 0 {
+        return refusal;
     }
-}
-
-// The checks of every call: refusals 1 to 9, then 10 and 11.
-pub fn open(card: &[u8], state: &[u32]) -> Opened
-    ensures { λ r. ⌜ r ≡ opening (now (card .entry)) (now (state .entry)) ⌝ }
-{
-    let found = check::accept(card);
-    if found.refusal != 0 {
-        return refused(found.refusal);
-    }
-    let values = found.card;
-    let number = lent::state_refusal(values, state);
-    if number != 0 {
-        return refused(number);
-    }
-    Opened {
-        refusal: 0,
-        card: values,
-        state: lent::load(state),
-    }
+    lent::state_refusal(m, n, state)
 }
 
 // One step of the state: 0, or the refusal. The step of a state is a state, and the step back undoes it.
@@ -57,13 +35,20 @@ pub fn step(card: &[u8], state: &mut [u32]) -> u8
     ensures after { λ r. ⌜ now (state .exit) ≡ stepped (now (card .entry)) (now (state .entry)) ⌝ }
     ensures undone { λ r. ⌜ (r ≡ 0 → IsState (cardOf (now (card .entry))) (now (state .exit)) × (stepBack (cardOf (now (card .entry))) (now (state .exit)) ≡ now (state .entry))) ⌝ }
 {
-    let begun = open(card, state);
-    if begun.refusal != 0 {
-        return begun.refusal;
+    let found = check::accept(card);
+    let told = call_refusal(found.refusal, found.card.words, found.card.width, state);
+    if told != 0 {
+        return told;
     }
-    let values = begun.card;
-    let held = begun.state;
-    let next = step::next_state(values, step::forward(values), held);
+    let held = lent::load(state);
+    let terms = selector::terms_of(found.card);
+    let p = power::powers_of(
+        &found.card.table,
+        found.card.words as u32,
+        found.card.odd_power as u32,
+        found.card.even_power as u32,
+    );
+    let next = step::next_state(terms, &p.odd, &p.even, held);
     lent::store(next, state);
     0
 }
@@ -74,13 +59,20 @@ pub fn step_back(card: &[u8], state: &mut [u32]) -> u8
     ensures after { λ r. ⌜ now (state .exit) ≡ steppedBack (now (card .entry)) (now (state .entry)) ⌝ }
     ensures only { λ r. ⌜ (r ≡ 0 → OnlyBefore (cardOf (now (card .entry))) (now (state .exit)) (now (state .entry))) ⌝ }
 {
-    let begun = open(card, state);
-    if begun.refusal != 0 {
-        return begun.refusal;
+    let found = check::accept(card);
+    let told = call_refusal(found.refusal, found.card.words, found.card.width, state);
+    if told != 0 {
+        return told;
     }
-    let values = begun.card;
-    let held = begun.state;
-    let previous = back::previous_state(values, back::backward(values), held);
+    let held = lent::load(state);
+    let terms = selector::terms_of(found.card);
+    let p = back::backward(
+        &found.card.table,
+        found.card.words as u32,
+        found.card.odd_power as u32,
+        found.card.even_power as u32,
+    );
+    let previous = back::previous_state(found.card, terms, &p.odd, &p.even, held);
     lent::store(previous, state);
     0
 }
@@ -91,13 +83,21 @@ pub fn draw(card: &[u8], state: &mut [u32]) -> Draw
     ensures after { λ r. ⌜ now (state .exit) ≡ stepped (now (card .entry)) (now (state .entry)) ⌝ }
     ensures narrow { λ r. ⌜ ((w : ℕ) → r ≡ Word w → w < 2 ^ cardOf (now (card .entry)) .width) ⌝ }
 {
-    let begun = open(card, state);
-    if begun.refusal != 0 {
-        return Draw::Refused(begun.refusal);
+    let found = check::accept(card);
+    let told = call_refusal(found.refusal, found.card.words, found.card.width, state);
+    if told != 0 {
+        return Draw::Refused(told);
     }
-    let values = begun.card;
-    let held = begun.state;
-    let drawn = next::next_output(values, step::forward(values), held);
+    let held = lent::load(state);
+    let terms = selector::terms_of(found.card);
+    let rotations = filter::rotations_of(found.card);
+    let p = power::powers_of(
+        &found.card.table,
+        found.card.words as u32,
+        found.card.odd_power as u32,
+        found.card.even_power as u32,
+    );
+    let drawn = next::next_output(terms, rotations, &p.odd, &p.even, held);
     lent::store(drawn.state, state);
     Draw::Word(drawn.word)
 }

@@ -3,25 +3,33 @@ ghost use Rattle.margins.specs.Margins.{IsMargin};
 use super::changed;
 use super::chosen;
 use candidates::search;
+use card::check;
 use change_order::Best;
 use margins::Margin;
 use pick::listing;
+use state_words::lent;
 
 // The least change of one shovel's time that sends the truck elsewhere, with the changed pick. Or the first refusal of 1 to 15 and 18 that applies to the pick,
 // or 19 where no change does.
 pub fn margin(card: &[u8], state: &[u32], shovels: &[u16], times: &[u32]) -> Margin
     ensures { λ r. ⌜ IsMargin (now (card .entry)) (now (state .entry)) (now (shovels .entry)) (now (times .entry)) r ⌝ }
 {
-    let begun = generator::call::open(card, state);
-    if begun.refusal != 0 {
-        return Margin::Refused(begun.refusal);
+    let accepted = check::accept(card);
+    let told = generator::call::call_refusal(
+        accepted.refusal,
+        accepted.card.words,
+        accepted.card.width,
+        state,
+    );
+    if told != 0 {
+        return Margin::Refused(told);
     }
-    let values = begun.card;
+    let values = accepted.card;
     let found = listing::list_ties(values.width as u32, shovels, times);
     if found.refusal != 0 {
         return Margin::Refused(found.refusal);
     }
-    let held = begun.state;
+    let held = lent::load(state);
     let known = chosen::known_of(values, held, shovels, times, found.least, found.ties);
     let best = search::least_change(known, shovels, times);
     match best {

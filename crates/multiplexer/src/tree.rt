@@ -1,12 +1,14 @@
 // The tree: each word of the state, from the last to the first, halves the leaves, and the selector chooses last.
-ghost use Prim.Native.Nat.{_*_, _≤_};
+ghost use mathlib.Core.List.{List};
+ghost use Prim.Native.Nat.{ℕ, _*_, _≤_};
+ghost use lib.ListN.{take};
 ghost use Rattle.cycle.specs.Notation.{bit};
-ghost use Rattle.tsc.specs.Constants.{mostWords};
 ghost use Rattle.tsc.specs.Columns.{column};
-ghost use Rattle.columns.specs.Replace.{HasColumns, imageOf};
+ghost use Rattle.columns.specs.Few.{fewWords};
+ghost use Rattle.columns.specs.Replace.{Replaced};
 ghost use Rattle.multiplexer.specs.Leaves.{leafCount, HasLeaves, HasPicked};
 use super::leaves::LEAVES;
-use columns::power::Powers;
+use columns::few::FEW_WORDS;
 use tsc::MOST_WORDS;
 use tsc::State;
 use words::mask;
@@ -27,11 +29,11 @@ fn chosen(f: [u32; LEAVES], size: usize, x: u32) -> [u32; LEAVES]
 
 // By the words, from the last to the first: what is left are the bits of both images of each column.
 fn looked_up(leaves: [u32; LEAVES], s: State) -> [u32; LEAVES]
-    ensures { λ r. ⌜ HasPicked (2 * mostWords) leaves (λ i. column i (s .words)) r ⌝ }
+    ensures { λ r. ⌜ HasPicked (2 * fewWords) leaves (λ i. column i (take fewWords (s .words))) r ⌝ }
 {
     let mut f = leaves;
     let mut size = LEAVES;
-    let mut k = MOST_WORDS;
+    let mut k = FEW_WORDS;
     while 0 < k {
         k -= 1;
         size = size / 2;
@@ -41,18 +43,18 @@ fn looked_up(leaves: [u32; LEAVES], s: State) -> [u32; LEAVES]
     f
 }
 
-// The columns in `low`, each put through the power that its selector bit picks. Callers have the leaves of these powers from `leaves_of`.
-pub fn replace_columns(leaves: [u32; LEAVES], p: Powers, s: State, selector: u32, low: u32) -> State
-    requires { ⌜ HasLeaves p leaves ⌝ }
-    ensures { λ r. ⌜ HasColumns mostWords (r .words) (λ i. bit i low * imageOf p (bit i selector) (column i (s .words))) ⌝ }
+// The columns in `low` of the first words, each put through the power that its selector bit picks, by the leaves of the powers, which callers have from
+// `leaves_of`.
+pub fn replace_columns(leaves: [u32; LEAVES], s: State, selector: u32, low: u32) -> State
+    ensures { λ r. ⌜ ((odd even : List ℕ) → HasLeaves odd even leaves → Replaced fewWords odd even (s .words) selector low (r .words)) ⌝ }
 {
     let f = looked_up(leaves, s);
     let mut out = State {
         words: [0; MOST_WORDS],
     };
     let mut k = 0;
-    while k < MOST_WORDS {
-        out.words[k] = low & mask::join(selector, f[MOST_WORDS + k], f[k]);
+    while k < FEW_WORDS {
+        out.words[k] = low & mask::join(selector, f[FEW_WORDS + k], f[k]);
         k += 1;
     }
     out

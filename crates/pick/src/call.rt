@@ -2,6 +2,7 @@
 ghost use mathlib.Core.Path.{_≡_};
 ghost use Rattle.picks.specs.Picks.{picking, picked};
 use super::listing;
+use card::check;
 use generator::call;
 use picks::Pick;
 use sample::draw;
@@ -13,16 +14,22 @@ pub fn pick(card: &[u8], state: &mut [u32], shovels: &[u16], times: &[u32]) -> P
     ensures answer { λ r. ⌜ r ≡ picking (now (card .entry)) (now (state .entry)) (now (shovels .entry)) (now (times .entry)) ⌝ }
     ensures after { λ r. ⌜ now (state .exit) ≡ picked (now (card .entry)) (now (state .entry)) (now (shovels .entry)) (now (times .entry)) ⌝ }
 {
-    let begun = call::open(card, state);
-    if begun.refusal != 0 {
-        return Pick::Refused(begun.refusal);
+    let accepted = check::accept(card);
+    let told = call::call_refusal(
+        accepted.refusal,
+        accepted.card.words,
+        accepted.card.width,
+        state,
+    );
+    if told != 0 {
+        return Pick::Refused(told);
     }
-    let values = begun.card;
+    let values = accepted.card;
     let found = listing::list_ties(values.width as u32, shovels, times);
     if found.refusal != 0 {
         return Pick::Refused(found.refusal);
     }
-    let held = begun.state;
+    let held = lent::load(state);
     let drawn = draw::draw_rank(values, held, found.ties as u32);
     lent::store(drawn.state, state);
     let number = rank::chosen_by(shovels, times, found.least, drawn.rank as usize);

@@ -10,10 +10,10 @@ ghost use Rattle.stepping.specs.State.{used, Holds};
 ghost use Rattle.samples.specs.Samples.{mostTaken};
 ghost use Rattle.sample.specs.Drawn.{sample};
 use super::many;
+use columns::power;
 use filters::filter;
-use outputs::row;
+use outputs::next;
 use selectors::selector;
-use stepping::step;
 use tsc::Card;
 use tsc::State;
 
@@ -59,13 +59,18 @@ pub fn draw_rank(card: Card, s: State, k: u32) -> Sample
             taken: 0,
         };
     }
-    let p = step::forward(card);
+    let p = power::powers_of(
+        &card.table,
+        card.words as u32,
+        card.odd_power as u32,
+        card.even_power as u32,
+    );
     let terms = selector::terms_of(card);
     let rotations = filter::rotations_of(card);
     let mut held = s;
     let mut taken: u8 = 0;
     loop {
-        let drawn = row::next_of_few(card, p, terms, rotations, held);
+        let drawn = next::next_output(terms, rotations, &p.odd, &p.even, held);
         held = drawn.state;
         taken += 1;
         if decides(card.width as u32, drawn.word, k, taken) {

@@ -14,8 +14,10 @@ use Rattle.selectors.specs.declared.selector.Terms.{Terms}
 abbrev pub Absent : ℕ → List ℕ → Type 0
 Absent m t = (k : ℕ) → k < mostWords → getD t k 0 ≡ cond (ltb k m) 0 (2 ^ widestWidth - 1)
 
--- the terms of a card: n, its absent words, and a mask of n bits for the term 2s
+-- the terms of a card: m, n, its absent words, C, and a mask of n bits for the term 2s
 pub record IsTerms (card : Card) (t : Terms) : Type 0 where
+  pub words : t .words ≡ card .words
   pub width : t .width ≡ widthOf (card .width)
   pub absent : Absent (card .words) (t .absent)
+  pub constant : t .constant ≡ card .constant
   pub doubled : t .doubled ≡ cond (eqb (card .«sum_term») 1) (2 ^ card .width - 1) 0

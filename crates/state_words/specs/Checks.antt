@@ -5,10 +5,9 @@ use Prim.Native.Nat.{ℕ, _^_}
 use lib.Dec.{eqb, ltb}
 use lib.ListN.{length, getD}
 use Rattle.cycle.specs.Notation.{every}
-use Rattle.tsc.specs.declared.Card.{Card}
 use Rattle.refusals.specs.Refusals.{Check, check, wordCount, wordTooWide}
 
 -- the state has not m words; a word is 2^n or more
-unfoldable pub stateChecks : Card → List ℕ → List Check
-stateChecks card xs =
-    check wordCount (not (eqb (length xs) (card .words))) ∷ check wordTooWide (not (every (length xs) (λ k. ltb (getD xs k 0) (2 ^ card .width)))) ∷ []
+unfoldable pub stateChecks : ℕ → ℕ → List ℕ → List Check
+stateChecks m n xs =
+    check wordCount (not (eqb (length xs) m)) ∷ check wordTooWide (not (every (length xs) (λ k. ltb (getD xs k 0) (2 ^ n)))) ∷ []

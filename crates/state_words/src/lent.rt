@@ -7,21 +7,19 @@ ghost use Rattle.refusals.specs.Refusals.{firstOf};
 ghost use Rattle.stepping.specs.State.{holding};
 ghost use Rattle.state_words.specs.Checks.{stateChecks};
 use card_fields::field;
-use tsc::Card;
 use tsc::MOST_WORDS;
 use tsc::State;
 
-// The first of refusals 10 and 11 that applies, or 0.
-pub fn state_refusal(card: Card, state: &[u32]) -> u8
-    ensures { λ r. ⌜ r ≡ firstOf (stateChecks card (now (state .entry))) ⌝ }
+// The first of refusals 10 and 11 that applies to a state of a card of m words of n bits, or 0.
+pub fn state_refusal(m: u8, n: u8, state: &[u32]) -> u8
+    ensures { λ r. ⌜ r ≡ firstOf (stateChecks m n (now (state .entry))) ⌝ }
 {
-    if state.len() != card.words as usize {
+    if state.len() != m as usize {
         return refusals::WORD_COUNT;
     }
-    let n = card.width as u32;
     let mut k = 0;
     while k < state.len() {
-        if field::exceeds(state[k], n) {
+        if field::exceeds(state[k], n as u32) {
             return refusals::WORD_TOO_WIDE;
         }
         k += 1;

@@ -1,32 +1,33 @@
 // The step of a state by value, for an accepted card. The calls on lent slices establish the conditions.
 ghost use mathlib.Core.Path.{_≡_};
+ghost use Rattle.tsc.specs.declared.Card.{Card};
 ghost use Rattle.tsc.specs.Step.{step};
 ghost use Rattle.card_format.specs.Verdict.{Accepted};
 ghost use Rattle.columns.specs.Replace.{IsPower};
-ghost use Rattle.stepping.specs.State.{used, Holds, holding};
-use columns::power;
-use columns::power::Powers;
-use minterms::replace;
+ghost use Rattle.words.specs.Widths.{IsWidth};
+ghost use Rattle.stepping.specs.State.{used, holding, Steps};
+use columns::few::FEW_WORDS;
 use selectors::selector;
-use tsc::Card;
+use selectors::selector::Terms;
+use tsc::MOST_WORDS;
 use tsc::State;
-use words::arithmetic;
+use tsc::TABLE_SIZE;
 
-// The table's powers for a step, worked out once for all columns and all the steps of a call.
-pub fn forward(card: Card) -> Powers
-    requires { ⌜ Accepted card ⌝ }
-    ensures { λ r. ⌜ IsPower card (card .«odd_power») (r .odd) × IsPower card (card .«even_power») (r .even) ⌝ }
+// The step of a state, all columns at once: entry by entry for few words, else eight columns at a time. The selector's terms and the powers are worked out once
+// for all the steps of a call.
+pub fn next_state<'a>(
+    terms: Terms,
+    odd: &'a [u8; TABLE_SIZE],
+    even: &'a [u8; TABLE_SIZE],
+    s: State,
+) -> State
+    requires { ⌜ IsWidth (terms .width) ⌝ }
+    ensures { λ r. ⌜ ((card : Card) → Steps card terms (now (odd .entry)) (now (even .entry)) s → r ≡ holding (step card (used card s))) ⌝ }
 {
-    power::powers_of(card, card.odd_power as u32, card.even_power as u32)
-}
-
-// The step of a state, all columns at once.
-pub fn next_state(card: Card, p: Powers, s: State) -> State
-    requires { ⌜ Accepted card × Holds card s ⌝ }
-    requires { ⌜ IsPower card (card .«odd_power») (p .odd) × IsPower card (card .«even_power») (p .even) ⌝ }
-    ensures { λ r. ⌜ r ≡ holding (step card (used card s)) ⌝ }
-{
-    let select = selector::selector_of(card, s);
-    let width = arithmetic::width_of(card.width as u32);
-    replace::replace_columns(p, s, select, width.low)
+    if terms.words as usize <= FEW_WORDS {
+        let select = selector::selector_by(terms, s, FEW_WORDS);
+        return minterms::replace::replace_columns(odd, even, s, select, terms.width.low);
+    }
+    let select = selector::selector_by(terms, s, MOST_WORDS);
+    transposition::replace::replace_columns(odd, even, s, select, terms.width.low)
 }
