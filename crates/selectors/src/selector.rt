@@ -49,14 +49,15 @@ pub fn terms_of(card: Card) -> Terms
     requires { ⌜ (0 < card .width) × (card .width ≤ widestWidth) × (card .words ≤ mostWords) ⌝ }
     ensures { λ r. ⌜ IsTerms card r ⌝ }
 {
+    let m = card.words as u32;
     let width = arithmetic::width_of(card.width as u32);
-    let absent = absent_words(card.words as u32);
+    let absent = absent_words(m);
     let mut doubled = 0;
     if card.sum_term == 1 {
         doubled = width.low;
     }
     Terms {
-        words: card.words as u32,
+        words: m,
         width: width,
         absent: absent,
         constant: card.constant,

@@ -16,11 +16,11 @@ use Rattle.selectors.proofs.selector.and_words.Statement.{statement}
 use Rattle.selectors.proofs.selector.and_words.Tie as tie
 
 abbrev Inv-loop : tie.InvT-loop
-Inv-loop t s p₀ k₀ p k =
-    (k ≤ mostWords) × (length (s .words) ≡ mostWords) × ((m : ℕ) → m ≤ mostWords → Absent m (t .absent) → p ≡ andWords (t .width .bits) (wordsFrom k m (s .words)))
+Inv-loop count t s p₀ k₀ p k =
+    (k ≤ count) × (count ≤ mostWords) × (length (s .words) ≡ mostWords) × ((m : ℕ) → m ≤ count → Absent m (t .absent) → p ≡ andWords (t .width .bits) (wordsFrom k m (s .words)))
 
 abbrev μ-loop : tie.MeasureT-loop
-μ-loop t s p₀ k₀ p k = k
+μ-loop count t s p₀ k₀ p k = k
 
 loop-holds : tie.Need-loop-holds Inv-loop μ-loop
 unfolding andWords
@@ -28,8 +28,9 @@ loop-holds c =
     let a = c .args in
     let four : length (a .t2 .words) ≡ mostWords = search needs in (
       omega arith,
+      c .pre .1,
       four,
-      λ m few absent. ap (λ (w : Width). w .low) (c .pre .2) ∙ ap (andWords (a .t1 .width .bits)) (sym (words-past mostWords m (a .t2 .words) few (omega arith))),
+      λ m few absent. ap (λ (w : Width). w .low) (c .pre .0 .2) ∙ ap (andWords (a .t1 .width .bits)) (sym (words-past (a .count) m (a .t2 .words) few (omega arith))),
     )
 
 sub-k : tie.Need-sub-k Inv-loop μ-loop
@@ -59,9 +60,10 @@ loop-again c =
     let fits : (k : ℕ) → Fits w32 (getD ws k 0) = search needs in (
       omega arith,
       l .inv .1,
+      l .inv .2,
       λ m few absent.
-          ap (bitAnd (bitOr (getD ws (l .k - 1) 0) (getD (a .t1 .absent) (l .k - 1) 0))) (l .inv .2 m few absent)
-          ∙ and-next 32 m ws (omega arith) (l .k) (omega arith) (fits (l .k - 1) .fits) _ (absent (l .k - 1) (omega arith)) (a .t1 .width .bits) (s .pre .1),
+          ap (bitAnd (bitOr (getD ws (l .k - 1) 0) (getD (a .t1 .absent) (l .k - 1) 0))) (l .inv .3 m few absent)
+          ∙ and-next 32 m ws (omega arith) (l .k) (omega arith) (fits (l .k - 1) .fits) _ (absent (l .k - 1) (omega arith)) (a .t1 .width .bits) (s .pre .0 .1),
     )
 
 returns : tie.Need-returns Inv-loop μ-loop
@@ -69,7 +71,7 @@ returns c m few absent =
     let a = c .before .before .args in
     let l = c .before .loop in
     let e : l .k ≡ 0 = omega arith in
-    l .inv .2 m few absent ∙ ap (λ (k : ℕ). andWords (a .t1 .width .bits) (wordsFrom k m (a .t2 .words))) e
+    l .inv .3 m few absent ∙ ap (λ (k : ℕ). andWords (a .t1 .width .bits) (wordsFrom k m (a .t2 .words))) e
 
 pub and-words-spec : {M : Type 1} → statement M
 and-words-spec =

@@ -16,11 +16,11 @@ use Rattle.selectors.proofs.selector.sum_words.Statement.{statement}
 use Rattle.selectors.proofs.selector.sum_words.Tie as tie
 
 abbrev Inv-loop : tie.InvT-loop
-Inv-loop t s sum₀ k₀ sum k =
-    (k ≤ mostWords) × (length (s .words) ≡ mostWords) × ((m : ℕ) → m ≤ mostWords → Absent m (t .absent) → sum ≡ sumWords (wordsFrom k m (s .words)) % 2 ^ widestWidth)
+Inv-loop count t s sum₀ k₀ sum k =
+    (k ≤ count) × (count ≤ mostWords) × (length (s .words) ≡ mostWords) × ((m : ℕ) → m ≤ count → Absent m (t .absent) → sum ≡ sumWords (wordsFrom k m (s .words)) % 2 ^ widestWidth)
 
 abbrev μ-loop : tie.MeasureT-loop
-μ-loop t s sum₀ k₀ sum k = k
+μ-loop count t s sum₀ k₀ sum k = k
 
 loop-holds : tie.Need-loop-holds Inv-loop μ-loop
 unfolding sumWords
@@ -28,8 +28,9 @@ loop-holds c =
     let a = c .args in
     let four : length (a .t2 .words) ≡ mostWords = search needs in (
       omega arith,
+      c .pre,
       four,
-      λ m few absent. ap (λ (l : List ℕ). sumWords l % 2 ^ widestWidth) (sym (words-past mostWords m (a .t2 .words) few (omega arith))),
+      λ m few absent. ap (λ (l : List ℕ). sumWords l % 2 ^ widestWidth) (sym (words-past (a .count) m (a .t2 .words) few (omega arith))),
     )
 
 sub-k : tie.Need-sub-k Inv-loop μ-loop
@@ -62,9 +63,10 @@ loop-again c =
     let fits : (k : ℕ) → Fits w32 (getD ws k 0) = search needs in (
       omega arith,
       l .inv .1,
+      l .inv .2,
       λ m few absent.
           c .wrapping-add-u32 .ensures
-          ∙ ap (λ (t : ℕ). (bitAnd (getD ws (l .k - 1) 0) ((2 ^ widestWidth - 1) - mask) + t) % 2 ^ widestWidth) (l .inv .2 m few absent)
+          ∙ ap (λ (t : ℕ). (bitAnd (getD ws (l .k - 1) 0) ((2 ^ widestWidth - 1) - mask) + t) % 2 ^ widestWidth) (l .inv .3 m few absent)
           ∙ sum-next 32 m ws (omega arith) (l .k) (omega arith) (fits (l .k - 1) .fits) mask (absent (l .k - 1) (omega arith)),
     )
 
@@ -73,7 +75,7 @@ returns c m few absent =
     let a = c .before .before .args in
     let l = c .before .loop in
     let e : l .k ≡ 0 = omega arith in
-    l .inv .2 m few absent ∙ ap (λ (k : ℕ). sumWords (wordsFrom k m (a .t2 .words)) % 2 ^ widestWidth) e
+    l .inv .3 m few absent ∙ ap (λ (k : ℕ). sumWords (wordsFrom k m (a .t2 .words)) % 2 ^ widestWidth) e
 
 pub sum-words-spec : {M : Type 1} → statement M
 sum-words-spec =
