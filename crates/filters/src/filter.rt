@@ -122,7 +122,7 @@ fn filter_2(t: Rotations, s: State) -> u32
 
 // What the filter makes of x0 to x3, for a card whose rotations these are: callers have them from `rotations_of`. This is the word of a state of no more words.
 pub fn filtered_by(t: Rotations, s: State) -> u32
-    requires { ⌜ (card : Card) × Filters card t s ⌝ }
+    requires { ⌜ ((card : Card) × Filters card t s) ⌝ }
     ensures { λ r. ⌜ ((card : Card) → Filters card t s → r ≡ filtered card (λ k. getD (s .words) k 0)) ⌝ }
 {
     if t.filter == 2 {
@@ -150,7 +150,7 @@ fn with_further(t: Rotations, s: State, word: u32) -> u32
 
 // The word of a state, for the card whose rotations these are. For the word of a draw, the caller hands over the state after the step.
 pub fn word_by(t: Rotations, s: State) -> u32
-    requires { ⌜ (card : Card) × Filters card t s ⌝ }
+    requires { ⌜ ((card : Card) × Filters card t s) ⌝ }
     ensures { λ r. ⌜ ((card : Card) → Filters card t s → r ≡ word card (s .words)) ⌝ }
 {
     let word = filtered_by(t, s);

@@ -25,7 +25,7 @@ pub fn next_output<'a>(
     even: &'a [u8; TABLE_SIZE],
     s: State,
 ) -> Output
-    requires { ⌜ (card : Card) × Steps card terms (now odd) (now even) s × (rotations ≡ rotationsOf card) ⌝ }
+    requires { ⌜ ((card : Card) × Steps card terms (now odd) (now even) s × (rotations ≡ rotationsOf card)) ⌝ }
     ensures { λ r. ⌜ ((card : Card) → Steps card terms (now (odd .entry)) (now (even .entry)) s → rotations ≡ rotationsOf card → r ≡ output card (used card s)) ⌝ }
 {
     let after = step::next_state(terms, odd, even, s);

@@ -29,7 +29,7 @@ use tsc::TABLE_SIZE;
 
 // The next state of the orbit with its word, as `next_output` gives it, for the many words of a row of a card of few words: by the leaves of the powers.
 fn next_in_row(terms: Terms, leaves: [u32; LEAVES], rotations: Rotations, s: State) -> Output
-    requires { ⌜ (card : Card) × (odd : List ℕ) × (even : List ℕ) × Steps card terms odd even s × (rotations ≡ rotationsOf card) × (card .words ≤ fewWords) × HasLeaves odd even leaves ⌝ }
+    requires { ⌜ ((card : Card) × (odd : List ℕ) × (even : List ℕ) × Steps card terms odd even s × (rotations ≡ rotationsOf card) × (card .words ≤ fewWords) × HasLeaves odd even leaves) ⌝ }
     ensures { λ r. ⌜ ((card : Card) (odd even : List ℕ) → Steps card terms odd even s → rotations ≡ rotationsOf card → card .words ≤ fewWords → HasLeaves odd even leaves → r ≡ output card (used card s)) ⌝ }
 {
     let select = selector::selector_by(terms, s, FEW_WORDS);

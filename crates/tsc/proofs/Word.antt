@@ -4,7 +4,7 @@ use mathlib.Core.Path.{_≡_, refl, sym, ap, ap₂, _∙_, subst, fun-ext}
 use mathlib.Core.Bool.{Bool, true, false, cond}
 use mathlib.Core.List.{List}
 use Prim.Native.Nat.{ℕ, suc, _+_, _-_, _*_, _/_, _%_, _^_, _≤_, _<_}
-use native.Mathlib.Nat.{add-comm, add-zero, zero-mul, mul-mod-left, mod-lt, zero-mod, zero-div, mod-eq-of-lt, add-mod-mod, add-mod-right}
+use native.Mathlib.Nat.{add-comm, add-zero, zero-add, zero-mul, mul-mod-left, mod-lt, zero-mod, zero-div, mod-eq-of-lt, add-mod-mod, add-mod-right}
 use native.Mathlib.Numerals.{add-one}
 use native.Mathlib.Decide.{decLt}
 use native.Mathlib.Omega.{arith}
@@ -127,13 +127,19 @@ word-ext card xs ys h =
     ap₂ (_⊞_ n) (ap (filtered card) same)
     (sym (further-past n xs b) ∙ ap (λ (x : ℕ → ℕ). further n x (a + b)) same ∙ ap (further n (λ k. getD ys k 0)) (add-comm a b) ∙ further-past n ys a)
 
--- cards of up to four words draw as document 01 has it: the filter alone
-pub word-filtered : (card : Card) (xs : List ℕ) → length xs ≤ filterWords → word card xs ≡ filtered card (λ k. getD xs k 0)
+-- the word of a state whose further words are absent, or 0, is what the filter makes of it
+pub word-filtered : (card : Card) (xs : List ℕ) → ((k : ℕ) → filterWords ≤ k → getD xs k 0 ≡ 0) → word card xs ≡ filtered card (λ k. getD xs k 0)
 unfolding word _⊞_
-word-filtered card xs few =
+word-filtered card xs zeros =
     let x : ℕ → ℕ = λ k. getD xs k 0 in
-    let none : length xs - filterWords ≡ 0 = omega arith in
-    rw (none, further-none, add-zero) (mod-eq-of-lt (filtered-lt card x))
+    let d : ℕ = length xs - filterWords in
+    let none : further (card .width) x d ≡ 0 =
+    ap (further (card .width) x) (sym (zero-add d)) ∙ further-zeros (card .width) x 0 d (λ k l. zeros k (omega arith)) ∙ further-none (card .width) x in
+    rw (none, add-zero) (mod-eq-of-lt (filtered-lt card x))
+
+-- so cards of up to four words draw as document 01 has it
+pub word-of-few : (card : Card) (xs : List ℕ) → length xs ≤ filterWords → word card xs ≡ filtered card (λ k. getD xs k 0)
+word-of-few card xs few = word-filtered card xs (λ k l. List·getD-eq-default xs 0 {n = k} (omega arith))
 
 -- ---- the words of the orbit
 

@@ -13,7 +13,7 @@ element-copy-out-rotate-left-2 : tie.Need-element-copy-out-rotate-left-2
 element-copy-out-rotate-left-2 c = omega arith
 
 rotate-left-requires : tie.Need-rotate-left-requires
-rotate-left-requires c κs = let s = c .before .before .before in rotatable _ rotations1 (s .pre .0) _ _ (s .pre .1 0 (omega arith))
+rotate-left-requires c κs = let s = c .before .before .before in rotatable (s .args .t1) rotations1 (s .pre .0) _ _ (s .pre .1 0 (omega arith))
 
 element-copy-out-add : tie.Need-element-copy-out-add
 element-copy-out-add c = omega arith
@@ -30,7 +30,7 @@ element-copy-out-rotate-left-4 c = omega arith
 rotate-left-requires-2 : tie.Need-rotate-left-requires-2
 rotate-left-requires-2 c κs =
     let s = c .before .before .before .before .before .before .before .before in
-    rotatable _ rotations1 (s .pre .0) _ _ (s .pre .1 2 (omega arith))
+    rotatable (s .args .t1) rotations1 (s .pre .0) _ _ (s .pre .1 2 (omega arith))
 
 element-copy-out-add-2 : tie.Need-element-copy-out-add-2
 element-copy-out-add-2 c = omega arith
@@ -44,7 +44,7 @@ element-copy-out-rotate-left-5 c = omega arith
 rotate-left-requires-3 : tie.Need-rotate-left-requires-3
 rotate-left-requires-3 c κs =
     let s = c .before .before .before .before .before .before .before .before .before .before .before .before in
-    rotatable _ rotations1 (s .pre .0) _ _ (sum-lt _ _ _ _ (c .before .before .before .before .before .before .add .ensures))
+    rotatable (s .args .t1) rotations1 (s .pre .0) _ _ (sum-lt _ _ _ _ (c .before .before .before .before .before .before .add .ensures))
 
 add-requires-3 : tie.Need-add-requires-3
 add-requires-3 c κs = search needs
@@ -56,7 +56,7 @@ returns c =
     let s = first .before .before .before .before .before .before in
     rw
     (c .add3 .ensures, c .before .rotate-left3 .ensures, first .add .ensures, first .before .before .rotate-left .ensures, c .before .before .before .add2 .ensures, c .before .before .before .before .before .rotate-left2 .ensures)
-    (simp (rotated _ rotations1 (s .pre .0)))
+    (simp (rotated (s .args .t1) rotations1 (s .pre .0)))
 
 pub filter-1-spec : {M : Type 1} → statement M
 filter-1-spec =

@@ -13,7 +13,7 @@ element-copy-out-rotate-left : tie.Need-element-copy-out-rotate-left
 element-copy-out-rotate-left c = omega arith
 
 rotate-left-requires : tie.Need-rotate-left-requires
-rotate-left-requires c κs = let s = c .before .before .before in rotatable _ rotations2 (s .pre .0) _ _ (s .pre .1 0 (omega arith))
+rotate-left-requires c κs = let s = c .before .before .before in rotatable (s .args .t1) rotations2 (s .pre .0) _ _ (s .pre .1 0 (omega arith))
 
 element-copy-out-add : tie.Need-element-copy-out-add
 element-copy-out-add c = omega arith
@@ -27,7 +27,7 @@ element-copy-out-rotate-left-2 c = omega arith
 rotate-left-requires-2 : tie.Need-rotate-left-requires-2
 rotate-left-requires-2 c κs =
     let s = c .before .before .before .before .before .before .before in
-    rotatable _ rotations2 (s .pre .0) _ _ (s .pre .1 0 (omega arith))
+    rotatable (s .args .t1) rotations2 (s .pre .0) _ _ (s .pre .1 0 (omega arith))
 
 element-copy-out-add-2 : tie.Need-element-copy-out-add-2
 element-copy-out-add-2 c = omega arith
@@ -41,7 +41,7 @@ element-copy-out-rotate-left-3 c = omega arith
 rotate-left-requires-3 : tie.Need-rotate-left-requires-3
 rotate-left-requires-3 c κs =
     let s = c .before .before .before .before .before .before .before .before .before .before .before in
-    rotatable _ rotations2 (s .pre .0) _ _ (s .pre .1 0 (omega arith))
+    rotatable (s .args .t1) rotations2 (s .pre .0) _ _ (s .pre .1 0 (omega arith))
 
 element-copy-out-add-3 : tie.Need-element-copy-out-add-3
 element-copy-out-add-3 c = omega arith
@@ -55,7 +55,7 @@ element-copy-out-rotate-left-4 c = omega arith
 rotate-left-requires-4 : tie.Need-rotate-left-requires-4
 rotate-left-requires-4 c κs =
     let s = c .before .before .before .before .before .before .before .before .before .before .before .before .before .before .before in
-    rotatable _ rotations2 (s .pre .0) _ _ (sum-lt _ _ _ _ (c .before .before .before .before .before .before .before .before .before .add .ensures))
+    rotatable (s .args .t1) rotations2 (s .pre .0) _ _ (sum-lt _ _ _ _ (c .before .before .before .before .before .before .before .before .before .add .ensures))
 
 element-copy-out-rotate-left-5 : tie.Need-element-copy-out-rotate-left-5
 element-copy-out-rotate-left-5 c = omega arith
@@ -63,7 +63,7 @@ element-copy-out-rotate-left-5 c = omega arith
 rotate-left-requires-5 : tie.Need-rotate-left-requires-5
 rotate-left-requires-5 c κs =
     let s = c .before .before .before .before .before .before .before .before .before .before .before .before .before .before .before .before .before in
-    rotatable _ rotations2 (s .pre .0) _ _ (sum-lt _ _ _ _ (c .before .before .before .before .before .before .before .add2 .ensures))
+    rotatable (s .args .t1) rotations2 (s .pre .0) _ _ (sum-lt _ _ _ _ (c .before .before .before .before .before .before .before .add2 .ensures))
 
 add-requires-4 : tie.Need-add-requires-4
 add-requires-4 c κs = search needs
@@ -90,7 +90,7 @@ returns c =
       three .add3 .ensures,
       three .before .before .rotate-left3 .ensures,
     )
-    (simp (rotated _ rotations2 (s .pre .0)))
+    (simp (rotated (s .args .t1) rotations2 (s .pre .0)))
 
 pub filter-2-spec : {M : Type 1} → statement M
 filter-2-spec =

@@ -1,35 +1,63 @@
-use mathlib.Core.Path.{_≡_, ap}
-use borrow.Author.Tests.{eq-eqb, ne-eqb}
-use Rattle.tsc.specs.Word.{word}
+use mathlib.Core.Path.{_≡_, refl, sym, ap, _∙_}
+use Prim.Native.Nat.{ℕ, _-_, _^_, _≤_, _<_}
+use native.Mathlib.Omega.{arith}
+use borrow.Author.Needs.{needs}
+use borrow.Author.Tests.{lt-ltb}
+use lib.ListN.{length, getD}
+use Rattle.tsc.specs.declared.Card.{Card}
+use Rattle.tsc.specs.declared.State.{State}
+use Rattle.tsc.specs.Constants.{mostWords, filterWords}
+use Rattle.tsc.specs.Word.{_⊞_, further, word}
+use Rattle.tsc.proofs.Word.{filtered-lt, word-filtered}
 use Rattle.filters.specs.declared.filter.Rotations.{Rotations}
-use Rattle.filters.specs.Rotations.{rotations1, rotations2}
-use Rattle.filters.proofs.Rotated.{chosen}
+use Rattle.filters.specs.Rotations.{Filters, HasFurther}
 use Rattle.filters.proofs.filter.word_by.Statement.{statement}
 use Rattle.filters.proofs.filter.word_by.Tie as tie
 
--- the turns are of the card's width
-bits : (c : tie.Start) → c .args .t .width .bits ≡ c .args .card .width
-bits c = ap (λ (a : Rotations). a .width .bits) (c .pre .1 .1)
+-- what the rotations have of the card
+module _ (card : Card) (t : Rotations) (s : State) (f : Filters card t s) where
+  words : t .words ≡ card .words
+  words = ap (λ (a : Rotations). a .words) (f .rotations)
 
-filter-2-requires : tie.Need-filter-2-requires
-filter-2-requires c κs =
-    let s = c .before .before in
-    let a = s .args in
-    chosen (a .t) (a .card .width) rotations2 (a .s .words) (rw (eq-eqb _ _ (c .if1 .taken)) at (s .pre .1 .1)) (s .pre .0) (s .pre .1 .0)
+  bits : t .width .bits ≡ card .width
+  bits = ap (λ (a : Rotations). a .width .bits) (f .rotations)
+
+  further-there : filterWords < card .words → HasFurther t
+  further-there l = rw (f .rotations) ((f .width .0, f .width .1, refl), simp (lt-ltb filterWords (card .words) l) refl)
+
+filtered-by-requires : tie.Need-filtered-by-requires
+filtered-by-requires c κs = c .pre
+
+cast-if1 : tie.Need-cast-if1
+cast-if1 c = search needs
 
 returns : tie.Need-returns
-unfolding word
-returns c = rw (eq-eqb _ _ (c .before .if1 .taken), ← bits (c .before .before .before)) (c .filter-2 .ensures)
+returns c card f =
+    let s = c .before .before .before in
+    c .before .before .filtered-by .ensures card f
+    ∙ sym (word-filtered card (s .args .s .words) (λ k l. f .past k (omega (arith, words card (s .args .t) (s .args .s) f))))
 
-filter-1-requires : tie.Need-filter-1-requires
-filter-1-requires c κs =
-    let s = c .before .before in
-    let a = s .args in
-    chosen (a .t) (a .card .width) rotations1 (a .s .words) (rw (ne-eqb _ _ (c .if1 .left)) at (s .pre .1 .1)) (s .pre .0) (s .pre .1 .0)
+with-further-requires : tie.Need-with-further-requires
+with-further-requires c κs =
+    let s = c .before .before .before in
+    let card = s .pre .0 in
+    let f = s .pre .1 in
+    let e = bits card (s .args .t) (s .args .s) f in
+    let x : ℕ → ℕ = λ k. getD (s .args .s .words) k 0 in
+    (
+      (further-there card (s .args .t) (s .args .s) f (omega (arith, words card (s .args .t) (s .args .s) f)), rw (e, c .before .before .filtered-by .ensures card f) (filtered-lt card x)),
+      rw e (f .words),
+    )
 
 returns-2 : tie.Need-returns-2
 unfolding word
-returns-2 c = rw (ne-eqb _ _ (c .before .if1 .left), ← bits (c .before .before .before)) (c .filter-1 .ensures)
+returns-2 c card f =
+    let s = c .before .before .before .before in
+    let ws = s .args .s .words in
+    let all : length ws ≡ mostWords = search needs in
+    let e = bits card (s .args .t) (s .args .s) f in
+    c .with-further .ensures ∙ rw (e, c .before .before .before .filtered-by .ensures card f, all) refl
 
 pub word-by-spec : {M : Type 1} → statement M
-word-by-spec = tie.close (tie.spec filter-2-requires returns filter-1-requires returns-2)
+word-by-spec =
+    tie.close (tie.spec filtered-by-requires cast-if1 returns with-further-requires returns-2)
