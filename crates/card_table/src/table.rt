@@ -1,5 +1,5 @@
-// The table of a card: 2^m entries and, past them, zeros. It is lent, since 256 entries by value are copied. Callers establish m ≤ mostWords from the words field: the reader has it past its checks, the
-// writer has asked it first.
+// The table of a card: 2^m entries and, past them, zeros. It is lent, since by value it would be copied; that a lent array has all its entries is for
+// callers to say. Callers establish m ≤ mostWords from the words field: the reader has it past its checks, the writer has asked it first.
 ghost use mathlib.Core.Path.{_≡_};
 ghost use Prim.Native.Nat.{ℕ, _^_, _<_, _≤_};
 ghost use lib.ListN.{length, getD, take};
@@ -54,7 +54,7 @@ pub fn absent_table() -> [u8; TABLE_SIZE]
 
 // Whether each used entry is below 2^m.
 pub fn entries_allowed(table: &[u8; TABLE_SIZE], m: u32) -> bool
-    requires { ⌜ m ≤ mostWords ⌝ }
+    requires { ⌜ (m ≤ mostWords) × (length (now table) ≡ 2 ^ mostWords) ⌝ }
     ensures { λ r. ⌜ r ≡ allowed (field m tableBit) (take (2 ^ m) (now (table .entry))) ⌝ }
 {
     let size = entries(m);
@@ -70,7 +70,7 @@ pub fn entries_allowed(table: &[u8; TABLE_SIZE], m: u32) -> bool
 
 // Whether it is TSC-1's table.
 pub fn is_tsc1(table: &[u8; TABLE_SIZE], m: u32) -> bool
-    requires { ⌜ m ≤ mostWords ⌝ }
+    requires { ⌜ (m ≤ mostWords) × (length (now table) ≡ 2 ^ mostWords) ⌝ }
     ensures { λ r. ⌜ r ≡ same (take (2 ^ m) (now (table .entry))) tsc1Table ⌝ }
 {
     if m != DEFAULT_WORDS {
@@ -88,7 +88,7 @@ pub fn is_tsc1(table: &[u8; TABLE_SIZE], m: u32) -> bool
 
 // Whether the entries past 2^m are 0.
 pub fn unused_clear(table: &[u8; TABLE_SIZE], m: u32) -> bool
-    requires { ⌜ m ≤ mostWords ⌝ }
+    requires { ⌜ (m ≤ mostWords) × (length (now table) ≡ 2 ^ mostWords) ⌝ }
     ensures { λ r. ⌜ r ≡ unusedClear m (now (table .entry)) ⌝ }
 {
     let mut i = entries(m);

@@ -11,30 +11,30 @@ use Rattle.card_table.proofs.table.first_return.Statement.{statement}
 use Rattle.card_table.proofs.table.first_return.Tie as tie
 
 abbrev Inv-loop : tie.InvT-loop
-Inv-loop size table x₀ steps₀ x steps = (x < size) × (1 ≤ steps) × (steps ≤ size + 1) × (size ≤ 2 ^ mostWords) × (returnFrom (λ y. getD table y 0) (size + 1 - steps) steps x ≡ firstReturn (λ y. getD table y 0) size)
+Inv-loop table size x₀ steps₀ x steps = (x < size) × (1 ≤ steps) × (steps ≤ size + 1) × (size ≤ 2 ^ mostWords) × (returnFrom (λ y. getD table y 0) (size + 1 - steps) steps x ≡ firstReturn (λ y. getD table y 0) size)
 
 abbrev μ-loop : tie.MeasureT-loop
-μ-loop size table x₀ steps₀ x steps = size + 1 - steps
+μ-loop table size x₀ steps₀ x steps = size + 1 - steps
 
-array-read-x : tie.Need-array-read-x Inv-loop μ-loop
-array-read-x c = omega arith
+element-copy-out-x : tie.Need-element-copy-out-x Inv-loop μ-loop
+element-copy-out-x c = omega arith
 
 loop-holds : tie.Need-loop-holds Inv-loop μ-loop
 unfolding firstReturn
 loop-holds c =
-    let a = c .args in (
-      c .pre .1 0 (omega arith),
+    let a = c .before .args in (
+      c .before .pre .1 0 (omega arith),
       omega arith,
       omega arith,
       omega arith,
-      ap (λ (d : ℕ). returnFrom (λ y. getD (a .t1) y 0) d 1 (getD (a .t1) 0 0)) (add-sub-cancel (a .size) 1),
+      ap (λ (d : ℕ). returnFrom (λ y. getD (a .table .now) y 0) d 1 (getD (a .table .now) 0 0)) (add-sub-cancel (a .size) 1),
     )
 
 cast-x : tie.Need-cast-x Inv-loop μ-loop
 cast-x c = omega arith
 
-array-read-x-2 : tie.Need-array-read-x-2 Inv-loop μ-loop
-array-read-x-2 c = omega arith
+element-copy-out-x-2 : tie.Need-element-copy-out-x-2 Inv-loop μ-loop
+element-copy-out-x-2 c = omega arith
 
 add-steps : tie.Need-add-steps Inv-loop μ-loop
 add-steps c = omega arith
@@ -44,29 +44,29 @@ loop-less c = omega arith
 
 loop-again : tie.Need-loop-again Inv-loop μ-loop
 loop-again c =
-    let a = c .before .before .before .args in
-    let l = c .before .before .loop in
-    let f : ℕ → ℕ = λ y. getD (a .t1) y 0 in
+    let a = c .before .before .before .before .before .args in
+    let l = c .before .before .before .loop in
+    let f : ℕ → ℕ = λ y. getD (a .table .now) y 0 in
     let d : a .size + 1 - l .steps ≡ suc (a .size + 1 - (l .steps + 1)) = omega arith in (
-      c .before .before .before .pre .1 (l .x) (omega arith),
+      c .before .before .before .before .before .pre .1 (l .x) (omega arith),
       omega arith,
       omega arith,
       omega arith,
       ap (λ (t : ℕ). returnFrom f (a .size + 1 - (l .steps + 1)) t (f (l .x))) (add-one (l .steps))
-          ∙ sym (return-later f (a .size + 1 - (l .steps + 1)) (l .steps) (l .x) (c .if2 .left))
+          ∙ sym (return-later f (a .size + 1 - (l .steps + 1)) (l .steps) (l .x) (c .before .if2 .left))
           ∙ ap (λ (d : ℕ). returnFrom f d (l .steps) (l .x)) (sym d) ∙ l .inv .4,
     )
 
 returns : tie.Need-returns Inv-loop μ-loop
 returns c =
     let l = c .before .loop in
-    sym (return-none _ (c .before .before .args .size + 1 - l .steps) (l .steps) (l .x) (omega arith)) ∙ l .inv .4
+    sym (return-none _ (c .before .before .before .args .size + 1 - l .steps) (l .steps) (l .x) (omega arith)) ∙ l .inv .4
 
 returns-2 : tie.Need-returns-2 Inv-loop μ-loop
 returns-2 c =
-    let a = c .before .before .before .args in
+    let a = c .before .before .before .before .args in
     let l = c .before .before .loop in
-    let f : ℕ → ℕ = λ y. getD (a .t1) y 0 in
+    let f : ℕ → ℕ = λ y. getD (a .table .now) y 0 in
     let d : a .size + 1 - l .steps ≡ suc (a .size - l .steps) = omega arith in
     sym (ap (λ (d : ℕ). returnFrom f d (l .steps) (l .x)) d ∙ return-here f (a .size - l .steps) (l .steps) (l .x) (c .if2 .taken)) ∙ l .inv .4
 
@@ -76,10 +76,10 @@ first-return-spec =
     (tie.spec
     Inv-loop
     μ-loop
-    array-read-x
+    element-copy-out-x
     loop-holds
     cast-x
-    array-read-x-2
+    element-copy-out-x-2
     add-steps
     loop-less
     loop-again

@@ -4,7 +4,6 @@ use mathlib.Core.Path.{_≡_, sym, ap, _∙_}
 use native.Mathlib.Decide.{decLt}
 use native.Mathlib.Omega.{arith}
 use Prim.Native.Nat.{ℕ, _-_, _^_, _≤_, _<_}
-use borrow.Author.Needs.{needs}
 use lib.ListN.{length, getD, take}
 use lib.Pow.{pow-lt}
 use lib.Seq.{length-take-le, getD-take}
@@ -25,32 +24,31 @@ used : (t : List ℕ) (m : ℕ) → length t ≡ 2 ^ mostWords → m ≤ mostWor
 used t m z few = length-take-le (2 ^ m) t (omega (arith, few-entries m few))
 
 abbrev Inv-loop : tie.InvT-loop
-Inv-loop m table i₀ i = (m ≡ defaultWords) × (i ≤ 2 ^ defaultWords) × ((j : ℕ) → j < i → getD table j 0 ≡ getD tsc1Table j 0)
+Inv-loop table m i₀ i = (m ≡ defaultWords) × (i ≤ 2 ^ defaultWords) × ((j : ℕ) → j < i → getD table j 0 ≡ getD tsc1Table j 0)
 
 abbrev μ-loop : tie.MeasureT-loop
-μ-loop m table i₀ i = 2 ^ defaultWords - i
+μ-loop table m i₀ i = 2 ^ defaultWords - i
 
 returns : tie.Need-returns Inv-loop μ-loop
 returns c =
     let a = c .before .args in
-    let z : length (a .t1) ≡ 2 ^ mostWords = search needs in
-    sym (same-not _ _ (λ e. other-size (a .m) (c .if1 .taken) (sym (used (a .t1) (a .m) z (c .before .pre)) ∙ ap (λ (l : List ℕ). length l) e)))
+    sym (same-not _ _ (λ e. other-size (a .m) (c .if1 .taken) (sym (used (a .table .now) (a .m) (c .before .pre .1) (c .before .pre .0)) ∙ ap (λ (l : List ℕ). length l) e)))
 
 loop-holds : tie.Need-loop-holds Inv-loop μ-loop
 loop-holds c = (omega arith, omega arith, λ j l. absurd (omega arith))
 
+element-copy-out-if2 : tie.Need-element-copy-out-if2 Inv-loop μ-loop
+element-copy-out-if2 c = omega arith
+
 array-read-if2 : tie.Need-array-read-if2 Inv-loop μ-loop
 array-read-if2 c = omega arith
 
-array-read-if2-2 : tie.Need-array-read-if2-2 Inv-loop μ-loop
-array-read-if2-2 c = omega arith
-
 returns-2 : tie.Need-returns-2 Inv-loop μ-loop
 returns-2 c =
-    let a = c .before .before .before .before .args in
-    let i = c .before .before .loop .i in
-    let here : i < 2 ^ a .m = rw (c .before .before .loop .inv .0) (omega arith) in
-    sym (same-not _ _ (λ e. c .if2 .taken (sym (getD-take (2 ^ a .m) (a .t1) i 0 here) ∙ ap (λ (l : List ℕ). getD l i 0) e)))
+    let a = c .before .before .before .before .before .args in
+    let i = c .before .before .before .loop .i in
+    let here : i < 2 ^ a .m = rw (c .before .before .before .loop .inv .0) (omega arith) in
+    sym (same-not _ _ (λ e. c .if2 .taken (sym (getD-take (2 ^ a .m) (a .table .now) i 0 here) ∙ ap (λ (l : List ℕ). getD l i 0) e)))
 
 add-i : tie.Need-add-i Inv-loop μ-loop
 add-i c = omega arith
@@ -59,16 +57,15 @@ loop-less : tie.Need-loop-less Inv-loop μ-loop
 loop-less c = omega arith
 
 loop-again : tie.Need-loop-again Inv-loop μ-loop
-loop-again c = (omega arith, omega arith, extend _ _ (c .before .before .loop .inv .2) (c .if2 .left))
+loop-again c = (omega arith, omega arith, extend _ _ (c .before .before .before .loop .inv .2) (c .if2 .left))
 
 returns-3 : tie.Need-returns-3 Inv-loop μ-loop
 returns-3 c =
     let a = c .before .before .before .args in
     let l = c .before .loop in
-    let z : length (a .t1) ≡ 2 ^ mostWords = search needs in
-    let size : length (take (2 ^ a .m) (a .t1)) ≡ 2 ^ defaultWords = used (a .t1) (a .m) z (c .before .before .before .pre) ∙ ap (λ (m : ℕ). 2 ^ m) (l .inv .0) in
-    sym (same-all (take (2 ^ a .m) (a .t1)) tsc1Table size
-    (λ j lj. getD-take (2 ^ a .m) (a .t1) j 0 (omega (arith, lj, size, ap (λ (m : ℕ). 2 ^ m) (l .inv .0))) ∙ l .inv .2 j (omega (arith, lj, size))))
+    let size : length (take (2 ^ a .m) (a .table .now)) ≡ 2 ^ defaultWords = used (a .table .now) (a .m) (c .before .before .before .pre .1) (c .before .before .before .pre .0) ∙ ap (λ (m : ℕ). 2 ^ m) (l .inv .0) in
+    sym (same-all (take (2 ^ a .m) (a .table .now)) tsc1Table size
+    (λ j lj. getD-take (2 ^ a .m) (a .table .now) j 0 (omega (arith, lj, size, ap (λ (m : ℕ). 2 ^ m) (l .inv .0))) ∙ l .inv .2 j (omega (arith, lj, size))))
 
 pub is-tsc1-spec : {M : Type 1} → statement M
 is-tsc1-spec =
@@ -78,8 +75,8 @@ is-tsc1-spec =
     μ-loop
     returns
     loop-holds
+    element-copy-out-if2
     array-read-if2
-    array-read-if2-2
     returns-2
     add-i
     loop-less

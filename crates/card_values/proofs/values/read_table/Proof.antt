@@ -49,9 +49,9 @@ by-table c =
     (rw (sym e) (ap (λ (t : List ℕ). take size t) (c .table-from .ensures) ∙ take-filled (2 ^ mostWords) size _ (length-take-le size part (c .before .if1 .left))))
 
 -- past the second test its entries are allowed
-by-absent : (c : tie.Else2) → let t = c .before .before in let a = t .before .before .before .before .before .args in let m = getD (a .t2 .numbers) 0 0 in
+by-absent : (c : tie.Else2) → let t = c .before .before .before in let a = t .before .before .before .before .before .args in let m = getD (a .t2 .numbers) 0 0 in
     firstOf (partChecks (field m tableBit) (a .part .now)) ≡ cond (same (take (2 ^ m) (t .table-from .result)) tsc1Table) 3 0
-by-absent c = by-table (c .before .before) ∙ simp (sym (c .before .entries-allowed .ensures) ∙ not-false _ (c .if2 .left))
+by-absent c = by-table (c .before .before .before) ∙ simp (sym (c .before .entries-allowed .ensures) ∙ not-false _ (c .if2 .left))
 
 -- ---- the needs
 
@@ -83,7 +83,7 @@ refused-at-requires-2 c κs = tt
 
 returns-2 : tie.Need-returns-2
 returns-2 c =
-    let t = c .before .before .before in
+    let t = c .before .before .before .before in
     c .refused-at2 .ensures ∙ field-refused tableBit _ _ 2 refl
     (by-table t ∙ simp (sym (c .before .before .entries-allowed .ensures) ∙ not-true _ (c .before .if2 .taken)))
 
@@ -96,13 +96,13 @@ refused-at-requires-3 c κs = tt
 returns-3 : tie.Need-returns-3
 returns-3 c =
     c .refused-at3 .ensures ∙ field-refused tableBit _ _ 3 refl
-    (by-absent (c .before .before .before) ∙ simp (sym (c .before .before .is-tsc1 .ensures) ∙ c .before .if3 .taken))
+    (by-absent (c .before .before .before .before) ∙ simp (sym (c .before .before .is-tsc1 .ensures) ∙ c .before .if3 .taken))
 
 returns-4 : tie.Need-returns-4
 returns-4 c =
-    let t = c .before .before .before .before .before in
+    let t = c .before .before .before .before .before .before .before in
     stored-as _ _ _ _ (t .before .before .entries .ensures) (t .table-from .ensures) (long (t .before))
-    (by-absent (c .before .before .before) ∙ simp (sym (c .before .before .is-tsc1 .ensures) ∙ c .before .if3 .left))
+    (by-absent (c .before .before .before .before) ∙ simp (sym (c .before .before .is-tsc1 .ensures) ∙ c .before .if3 .left))
 
 pub read-table-spec : {M : Type 1} → statement M
 read-table-spec =
