@@ -10,6 +10,7 @@ ghost use Rattle.columns.specs.Replace.{withColumn, imageOf};
 use super::column;
 use tsc::State;
 use tsc::TABLE_SIZE;
+use words::byte::widened;
 
 // Column i of s, put through the table, as column i of a state that has the columns below it.
 pub fn replace_column<'a>(
@@ -26,7 +27,7 @@ pub fn replace_column<'a>(
     ensures { λ r. ⌜ r .words ≡ withColumn count i (imageOf (now (odd .entry)) (now (even .entry)) (bit i selector) (column i (take count (s .words)))) (below .words) ⌝ }
 {
     let c = column::column_of(s, i, count) as usize;
-    let odd_image = odd[c] as u32;
-    let even_image = even[c] as u32;
+    let odd_image = widened(odd[c]);
+    let even_image = widened(even[c]);
     column::with_column(below, i, selector, odd_image, even_image, count)
 }

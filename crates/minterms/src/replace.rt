@@ -15,6 +15,7 @@ use columns::few::FEW_WORDS;
 use tsc::MOST_WORDS;
 use tsc::State;
 use tsc::TABLE_SIZE;
+use words::byte::widened;
 use words::mask;
 
 // A state with an entry's image added to the columns of t: the odd power's where the selector has a 1, the even power's where it has a 0.
@@ -48,8 +49,8 @@ pub fn replace_columns<'a>(
     };
     let mut c = 0;
     while c < FEW_ENTRIES {
-        let odd_image = odd[c] as u32;
-        let even_image = even[c] as u32;
+        let odd_image = widened(odd[c]);
+        let even_image = widened(even[c]);
         let holders = minterm::minterm_of(low, s, c as u32);
         out = put(out, holders, selector, odd_image, even_image);
         c += 1;

@@ -3,6 +3,7 @@ ghost use Rattle.multiplexer.specs.Leaves.{HasImages, HasLeaves};
 use columns::few::FEW_ENTRIES;
 use columns::few::FEW_WORDS;
 use tsc::TABLE_SIZE;
+use words::byte::widened;
 use words::mask;
 
 // Both images of each entry c: at 2c the one by the even power, at 2c + 1 the one by the odd power, so that a selector bit and a column make one number.
@@ -18,8 +19,8 @@ fn images_of<'a>(odd: &'a [u8; TABLE_SIZE], even: &'a [u8; TABLE_SIZE]) -> [u32;
     let mut out = [0; IMAGES];
     let mut c = 0;
     while c < FEW_ENTRIES {
-        out[2 * c] = even[c] as u32;
-        out[2 * c + 1] = odd[c] as u32;
+        out[2 * c] = widened(even[c]);
+        out[2 * c + 1] = widened(odd[c]);
         c += 1;
     }
     out

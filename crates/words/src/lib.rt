@@ -1,3 +1,4 @@
-// Words of n bits in a u32: sums and rotations, and masks.
+// Words of n bits in a u32: sums and rotations, masks, and bytes as words.
 pub mod arithmetic;
+pub mod byte;
 pub mod mask;

@@ -3,7 +3,6 @@ use Prim.Native.Nat.{ℕ, _+_, _*_, _^_, _≤_, _<_}
 use native.Mathlib.Omega.{arith}
 use borrow.Author.Needs.{needs}
 use lib.ListN.{length}
-use lib.Seq.{take-all}
 use Rattle.cycle.proofs.Bits.{bit-lt}
 use Rattle.tsc.specs.Constants.{mostWords, widestWidth}
 use Rattle.tsc.specs.Columns.{column}
@@ -13,17 +12,18 @@ use Rattle.columns.proofs.column.column_of.Statement.{statement}
 use Rattle.columns.proofs.column.column_of.Tie as tie
 
 abbrev Inv-loop : tie.InvT-loop
-Inv-loop i s c₀ k₀ c k = (k ≤ mostWords) × (i < widestWidth) × (length (s .words) ≡ mostWords) × (c ≡ column i (wordsFrom k mostWords (s .words)))
+Inv-loop i count s c₀ k₀ c k =
+    (k ≤ count) × (count ≤ mostWords) × (i < widestWidth) × (length (s .words) ≡ mostWords) × (c ≡ column i (wordsFrom k count (s .words)))
 
 abbrev μ-loop : tie.MeasureT-loop
-μ-loop i s c₀ k₀ c k = k
+μ-loop i count s c₀ k₀ c k = k
 
 loop-holds : tie.Need-loop-holds Inv-loop μ-loop
 unfolding column
 loop-holds c =
     let a = c .args in
     let four : length (a .t1 .words) ≡ mostWords = search needs in
-    (omega arith, omega arith, four, ap (column (a .i)) (sym (words-none mostWords (a .t1 .words) (omega arith))))
+    (omega arith, omega arith, omega arith, four, ap (column (a .i)) (sym (words-none (a .count) (a .t1 .words) (omega arith))))
 
 sub-k : tie.Need-sub-k Inv-loop μ-loop
 sub-k c = omega arith
@@ -42,7 +42,7 @@ few : (c : tie.After-bit-of Inv-loop μ-loop) → c .before .before .before .loo
 few c =
     let a = c .before .before .before .before .args in
     let l = c .before .before .before .loop in
-    rw (l .inv .3) (column-few (a .i) (l .k) (a .t1 .words) (l .inv .2))
+    rw (l .inv .4) (column-few (a .i) (l .k) (a .count) (a .t1 .words) (l .inv .1) (l .inv .3))
 
 one : (c : tie.After-bit-of Inv-loop μ-loop) → c .bit-of .result < 2
 one c = rw (c .bit-of .ensures) (bit-lt (c .before .before .before .before .args .i) _)
@@ -61,15 +61,15 @@ unfolding column
 loop-again c =
     let a = c .before .before .before .before .args in
     let l = c .before .before .before .loop in
-    let more = words-next (l .k) mostWords (a .t1 .words) (omega arith) (omega arith) (omega arith) in
-    (omega arith, omega arith, l .inv .2, ap₂ (λ (b d : ℕ). b + 2 * d) (c .bit-of .ensures) (l .inv .3) ∙ ap (column (a .i)) (sym more))
+    let more = words-next (l .k) (a .count) (a .t1 .words) (omega arith) (omega arith) (omega arith) in
+    (omega arith, omega arith, omega arith, l .inv .3, ap₂ (λ (b d : ℕ). b + 2 * d) (c .bit-of .ensures) (l .inv .4) ∙ ap (column (a .i)) (sym more))
 
 returns : tie.Need-returns Inv-loop μ-loop
 returns c =
     let a = c .before .before .args in
     let l = c .before .loop in
     let e : l .k ≡ 0 = omega arith in
-    l .inv .3 ∙ ap (λ (k : ℕ). column (a .i) (wordsFrom k mostWords (a .t1 .words))) e ∙ ap (column (a .i)) (take-all mostWords (a .t1 .words) (omega arith))
+    l .inv .4 ∙ ap (λ (k : ℕ). column (a .i) (wordsFrom k (a .count) (a .t1 .words))) e
 
 pub column-of-spec : {M : Type 1} → statement M
 column-of-spec =

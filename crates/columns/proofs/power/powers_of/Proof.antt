@@ -8,20 +8,17 @@ use Rattle.columns.proofs.power.powers_of.Statement.{statement}
 use Rattle.columns.proofs.power.powers_of.Tie as tie
 
 abbrev Inv-loop : tie.InvT-loop
-Inv-loop odd even card p₀ x₀ y₀ z₀ counter₀ end p x y z counter =
-    (end ≡ 2 ^ card .words) × (counter ≤ end) × (x ≡ stands card counter) × Along card odd counter (p .odd) y × Along card even counter (p .even) z
+Inv-loop table m odd even p₀ x₀ y₀ z₀ counter₀ end p x y z counter =
+    (end ≡ 2 ^ m) × (counter ≤ end) × (x ≡ stands table counter) × Along m table odd counter (p .odd) y × Along m table even counter (p .even) z
 
 abbrev μ-loop : tie.MeasureT-loop
-μ-loop odd even card p₀ x₀ y₀ z₀ counter₀ end p x y z counter = end - counter
+μ-loop table m odd even p₀ x₀ y₀ z₀ counter₀ end p x y z counter = end - counter
 
 entry-after-requires : tie.Need-entry-after-requires Inv-loop μ-loop
 entry-after-requires c κs = c .pre
 
 entry-after-requires-2 : tie.Need-entry-after-requires-2 Inv-loop μ-loop
 entry-after-requires-2 c κs = c .before .pre
-
-cast-entries : tie.Need-cast-entries Inv-loop μ-loop
-cast-entries c = omega arith
 
 entries-requires : tie.Need-entries-requires Inv-loop μ-loop
 entries-requires c κs = c .before .before .pre .1
@@ -33,13 +30,13 @@ loop-holds c =
       c .entries .ensures,
       omega arith,
       refl,
-      along-none (a .t1) (a .odd) (c .before .before .entry-after .ensures),
-      along-none (a .t1) (a .even) (c .before .entry-after2 .ensures),
+      along-none (a .m) (a .table .now) (a .odd) (c .before .before .entry-after .ensures),
+      along-none (a .m) (a .table .now) (a .even) (c .before .entry-after2 .ensures),
     )
 
 -- x, y and z are entries of the table
-few : (c : tie.At-loop Inv-loop μ-loop) (j : ℕ) {e : ℕ} → e ≡ stands (c .before .before .before .before .args .t1) j → e < 2 ^ mostWords
-few c j e = let s = c .before .before .before .before in rw e (stands-few (s .args .t1) (s .pre .0) (s .pre .1) j)
+few : (c : tie.At-loop Inv-loop μ-loop) (j : ℕ) {e : ℕ} → e ≡ stands (c .before .before .before .before .args .table .now) j → e < 2 ^ mostWords
+few c j e = let s = c .before .before .before .before in rw e (stands-few (s .args .m) (s .args .table .now) (s .pre .2) (s .pre .1) j)
 
 few-x : (c : tie.At-loop Inv-loop μ-loop) → c .loop .x < 2 ^ mostWords
 few-x c = few c (c .loop .counter) (c .loop .inv .2)
@@ -94,19 +91,19 @@ loop-again c =
     let a = s .args in (
       l .inv .0,
       omega arith,
-      stands-next (a .t1) (l .counter) (l .inv .2),
-      along-next (a .t1) (s .pre .0) (s .pre .1) (a .odd) (l .counter) (l .p .odd) (l .inv .2) (l .inv .3),
-      along-next (a .t1) (s .pre .0) (s .pre .1) (a .even) (l .counter) (l .p .even) (l .inv .2) (l .inv .4),
+      stands-next (a .table .now) (l .counter) (l .inv .2),
+      along-next (a .m) (a .table .now) (s .pre .2) (s .pre .1) (a .odd) (l .counter) (l .p .odd) (l .inv .2) (l .inv .3),
+      along-next (a .m) (a .table .now) (s .pre .2) (s .pre .1) (a .even) (l .counter) (l .p .even) (l .inv .2) (l .inv .4),
     )
 
 returns : tie.Need-returns Inv-loop μ-loop
 returns c =
     let l = c .before .loop in
     let s = c .before .before .before .before .before in
-    let card = s .args .t1 in
-    let e : l .counter ≡ 2 ^ card .words = omega arith in (
-      along-all card (s .args .odd) (l .counter) (l .p .odd) (s .pre .2) e (l .inv .3),
-      along-all card (s .args .even) (l .counter) (l .p .even) (s .pre .2) e (l .inv .4),
+    let a = s .args in
+    let e : l .counter ≡ 2 ^ a .m = omega arith in (
+      along-all (a .m) (a .table .now) (a .odd) (l .counter) (l .p .odd) (s .pre .2) e (l .inv .3),
+      along-all (a .m) (a .table .now) (a .even) (l .counter) (l .p .even) (s .pre .2) e (l .inv .4),
     )
 
 pub powers-of-spec : {M : Type 1} → statement M
@@ -117,7 +114,6 @@ powers-of-spec =
     μ-loop
     entry-after-requires
     entry-after-requires-2
-    cast-entries
     entries-requires
     loop-holds
     cast-p
