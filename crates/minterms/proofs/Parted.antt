@@ -18,7 +18,6 @@ use Rattle.tsc.proofs.LowWords.{bit-column}
 use Rattle.words.specs.Masks.{HasBits}
 use Rattle.words.proofs.Masks.{cond-ap}
 use Rattle.words.proofs.Words.{wordsFrom, words-next}
-use Rattle.columns.specs.declared.power.Powers.{Powers}
 use Rattle.columns.specs.Replace.{HasColumns, imageOf}
 
 -- ---- the mask of an entry, from the last word to the first
@@ -71,8 +70,8 @@ bit-put k t y image ws i h =
 -- ---- entry after entry
 
 -- column i once the entries below c are done: the image of what it holds, if that is one of them, else 0
-abbrev pub done : Powers → ℕ → ℕ → List ℕ → ℕ → ℕ → ℕ
-done p x low ws c i = bit i low * cond (ltb (column i ws) c) (imageOf p (bit i x) (column i ws)) 0
+abbrev pub done : List ℕ → List ℕ → ℕ → ℕ → List ℕ → ℕ → ℕ → ℕ
+done odd even x low ws c i = bit i low * cond (ltb (column i ws) c) (imageOf odd even (bit i x) (column i ws)) 0
 
 -- what entry c adds to a column that holds a: its image where a is c, else nothing
 parted : (k q a c : ℕ) (f : ℕ → ℕ)
@@ -90,21 +89,21 @@ parted k q a c f = go (decLt a c) (ℕ-discrete a c)
     go (no g) (yes e) = simp (le-ltb a c (omega arith), eq-eqb a c e, lt-ltb a (c + 1) (omega arith)) (rw (e, mul-one) (omega (arith, none)))
     go (no g) (no ne) = simp (le-ltb a c (omega arith), ne-eqb a c ne, le-ltb a (c + 1) (omega arith)) (omega (arith, none, nothing))
 
-module _ (p : Powers) (x low : ℕ) (ws : List ℕ) (m : ℕ) where
-  pub done-none : (n : ℕ) → HasColumns m (replicate n 0) (done p x low ws 0)
+module _ (odd even : List ℕ) (x low : ℕ) (ws : List ℕ) (m : ℕ) where
+  pub done-none : (n : ℕ) → HasColumns m (replicate n 0) (done odd even x low ws 0)
   done-none n k lk i l =
       ap (bit i) (getD-filler n k 0) ∙ bit-zero i ∙ sym (ap (bit k) (mul-zero (bit i low)) ∙ bit-zero k)
-      ∙ ap (λ (b : Bool). bit k (bit i low * cond b (imageOf p (bit i x) (column i ws)) 0)) (sym (le-ltb (column i ws) 0 (omega arith)))
+      ∙ ap (λ (b : Bool). bit k (bit i low * cond b (imageOf odd even (bit i x) (column i ws)) 0)) (sym (le-ltb (column i ws) 0 (omega arith)))
 
-  pub done-next : (c t : ℕ) (out next : List ℕ) → HasBits t (holds low c ws) → HasColumns m out (done p x low ws c)
-      → HasColumns m next (λ i. bitOr (column i out) (bit i t * cond (eqb (bit i x) 1) (getD (p .odd) c 0) (getD (p .even) c 0)))
-      → HasColumns m next (done p x low ws (c + 1))
+  pub done-next : (c t : ℕ) (out next : List ℕ) → HasBits t (holds low c ws) → HasColumns m out (done odd even x low ws c)
+      → HasColumns m next (λ i. bitOr (column i out) (bit i t * cond (eqb (bit i x) 1) (getD odd c 0) (getD even c 0)))
+      → HasColumns m next (done odd even x low ws (c + 1))
   done-next c t out next ht ho hn k lk i l =
       hn k lk i l ∙ bit-or k (column i out) _
       ∙ ap₂ max (bit-column i out k ∙ ho k lk i l)
-      (ap (bit k) (ap₂ (λ (a b : ℕ). a * b) (ht i l) (cond-ap (λ (e : List ℕ). getD e c 0) (eqb (bit i x) 1) (p .odd) (p .even))))
-      ∙ parted k (bit i low) (column i ws) c (imageOf p (bit i x))
+      (ap (bit k) (ap₂ (λ (a b : ℕ). a * b) (ht i l) (cond-ap (λ (e : List ℕ). getD e c 0) (eqb (bit i x) 1) odd even)))
+      ∙ parted k (bit i low) (column i ws) c (imageOf odd even (bit i x))
 
-  pub done-all : (c : ℕ) (out : List ℕ) → ((i : ℕ) → column i ws < c) → HasColumns m out (done p x low ws c)
-      → HasColumns m out (λ i. bit i low * imageOf p (bit i x) (column i ws))
+  pub done-all : (c : ℕ) (out : List ℕ) → ((i : ℕ) → column i ws < c) → HasColumns m out (done odd even x low ws c)
+      → HasColumns m out (λ i. bit i low * imageOf odd even (bit i x) (column i ws))
   done-all c out h ho k lk i l = ho k lk i l ∙ simp (lt-ltb (column i ws) c (h i))

@@ -7,56 +7,56 @@ use native.Mathlib.Nat.{mul-zero, mul-one, mul-comm, mul-add, mul-assoc, pow-suc
 use native.Mathlib.Omega.{arith}
 use lib.Bits.{bitAnd}
 use lib.Dec.{eqb}
-use lib.ListN.{length, getD, set, length-set}
-use lib.Seq.{take-all}
+use lib.ListN.{length, getD, set, take, length-set}
+use lib.Seq.{length-take-le}
 use Rattle.cycle.specs.Notation.{bit}
 use Rattle.cycle.proofs.Bits.{bit-lt, bit-times, bit-and}
 use Rattle.cycle.proofs.Parity.{bit-cases}
-use Rattle.tsc.specs.Constants.{mostWords, widestWidth}
+use Rattle.tsc.specs.Constants.{widestWidth}
 use Rattle.tsc.specs.Columns.{column}
 use Rattle.tsc.proofs.Columns.{column-lt}
 use Rattle.words.specs.Masks.{HasBits}
 use Rattle.words.proofs.Words.{wordsFrom, words-none, words-next, Below, below-next}
-use Rattle.columns.specs.declared.power.Powers.{Powers}
+use Rattle.columns.specs.Few.{fewWords}
 use Rattle.columns.specs.Replace.{imageOf}
 use Rattle.multiplexer.specs.Leaves.{leafCount, HasImages, HasLeaves, PickedAt, HasPicked}
 
 -- ---- the images
 
 -- v is image number e
-abbrev pub ImageAt : Powers → ℕ → ℕ → Type 0
-ImageAt p e v = v ≡ imageOf p (e % 2) (e / 2)
+abbrev pub ImageAt : List ℕ → List ℕ → ℕ → ℕ → Type 0
+ImageAt odd even e v = v ≡ imageOf odd even (e % 2) (e / 2)
 
 -- both images of entry c put in
-pub images-next : (p : Powers) (c : ℕ) (t : List ℕ) → 2 * c + 1 < length t → Below (ImageAt p) (2 * c) t
-    → Below (ImageAt p) (2 * (c + 1)) (set (set t (2 * c) (getD (p .even) c 0)) (2 * c + 1) (getD (p .odd) c 0))
-images-next p c t l h =
+pub images-next : (odd even : List ℕ) (c v w : ℕ) (t : List ℕ) → v ≡ getD even c 0 → w ≡ getD odd c 0 → 2 * c + 1 < length t → Below (ImageAt odd even) (2 * c) t
+    → Below (ImageAt odd even) (2 * (c + 1)) (set (set t (2 * c) v) (2 * c + 1) w)
+images-next odd even c v w t ev ew l h =
     let next : 2 * c + 1 + 1 ≡ 2 * (c + 1) = omega arith in
     let half : 2 * c / 2 ≡ c = omega arith in
     let low : 2 * c % 2 ≡ 0 = omega arith in
     let half' : (2 * c + 1) / 2 ≡ c = omega arith in
     let high : (2 * c + 1) % 2 ≡ 1 = omega arith in
-    let even : ImageAt p (2 * c) (getD (p .even) c 0) = rw (half, low) refl in
-    let odd : ImageAt p (2 * c + 1) (getD (p .odd) c 0) = rw (half', high) refl in
-    subst (λ (n : ℕ). Below (ImageAt p) n (set (set t (2 * c) (getD (p .even) c 0)) (2 * c + 1) (getD (p .odd) c 0))) next
-    (below-next (ImageAt p) (2 * c + 1) (getD (p .odd) c 0) (set t (2 * c) (getD (p .even) c 0)) (rw (length-set t (2 * c) (getD (p .even) c 0)) l)
-    (below-next (ImageAt p) (2 * c) (getD (p .even) c 0) t (omega arith) h even) odd)
+    let lower : ImageAt odd even (2 * c) v = rw (half, low) ev in
+    let upper : ImageAt odd even (2 * c + 1) w = rw (half', high) ew in
+    subst (λ (n : ℕ). Below (ImageAt odd even) n (set (set t (2 * c) v) (2 * c + 1) w)) next
+    (below-next (ImageAt odd even) (2 * c + 1) w (set t (2 * c) v) (rw (length-set t (2 * c) v) l)
+    (below-next (ImageAt odd even) (2 * c) v t (omega arith) h lower) upper)
 
 -- ---- the leaves
 
 -- v has bit j % m of word j / m of t in every place
 abbrev pub LeafAt : List ℕ → ℕ → ℕ → Type 0
-LeafAt t j v = HasBits v (λ i. bit (j % mostWords) (getD t (j / mostWords) 0))
+LeafAt t j v = HasBits v (λ i. bit (j % fewWords) (getD t (j / fewWords) 0))
 
-pub leaves-all : (p : Powers) (images t : List ℕ) → HasImages p images → Below (LeafAt images) leafCount t → HasLeaves p t
-leaves-all p images t e h s c k ls lc lk i l =
-    let j : ℕ = k + mostWords * (s + 2 * c) in
-    let place : j % mostWords ≡ k = omega arith in
-    let number : j / mostWords ≡ s + 2 * c = omega arith in
+pub leaves-all : (odd even images t : List ℕ) → HasImages odd even images → Below (LeafAt images) leafCount t → HasLeaves odd even t
+leaves-all odd even images t e h s c k ls lc lk i l =
+    let j : ℕ = k + fewWords * (s + 2 * c) in
+    let place : j % fewWords ≡ k = omega arith in
+    let number : j / fewWords ≡ s + 2 * c = omega arith in
     let low : (s + 2 * c) % 2 ≡ s = omega arith in
     let high : (s + 2 * c) / 2 ≡ c = omega arith in
     h j (omega arith) i l ∙ ap₂ (λ (b e : ℕ). bit b (getD images e 0)) place number
-    ∙ ap (bit k) (e (s + 2 * c) (omega arith) ∙ ap₂ (imageOf p) low high)
+    ∙ ap (bit k) (e (s + 2 * c) (omega arith) ∙ ap₂ (imageOf odd even) low high)
 
 -- ---- rows picked
 
@@ -110,10 +110,8 @@ module _ (m : ℕ) (ws t : List ℕ) where
             b j lj i li ∙ picked-half (size / 2) j (getD ws (k - 1) 0) t r (upper k) lj row i li),
       )
 
-  pub looked-all : (size : ℕ) (r : List ℕ) → length ws ≡ m → Looked 0 size r → HasPicked (2 * m) t (λ i. column i ws) r
-  looked-all size r e a =
-      subst (λ (xs : List ℕ). HasPicked (2 * m) t (λ i. column i xs) r) (take-all m ws (omega arith))
-      (subst (λ (n : ℕ). HasPicked n t (upper 0) r) (a .0 ∙ mul-one (2 * m)) (a .1))
+  pub looked-all : (size : ℕ) (r : List ℕ) → Looked 0 size r → HasPicked (2 * m) t (λ i. column i (take m ws)) r
+  looked-all size r a = subst (λ (n : ℕ). HasPicked n t (upper 0) r) (a .0 ∙ mul-one (2 * m)) (a .1)
 
 -- ---- the selector, last
 
@@ -125,9 +123,10 @@ pub kept-and : (n : ℕ) (t : List ℕ) (f : ℕ → ℕ) (low j v : ℕ) → Pi
 kept-and n t f low j v h i l = bit-and i low v ∙ ap (λ (a : ℕ). bit i low * a) (h i l)
 
 -- the row that the selector x and the columns pick is that of the columns' images
-pub kept-all : (p : Powers) (t ws r : List ℕ) (x low k v : ℕ) → HasLeaves p t → length ws ≡ mostWords → HasPicked (2 * mostWords) t (λ i. column i ws) r
-    → k < mostWords → KeptAt mostWords r (λ i. bit i x) low k v → HasBits v (λ i. bit k (bit i low * imageOf p (bit i x) (column i ws)))
-kept-all p t ws r x low k v leaves e picked lk h i l =
-    let few : column i ws < 2 ^ mostWords = subst (λ (n : ℕ). column i ws < 2 ^ n) e (column-lt i ws) in
-    let image = picked-half mostWords k x t r (λ i. column i ws) lk picked i l ∙ leaves (bit i x) (column i ws) k (bit-lt i x) few lk i l in
-    h i l ∙ ap (λ (a : ℕ). bit i low * a) image ∙ sym (bit-times k (bit i low) (imageOf p (bit i x) (column i ws)) (bit-lt i low))
+pub kept-all : (odd even t ws r : List ℕ) (x low k v : ℕ) → HasLeaves odd even t → fewWords ≤ length ws → HasPicked (2 * fewWords) t (λ i. column i (take fewWords ws)) r
+    → k < fewWords → KeptAt fewWords r (λ i. bit i x) low k v → HasBits v (λ i. bit k (bit i low * imageOf odd even (bit i x) (column i (take fewWords ws))))
+kept-all odd even t ws r x low k v leaves e picked lk h i l =
+    let c : ℕ → ℕ = λ i. column i (take fewWords ws) in
+    let few : c i < 2 ^ fewWords = subst (λ (n : ℕ). c i < 2 ^ n) (length-take-le fewWords ws e) (column-lt i (take fewWords ws)) in
+    let image = picked-half fewWords k x t r c lk picked i l ∙ leaves (bit i x) (c i) k (bit-lt i x) few lk i l in
+    h i l ∙ ap (λ (a : ℕ). bit i low * a) image ∙ sym (bit-times k (bit i low) (imageOf odd even (bit i x) (c i)) (bit-lt i low))

@@ -1,16 +1,18 @@
-use mathlib.Core.Path.{_≡_, ap₂, _∙_, subst}
+use mathlib.Core.Path.{_≡_, refl, ap₂, _∙_, subst}
 use mathlib.Core.Bool.{cond}
 use Prim.Native.Nat.{ℕ, _-_, _*_, _≤_}
 use native.Mathlib.Omega.{arith}
 use borrow.Author.Needs.{needs}
 use lib.Bits.{bitOr}
 use lib.Dec.{eqb}
-use lib.ListN.{length, length-set}
+use lib.ListN.{length, getD, length-set}
+use lib.Seq.{getD-set-other}
 use Rattle.cycle.specs.Notation.{bit}
 use Rattle.tsc.specs.declared.State.{State}
 use Rattle.tsc.specs.Constants.{mostWords}
 use Rattle.tsc.specs.Columns.{column}
 use Rattle.words.specs.Masks.{HasBits}
+use Rattle.columns.specs.Few.{fewWords}
 use Rattle.columns.specs.Replace.{HasColumns}
 use Rattle.words.proofs.Words.{below-next}
 use Rattle.minterms.proofs.Parted.{bit-put}
@@ -23,13 +25,15 @@ abbrev column-put : State → ℕ → ℕ → ℕ → ℕ → ℕ → ℕ
 column-put s t selector odd even i = bitOr (column i (s .words)) (bit i t * cond (eqb (bit i selector) 1) odd even)
 
 abbrev Inv-loop : tie.InvT-loop
-Inv-loop t selector odd even s out₀ k₀ out k = (k ≤ mostWords) × (length (s .words) ≡ mostWords) × (length (out .words) ≡ mostWords) × HasColumns k (out .words) (column-put s t selector odd even)
+Inv-loop t selector odd even s out₀ k₀ out k =
+    (k ≤ fewWords) × (length (s .words) ≡ mostWords) × (length (out .words) ≡ mostWords) × HasColumns k (out .words) (column-put s t selector odd even)
+    × ((j : ℕ) → fewWords ≤ j → getD (out .words) j 0 ≡ getD (s .words) j 0)
 
 abbrev μ-loop : tie.MeasureT-loop
-μ-loop t selector odd even s out₀ k₀ out k = mostWords - k
+μ-loop t selector odd even s out₀ k₀ out k = fewWords - k
 
 loop-holds : tie.Need-loop-holds Inv-loop μ-loop
-loop-holds c = (omega arith, search needs, search needs, λ k l. absurd (omega arith))
+loop-holds c = (omega arith, search needs, search needs, (λ k l. absurd (omega arith)), λ j l. refl)
 
 cast-spread : tie.Need-cast-spread Inv-loop μ-loop
 cast-spread c = omega arith
@@ -76,14 +80,15 @@ loop-again c =
           bit-put (l .k) (a .t) (c .join .result) (cond selected (a .odd) (a .even)) (a .t1 .words) i
           (c .join .ensures i h ∙ ap₂ (cond selected) (c .before .before .before .spread .ensures i h) (c .before .before .spread2 .ensures i h)
           ∙ cond-ap (bit (l .k)) selected (a .odd) (a .even))),
+      λ j h. getD-set-other (l .out .words) (l .k) j _ 0 (λ e. omega arith) ∙ l .inv .4 j h,
     )
 
 returns : tie.Need-returns Inv-loop μ-loop
 returns c =
     let a = c .before .before .args in
     let l = c .before .loop in
-    let e : l .k ≡ mostWords = omega arith in
-    subst (λ (k : ℕ). HasColumns k (l .out .words) (column-put (a .t1) (a .t) (a .selector) (a .odd) (a .even))) e (l .inv .3)
+    let e : l .k ≡ fewWords = omega arith in
+    (subst (λ (k : ℕ). HasColumns k (l .out .words) (column-put (a .t1) (a .t) (a .selector) (a .odd) (a .even))) e (l .inv .3), l .inv .4)
 
 pub put-spec : {M : Type 1} → statement M
 put-spec =

@@ -9,10 +9,10 @@ use Rattle.multiplexer.proofs.leaves.leaves_of.Statement.{statement}
 use Rattle.multiplexer.proofs.leaves.leaves_of.Tie as tie
 
 abbrev Inv-loop : tie.InvT-loop
-Inv-loop images out₀ j₀ out j = (j ≤ leafCount) × (length out ≡ leafCount) × Below (LeafAt images) j out
+Inv-loop odd even images out₀ j₀ out j = (j ≤ leafCount) × (length out ≡ leafCount) × Below (LeafAt images) j out
 
 abbrev μ-loop : tie.MeasureT-loop
-μ-loop images out₀ j₀ out j = leafCount - j
+μ-loop odd even images out₀ j₀ out j = leafCount - j
 
 images-of-requires : tie.Need-images-of-requires Inv-loop μ-loop
 images-of-requires c κs = tt
@@ -54,7 +54,7 @@ returns : tie.Need-returns Inv-loop μ-loop
 returns c =
     let l = c .before .loop in
     let images = c .before .before in
-    leaves-all (images .before .args .p) (images .images-of .result) (l .out) (images .images-of .ensures) (λ j h. l .inv .2 j (omega arith))
+    leaves-all (images .before .args .odd .now) (images .before .args .even .now) (images .images-of .result) (l .out) (images .images-of .ensures) (λ j h. l .inv .2 j (omega arith))
 
 pub leaves-of-spec : {M : Type 1} → statement M
 leaves-of-spec =

@@ -2,12 +2,15 @@ use mathlib.Core.Path.{_≡_, refl}
 use mathlib.Core.List.{List}
 use Prim.Native.Nat.{ℕ, _-_, _*_, _≤_}
 use native.Mathlib.Omega.{arith}
-use lib.ListN.{length, length-set}
+use borrow.Author.Needs.{needs}
+use lib.ListN.{length, length-set, List·getD-eq-default}
+use lib.Seq.{take-all}
 use Rattle.cycle.specs.Notation.{bit}
+use Rattle.tsc.specs.Constants.{mostWords}
 use Rattle.tsc.specs.Columns.{column}
 use Rattle.words.proofs.Words.{Below, below-next}
 use Rattle.transposition.specs.Groups.{groupCount, HasGroup}
-use Rattle.columns.specs.Replace.{imageOf, Replaced}
+use Rattle.columns.specs.Replace.{imageOf}
 use Rattle.transposition.proofs.Groups.{groups-all}
 use Rattle.transposition.proofs.replace.replace_columns.Statement.{statement}
 use Rattle.transposition.proofs.replace.replace_columns.Tie as tie
