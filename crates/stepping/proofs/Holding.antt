@@ -37,6 +37,10 @@ holding-lt m n xs h k = rw (getD-filled xs (mostWords - length xs) k 0) (go (dec
     go (yes l) = h .1 k l
     go (no g) = rw (List·getD-eq-default xs 0 {n = k} (omega (arith, h .0))) (pow-pos n)
 
+-- past the words it has zeros
+pub holding-past : (xs : List ℕ) (k : ℕ) → length xs ≤ k → getD (holding xs .words) k 0 ≡ 0
+holding-past xs k l = getD-filled xs (mostWords - length xs) k 0 ∙ List·getD-eq-default xs 0 {n = k} l
+
 -- zeros overwritten by words
 pub over-holding : (xs : List ℕ) → over xs (replicate mostWords 0) (length xs) ≡ holding xs .words
 over-holding xs = over-zeros xs mostWords (length xs) (le-refl (length xs)) ∙ ap (zeroFilled mostWords) (take-all (length xs) xs (le-refl (length xs)))

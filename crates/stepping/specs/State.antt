@@ -33,9 +33,9 @@ undone m k = 2 ^ m - k % 2 ^ m
 pub record Moves (a b : ℕ) (card : Card) (terms : Terms) (odd even : List ℕ) (s : State) : Type 0 where
   pub accepted : Accepted card
   pub holds : Holds card s
-  pub terms : IsTerms card terms
-  pub odd : IsPower card a odd
-  pub even : IsPower card b even
+  pub selects : IsTerms card terms
+  pub first : IsPower card a odd
+  pub second : IsPower card b even
 
 -- by the card's powers, for a step
 abbrev pub Steps : Card → Terms → List ℕ → List ℕ → State → Type 0

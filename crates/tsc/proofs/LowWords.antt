@@ -1,7 +1,7 @@
 -- The low bits of a state's words, which hold its low columns: what a state looks like that is built column by column from the lowest.
 use mathlib.Core.Path.{_≡_, refl, sym, ap, ap₂, _∙_}
 use mathlib.Core.List.{List, [], _∷_, _++_}
-use Prim.Native.Nat.{ℕ, zero, suc, _+_, _*_, _/_, _%_, _^_, _<_}
+use Prim.Native.Nat.{ℕ, zero, suc, _+_, _*_, _/_, _%_, _^_, _≤_, _<_}
 use native.Mathlib.Nat.{mod-eq-of-lt, mod-one, zero-mod, zero-div, add-comm}
 use native.Mathlib.Omega.{arith}
 use lib.ListN.{length, getD, replicate, take}
@@ -72,3 +72,12 @@ pub column-filled : (i : ℕ) (xs : List ℕ) (n : ℕ) → column i (xs ++ repl
 unfolding column
 column-filled i [] n = column-zeros i n
 column-filled i (x ∷ xs) n = ap (λ (c : ℕ). bit i x + 2 * c) (column-filled i xs n)
+
+-- so the columns of the first words are those of all, where the others are 0
+pub column-front : (c i : ℕ) (xs : List ℕ) → ((k : ℕ) → c ≤ k → getD xs k 0 ≡ 0) → column i (take c xs) ≡ column i xs
+unfolding column
+column-front zero i [] h = refl
+column-front zero i (x ∷ xs) h =
+    omega (arith, column-front zero i xs (λ k l. h (suc k) (omega arith)), ap (bit i) (h 0 (omega arith)), zero-div (2 ^ i))
+column-front (suc c) i [] h = refl
+column-front (suc c) i (x ∷ xs) h = ap (λ (d : ℕ). bit i x + 2 * d) (column-front c i xs (λ k l. h (suc k) (omega arith)))
