@@ -16,7 +16,8 @@ use Rattle.tsc.specs.Word.{orbitWords}
 use Rattle.tsc.proofs.Step.{orbit-in-range}
 use Rattle.tsc.proofs.Word.{length-orbitWords, orbitWords-at}
 use Rattle.card_format.proofs.Lists.{over, over-suc, length-over}
-use Rattle.stepping.specs.State.{used, Holds, holding}
+use Rattle.selectors.specs.declared.selector.Terms.{Terms}
+use Rattle.stepping.specs.State.{used, Holds, holding, Steps}
 use Rattle.stepping.proofs.Holding.{held, holds}
 use Rattle.outputs.specs.declared.next.Output.{Output}
 use Rattle.outputs.specs.Output.{output}
@@ -63,3 +64,29 @@ module _ (card : Card) (xs : List ℕ) (count : ℕ) (ws : List ℕ) (room : cou
         w .state ∙ ap (λ (k : ℕ). holding (orbit card xs k)) e,
         w .written ∙ ap (over row ws) e ∙ ap (λ (r : List ℕ). r ++ drop count ws) (take-all count row (le-of-eq (length-orbitWords card xs count))),
       )
+
+-- ---- in a loop that does not have the card: of every card that P holds of
+
+abbrev pub Row : (Card → Type 0) → State → ℕ → List ℕ → ℕ → State → List ℕ → Type 0
+Row P start count ws k s words = (card : Card) → P card → Written card (used card start) count ws k s words
+
+module _ (P : Card → Type 0) (start : State) (count : ℕ) (ws : List ℕ) (room : count ≤ length ws) (held : (card : Card) → P card → Holds card start) where
+  pub row-none : Row P start count ws 0 start ws
+  row-none card p = written-none card (used card start) count ws room start (held card p .1)
+
+  module _ (k : ℕ) (s : State) (words : List ℕ) (row : Row P start count ws k s words) where
+    pub row-holds : (card : Card) → P card → Holds card s
+    row-holds card p = written-holds card (used card start) count ws room (held card p .0) k s words (row card p)
+
+    pub row-length : (card : Card) → P card → length words ≡ length ws
+    row-length card p = written-length card (used card start) count ws room (held card p .0) k s words (row card p)
+
+    pub row-next : k < count → (o : Output) → ((card : Card) → P card → o ≡ output card (used card s)) → Row P start count ws (k + 1) (o .state) (set words k (o .word))
+    row-next l o e card p = written-next card (used card start) count ws room (held card p .0) k s words (row card p) l o (e card p)
+
+    pub row-all : count ≤ k → (card : Card) → P card → (s ≡ holding (orbit card (used card start) count)) × (words ≡ orbitWords card (used card start) count ++ drop count ws)
+    row-all l card p = written-all card (used card start) count ws room k s words (row card p) l
+
+-- the same step from another state
+pub steps-at : (card : Card) (terms : Terms) (odd even : List ℕ) (start s : State) → Steps card terms odd even start → Holds card s → Steps card terms odd even s
+steps-at card terms odd even start s st h = record { accepted = st .accepted; holds = h; selects = st .selects; first = st .first; second = st .second }

@@ -1,7 +1,7 @@
 // Words of the orbit one after the other.
 ghost use mathlib.Core.Path.{_≡_};
-ghost use mathlib.Core.List.{_++_};
-ghost use Prim.Native.Nat.{_≤_};
+ghost use mathlib.Core.List.{List, _++_};
+ghost use Prim.Native.Nat.{ℕ, _≤_};
 ghost use lib.ListN.{length, drop};
 ghost use Rattle.tsc.specs.declared.Card.{Card};
 ghost use Rattle.tsc.specs.Step.{orbit};

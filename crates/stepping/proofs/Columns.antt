@@ -22,7 +22,7 @@ use Rattle.tsc.proofs.Step.{step-in-range}
 use Rattle.card_format.specs.Verdict.{Accepted}
 use Rattle.words.specs.Widths.{IsWidth}
 use Rattle.words.proofs.Reduced.{width-is}
-use Rattle.columns.specs.Replace.{HasColumns, imageOf, Replaced}
+use Rattle.columns.specs.Replace.{HasColumns, IsCycle, imageOf, Replaced}
 use Rattle.selectors.specs.declared.selector.Terms.{Terms}
 use Rattle.selectors.specs.Terms.{IsTerms}
 use Rattle.stepping.specs.State.{used, holding, Steps}
@@ -55,6 +55,10 @@ module _ (m n : ℕ) (xs : List ℕ) (r : InRange m n xs) (few : m ≤ mostWords
           bits-ext widestWidth (getD (s .words) k 0) (getD (holding xs .words) k 0) (fits k) (lt-of-lt-of-le (holding-lt m n xs r k) (pow-mono narrow)) (λ i li.
           c k l i li ∙ ap (λ (b : ℕ). bit k (bit i b * f i)) e ∙ in-place f h k i (decLt i n))
       word k (no g) = others k (omega arith) ∙ sym (holding-past xs k (omega arith))
+
+-- what its powers ask for
+pub cycled : (card : Card) → Accepted card → (0 < card .words) × (card .words ≤ mostWords) × IsCycle (card .words) (card .table)
+cycled card ok = (omega (arith, ok .formed .words), ok .few, record { entries = ok .formed .entries; cycle = ok .period .cycle })
 
 -- the width of a card's terms
 pub terms-width : (card : Card) (terms : Terms) → Accepted card → IsTerms card terms → IsWidth (terms .width)

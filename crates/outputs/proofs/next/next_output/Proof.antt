@@ -1,22 +1,25 @@
-use native.Mathlib.Omega.{arith}
-use Rattle.outputs.proofs.Made.{after-lt, output-made}
+use mathlib.Core.Path.{_≡_}
+use Rattle.stepping.proofs.Columns.{terms-width}
+use Rattle.outputs.proofs.Made.{after-filters, output-made}
 use Rattle.outputs.proofs.next.next_output.Statement.{statement}
 use Rattle.outputs.proofs.next.next_output.Tie as tie
 
 next-state-requires : tie.Need-next-state-requires
-next-state-requires c κs = c .pre
+next-state-requires c κs = let st = c .pre .1 in terms-width (c .pre .0) (c .args .terms) (st .accepted) (st .selects)
 
-word-of-requires : tie.Need-word-of-requires
-word-of-requires c κs =
+word-by-requires : tie.Need-word-by-requires
+word-by-requires c κs =
     let s = c .before in
-    let ok = s .pre .0 .0 in
-    ((omega (arith, ok .formed .width), ok .narrow), after-lt (s .args .card) (s .args .s) _ (c .next-state .ensures))
+    let card = s .pre .0 in
+    let st = s .pre .1 in
+    (card, after-filters card (s .args .s) _ (c .next-state .ensures card st) (s .args .rotations) (st .accepted) (s .pre .2))
 
 returns : tie.Need-returns
-returns c =
+returns c card st e =
     let next = c .before in
     let a = next .before .args in
-    output-made (a .card) (a .s) _ (next .next-state .ensures) _ (c .word-of .ensures)
+    let made = next .next-state .ensures card st in
+    output-made card (a .s) _ made _ (c .word-by .ensures card (after-filters card (a .s) _ made (a .rotations) (st .accepted) e))
 
 pub next-output-spec : {M : Type 1} → statement M
-next-output-spec = tie.close (tie.spec next-state-requires word-of-requires returns)
+next-output-spec = tie.close (tie.spec next-state-requires word-by-requires returns)
