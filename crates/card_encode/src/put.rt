@@ -77,7 +77,7 @@ fn put_number(x: u32, size: usize, part: &mut [u8])
 
 // The first `size` entries of a table, at the start of the part.
 fn put_table(table: &[u8; TABLE_SIZE], size: usize, part: &mut [u8])
-    requires { ⌜ (size ≤ 2 ^ mostWords) × (size ≤ length (now part)) ⌝ }
+    requires { ⌜ (size ≤ 2 ^ mostWords) × (length (now table) ≡ 2 ^ mostWords) × (size ≤ length (now part)) ⌝ }
     ensures { λ _. ⌜ now (part .exit) ≡ take size (now (table .entry)) ++ drop size (now (part .entry)) ⌝ }
 {
     let mut i = 0;

@@ -1,6 +1,7 @@
 use native.Mathlib.Omega.{arith}
 use mathlib.Core.Path.{sym, ap, _∙_}
 use mathlib.Core.Bool.{not}
+use borrow.Author.Needs.{needs}
 use Rattle.card_format.specs.Fields.{fields, field}
 use Rattle.card_format.specs.Writing.{numbersOf, isWritten}
 use Rattle.card_encode.proofs.put.is_written.Statement.{statement}
@@ -10,11 +11,11 @@ cast-is-tsc1 : tie.Need-cast-is-tsc1
 cast-is-tsc1 c = omega arith
 
 is-tsc1-requires : tie.Need-is-tsc1-requires
-is-tsc1-requires c κs = omega arith
+is-tsc1-requires c κs = (omega arith, search needs)
 
 returns : tie.Need-returns
 unfolding numbersOf field fields
-returns c = ap not (c .is-tsc1 .ensures) ∙ ap (isWritten (c .before .before .before .before .args .card)) (sym (c .before .before .before .if1 .taken))
+returns c = ap not (c .is-tsc1 .ensures) ∙ ap (isWritten (c .before .before .before .before .args .t1)) (sym (c .before .before .before .if1 .taken))
 
 cast-is-absent : tie.Need-cast-is-absent
 cast-is-absent c = omega arith

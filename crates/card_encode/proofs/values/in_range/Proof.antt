@@ -3,6 +3,7 @@ use mathlib.Core.Bool.{true}
 use Prim.Native.Nat.{ℕ, _-_, _≤_}
 use native.Mathlib.Omega.{arith}
 use native.Mathlib.Numerals.{add-one}
+use borrow.Author.Needs.{needs}
 use borrow.Author.Tests.{not-true, not-false}
 use Rattle.cycle.specs.Notation.{every}
 use Rattle.cycle.proofs.Every.{every-at, every-not}
@@ -23,7 +24,7 @@ unfolding every
 loop-holds c = (omega arith, refl)
 
 field-allowed-requires : tie.Need-field-allowed-requires Inv-loop μ-loop
-field-allowed-requires c κs = (omega arith, λ p. words-allowed (c .before .before .args .card) (every-at (c .before .loop .k) _ (c .before .loop .inv .1) 0 p))
+field-allowed-requires c κs = (omega arith, λ p. words-allowed (c .before .before .args .t1) (every-at (c .before .loop .k) _ (c .before .loop .inv .1) 0 p))
 
 returns : tie.Need-returns Inv-loop μ-loop
 unfolding inRange
@@ -44,12 +45,13 @@ cast-unused-clear c = omega arith
 
 unused-clear-requires : tie.Need-unused-clear-requires Inv-loop μ-loop
 unused-clear-requires c κs =
-    words-allowed (c .before .before .before .before .args .card) (every-at (c .before .before .before .loop .k) _ (c .before .before .before .loop .inv .1) 0 (omega arith))
+    let l = c .before .before .before .loop in
+    (words-allowed (c .before .before .before .before .args .t1) (every-at (l .k) _ (l .inv .1) 0 (omega arith)), search needs)
 
 returns-2 : tie.Need-returns-2 Inv-loop μ-loop
 unfolding inRange
 returns-2 c =
-    let card = c .before .before .before .before .before .args .card in
+    let card = c .before .before .before .before .before .args .t1 in
     let e : c .before .before .before .before .loop .k ≡ fieldCount = omega arith in
     rw (sym (ap (λ (n : ℕ). every n (λ j. allowed (field (card .words) j) (numbersOf card j))) e) ∙ c .before .before .before .before .loop .inv .1) (c .unused-clear .ensures)
 
