@@ -19,12 +19,11 @@ use Rattle.card_format.specs.Reading.{cardOf}
 use Rattle.card_format.specs.Verdict.{Accepted}
 use Rattle.card_format.proofs.Lists.{take-filled}
 use Rattle.card_format.proofs.Verdict.{accepted-card}
-use Rattle.draws.specs.declared.Opened.{Opened}
 use Rattle.draws.specs.declared.Draw.the-variants.{Word, Refused}
 use Rattle.stepping.specs.State.{used, Holds, holding}
 use Rattle.stepping.proofs.Holding.{held, holds}
-use Rattle.draws.specs.Calls.{refusalFor, unlessRefused, opening, stepped, steppedBack, OnlyBefore, drawing}
-use Rattle.draws.proofs.Opening.{Clear, passed, begun-refused, unless-refused, unless-passed}
+use Rattle.draws.specs.Calls.{refusalFor, unlessRefused, stepped, steppedBack, OnlyBefore, drawing}
+use Rattle.draws.proofs.Opening.{Clear, passed, unless-refused, unless-passed}
 
 -- the step back of an accepted card is the one state before
 pub only-before : (card : Card) → Accepted card → (xs : List ℕ) → IsState card xs → OnlyBefore card (stepBack card xs) xs
@@ -35,9 +34,9 @@ only-before card ok xs sx = (
 )
 
 -- a call that is refused, whatever else it promises of an answer 0
-pub call-refused : (bytes xs ys : List ℕ) (A : Type 0) (o : Opened) → o ≡ opening bytes xs → o .refusal ≢ 0
-    → (o .refusal ≡ refusalFor bytes xs) × ((xs ≡ unlessRefused bytes xs ys) × (o .refusal ≡ 0 → A))
-call-refused bytes xs ys A o e ne = let b = begun-refused bytes xs o e ne in (b .0, (unless-refused bytes xs ys (b .1), λ z. absurd (ne z)))
+pub call-refused : (bytes xs ys : List ℕ) (A : Type 0) (r : ℕ) → r ≡ refusalFor bytes xs → r ≢ 0
+    → (r ≡ refusalFor bytes xs) × ((xs ≡ unlessRefused bytes xs ys) × (r ≡ 0 → A))
+call-refused bytes xs ys A r e ne = (e, (unless-refused bytes xs ys (λ z. ne (e ∙ z)), λ z. absurd (ne z)))
 
 -- a state as it is stored over n lent words
 pub stored : (card : Card) (n : ℕ) (ys : List ℕ) (s : State) → n ≡ card .words → IsState card ys → s ≡ holding ys → take n (s .words) ≡ ys
@@ -45,46 +44,50 @@ stored card n ys s e sy h = ap (λ (s : State). take n (s .words)) h ∙ take-fi
 
 -- ---- a call that is not refused
 
-module _ {bytes xs : List ℕ} {o : Opened} (k : Clear bytes xs o) where
-  accepted : Accepted (cardOf bytes)
-  accepted = accepted-card bytes (passed bytes xs (k .none) .0)
+module _ {bytes xs : List ℕ} {card : Card} (k : Clear bytes xs card) where
+  taken : Accepted (cardOf bytes)
+  taken = accepted-card bytes (passed bytes xs (k .none) .0)
 
   pub in-range : IsState (cardOf bytes) xs
   in-range = passed bytes xs (k .none) .1
 
   pub few : length xs ≤ mostWords
-  few = omega (arith, in-range .0, accepted .few)
+  few = omega (arith, in-range .0, taken .few)
 
-  pub ready : Accepted (o .card) × Holds (o .card) (o .state)
-  ready = rw (k .card-is, k .state-is) (accepted, holds (cardOf bytes) xs in-range)
+  pub accepted : Accepted card
+  accepted = rw (k .card-is) taken
 
-  -- what is worked out from the values is worked out from the card's bytes and the lent words
-  pub of-values : {A : Type 0} (f : Card → List ℕ → A) → f (o .card) (used (o .card) (o .state)) ≡ f (cardOf bytes) xs
-  of-values f = ap₂ f (k .card-is) (ap₂ used (k .card-is) (k .state-is) ∙ held (cardOf bytes) xs in-range)
+  module _ {s : State} (e : s ≡ holding xs) where
+    pub ready : Holds card s
+    ready = rw (k .card-is, e) (holds (cardOf bytes) xs in-range)
+
+    -- what is worked out from the values is worked out from the card's bytes and the lent words
+    pub of-values : {A : Type 0} (f : Card → List ℕ → A) → f card (used card s) ≡ f (cardOf bytes) xs
+    of-values f = ap₂ f (k .card-is) (ap₂ used (k .card-is) e ∙ held (cardOf bytes) xs in-range)
 
   -- what step and step back promise of the words ys that they leave, once s is worked out from the values and stored
-  pub step-made : {s : State} {ys : List ℕ} → s ≡ holding (step (o .card) (used (o .card) (o .state))) → ys ≡ take (length xs) (s .words)
+  pub step-made : {lent s : State} {ys : List ℕ} → lent ≡ holding xs → s ≡ holding (step card (used card lent)) → ys ≡ take (length xs) (s .words)
       → (0 ≡ refusalFor bytes xs) × ((ys ≡ stepped bytes xs) × (zero ≡ 0 → IsState (cardOf bytes) ys × (stepBack (cardOf bytes) ys ≡ xs)))
   unfolding stepped
-  step-made {s} {ys} h e =
+  step-made {lent} {s} {ys} el h e =
       let card = cardOf bytes in
       let state = step-in-range card xs in
-      let made = h ∙ of-values (λ c w. holding (step c w)) in
+      let made = h ∙ of-values el (λ c w. holding (step c w)) in
       let exit : ys ≡ step card xs = e ∙ stored card (length xs) (step card xs) s (in-range .0) state made in (
         sym (k .none),
         (
           exit ∙ unless-passed bytes xs (step card xs) (k .none),
-          λ _. (subst (IsState card) (sym exit) state, ap (stepBack card) exit ∙ back-of-step card (accepted .formed) (accepted .period) xs in-range),
+          λ _. (subst (IsState card) (sym exit) state, ap (stepBack card) exit ∙ back-of-step card (taken .formed) (taken .period) xs in-range),
         ),
       )
 
-  pub step-back-made : {s : State} {ys : List ℕ} → s ≡ holding (stepBack (o .card) (used (o .card) (o .state))) → ys ≡ take (length xs) (s .words)
+  pub step-back-made : {lent s : State} {ys : List ℕ} → lent ≡ holding xs → s ≡ holding (stepBack card (used card lent)) → ys ≡ take (length xs) (s .words)
       → (0 ≡ refusalFor bytes xs) × ((ys ≡ steppedBack bytes xs) × (zero ≡ 0 → OnlyBefore (cardOf bytes) ys xs))
   unfolding steppedBack
-  step-back-made {s} {ys} h e =
+  step-back-made {lent} {s} {ys} el h e =
       let card = cardOf bytes in
-      let before = only-before card accepted xs in-range in
-      let made = h ∙ of-values (λ c w. holding (stepBack c w)) in
+      let before = only-before card taken xs in-range in
+      let made = h ∙ of-values el (λ c w. holding (stepBack c w)) in
       let exit : ys ≡ stepBack card xs = e ∙ stored card (length xs) (stepBack card xs) s (in-range .0) (before .0) made in
       (sym (k .none), (exit ∙ unless-passed bytes xs (stepBack card xs) (k .none), λ _. subst (λ (ys : List ℕ). OnlyBefore card ys xs) (sym exit) before))
 
@@ -108,17 +111,17 @@ drawing-word bytes xs w e z = ap Word e ∙ simp (eq-eqb (refusalFor bytes xs) 0
 
 -- ---- what a draw promises of its answer and of the words ys that it leaves
 
-pub draw-refused : (bytes xs : List ℕ) (o : Opened) → o ≡ opening bytes xs → o .refusal ≢ 0
-    → (Refused (o .refusal) ≡ drawing bytes xs) × ((xs ≡ stepped bytes xs) × ((w : ℕ) → Refused (o .refusal) ≡ Word w → w < 2 ^ cardOf bytes .width))
+pub draw-refused : (bytes xs : List ℕ) (r : ℕ) → r ≡ refusalFor bytes xs → r ≢ 0
+    → (Refused r ≡ drawing bytes xs) × ((xs ≡ stepped bytes xs) × ((w : ℕ) → Refused r ≡ Word w → w < 2 ^ cardOf bytes .width))
 unfolding stepped
-draw-refused bytes xs o e ne =
-    let b = begun-refused bytes xs o e ne in
-    (drawing-refused bytes xs (o .refusal) (b .0) (b .1), (unless-refused bytes xs (step (cardOf bytes) xs) (b .1), narrow-refused _ _))
+draw-refused bytes xs r e ne =
+    let b : refusalFor bytes xs ≢ 0 = λ z. ne (e ∙ z) in
+    (drawing-refused bytes xs r e b, (unless-refused bytes xs (step (cardOf bytes) xs) b, narrow-refused _ _))
 
-pub draw-made : {bytes xs : List ℕ} {o : Opened} → Clear bytes xs o → {v : ℕ} {s : State} {ys : List ℕ} → let next = step (o .card) (used (o .card) (o .state)) in
-    v ≡ word (o .card) next → s ≡ holding next → ys ≡ take (length xs) (s .words)
+pub draw-made : {bytes xs : List ℕ} {card : Card} → Clear bytes xs card → {v : ℕ} {lent s : State} {ys : List ℕ} → lent ≡ holding xs → let next = step card (used card lent) in
+    v ≡ word card next → s ≡ holding next → ys ≡ take (length xs) (s .words)
     → (Word v ≡ drawing bytes xs) × ((ys ≡ stepped bytes xs) × ((w : ℕ) → Word v ≡ Word w → w < 2 ^ cardOf bytes .width))
-draw-made {bytes} {xs} k {v} ev es ey =
+draw-made {bytes} {xs} k {v} el ev es ey =
     let card = cardOf bytes in
-    let drawn : v ≡ word card (step card xs) = ev ∙ of-values k (λ c w. word c (step c w)) in
-    (drawing-word bytes xs v drawn (k .none), (step-made k es ey .1 .0, λ w h. narrow-word card (step card xs) v w drawn h))
+    let drawn : v ≡ word card (step card xs) = ev ∙ of-values k el (λ c w. word c (step c w)) in
+    (drawing-word bytes xs v drawn (k .none), (step-made k el es ey .1 .0, λ w h. narrow-word card (step card xs) v w drawn h))

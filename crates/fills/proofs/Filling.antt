@@ -15,9 +15,9 @@ use Rattle.refusals.proofs.Refusals.{first-left, first-right, first-both}
 use Rattle.card_format.specs.Reading.{cardOf}
 use Rattle.card_format.proofs.Lists.{put-part}
 use Rattle.stepping.specs.State.{used, holding}
-use Rattle.draws.specs.declared.Opened.{Opened}
-use Rattle.draws.specs.Calls.{callChecks, refusalFor, opening}
-use Rattle.draws.proofs.Opening.{Clear, passed, begun-refused}
+use Rattle.tsc.specs.declared.Card.{Card}
+use Rattle.draws.specs.Calls.{callChecks, refusalFor}
+use Rattle.draws.proofs.Opening.{Clear, passed}
 use Rattle.draws.proofs.Called.{of-values, stored}
 use Rattle.spans.specs.Span.{spanChecks}
 use Rattle.spans.proofs.Span.{span-within}
@@ -56,27 +56,27 @@ module _ (bytes xs strip : List ℕ) (place count : ℕ) where
   promised-passed z = rw z (refl, (refl, refl))
 
   -- refused by the card or the state, and by the span
-  pub refused-call : (o : Opened) → o ≡ opening bytes xs → o .refusal ≢ 0 → Promised (o .refusal) strip xs
-  refused-call o e ne = let b = begun-refused bytes xs o e ne in promised-refused (o .refusal) ne (b .0 ∙ refusal-call (b .1))
+  pub refused-call : (r : ℕ) → r ≡ refusalFor bytes xs → r ≢ 0 → Promised r strip xs
+  refused-call r e ne = promised-refused r ne (e ∙ refusal-call (λ z. ne (e ∙ z)))
 
-  pub refused-span : {o : Opened} → Clear bytes xs o → (r : ℕ) → r ≡ firstOf (spanChecks (length strip) place count) → r ≢ 0 → Promised r strip xs
+  pub refused-span : {card : Card} → Clear bytes xs card → (r : ℕ) → r ≡ firstOf (spanChecks (length strip) place count) → r ≢ 0 → Promised r strip xs
   refused-span k r e ne = promised-refused r ne (e ∙ refusal-span (k .none))
 
   -- not refused: the part of the strip from the place on has come back with the words at its front, and the last state is stored
-  module _ {o : Opened} (k : Clear bytes xs o) (z : firstOf (spanChecks (length strip) place count) ≡ 0) where
-    pub made : {s : State} {part ys : List ℕ} → let held = used (o .card) (o .state) in
-        s ≡ holding (orbit (o .card) held count)
-        → part ≡ orbitWords (o .card) held count ++ drop count (take (length strip - place) (drop place strip))
+  module _ {given : Card} (k : Clear bytes xs given) (z : firstOf (spanChecks (length strip) place count) ≡ 0) where
+    pub made : {lent s : State} {part ys : List ℕ} → lent ≡ holding xs → let held = used given lent in
+        s ≡ holding (orbit given held count)
+        → part ≡ orbitWords given held count ++ drop count (take (length strip - place) (drop place strip))
         → ys ≡ take (length xs) (s .words)
         → Promised 0 (take place strip ++ (part ++ drop (length strip - place) (drop place strip))) ys
-    made {s} {part} {ys} es ep ey =
+    made {lent} {s} {part} {ys} el es ep ey =
         let card = cardOf bytes in
         let done = promised-passed (sym (refusal-span (k .none)) ∙ z) in
         let words = orbitWords card xs count in
         let sx = passed bytes xs (k .none) .1 in
-        let state = es ∙ of-values k (λ c w. holding (orbit c w count)) in
+        let state = es ∙ of-values k el (λ c w. holding (orbit c w count)) in
         let back : List ℕ → List ℕ = λ p. take place strip ++ (p ++ drop (length strip - place) (drop place strip)) in
-        let part-is = ep ∙ of-values k (λ c w. orbitWords c w count ++ drop count (take (length strip - place) (drop place strip))) in
+        let part-is = ep ∙ of-values k el (λ c w. orbitWords c w count ++ drop count (take (length strip - place) (drop place strip))) in
         let size = length-orbitWords card xs count in
         let whole = ap back (part-is ∙ ap (λ (n : ℕ). words ++ drop n (take (length strip - place) (drop place strip))) (sym size))
         ∙ put-part strip words place ∙ ap (λ (n : ℕ). take place strip ++ words ++ drop (place + n) strip) size in

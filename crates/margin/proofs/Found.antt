@@ -10,12 +10,12 @@ use lib.ListN.{length, getD}
 use Rattle.cycle.specs.Notation.{first}
 use Rattle.cycle.proofs.First.{first-meets}
 use Rattle.tsc.specs.declared.Card.{Card}
+use Rattle.tsc.specs.declared.State.{State}
 use Rattle.tsc.specs.Word.{orbitWords}
 use Rattle.refusals.specs.Refusals.{noSuchChange}
 use Rattle.card_format.specs.Reading.{cardOf}
-use Rattle.stepping.specs.State.{used}
-use Rattle.draws.specs.declared.Opened.{Opened}
-use Rattle.draws.proofs.Called.{ready, of-values}
+use Rattle.stepping.specs.State.{used, holding}
+use Rattle.draws.proofs.Called.{accepted, of-values}
 use Rattle.ties.specs.Ties.{ties, TieAt, hasRank, chosen}
 use Rattle.ties.proofs.Rank.{tie-of-rank}
 use Rattle.tie_list.proofs.Allowed.{Allowed}
@@ -43,13 +43,15 @@ use Rattle.margins.proofs.Changed.{rank-at, at-rank, changed-pick, elsewhere-te
 use Rattle.margins.proofs.Answers.{margin-passed}
 
 -- what the search is given: the width and the words of the state, and the first place of the rank drawn
-pub record Draws (shovels times : List ℕ) (o : Opened) (l : Listing) (known : Known) : Type 0 where
-  pub width : known .width ≡ o .card .width
-  pub words : known .words ≡ orbitWords (o .card) (used (o .card) (o .state)) mostTaken
+pub record Draws (xs shovels times : List ℕ) (given : Card) (l : Listing) (known : Known) : Type 0 where
+  pub width : known .width ≡ given .width
+  pub state : State
+  pub lent : state ≡ holding xs
+  pub words : known .words ≡ orbitWords given (used given state) mostTaken
   pub chosen : known .chosen ≡ first (length times) (hasRank shovels times (ranked (known .width) (known .words) (l .ties) .rank))
 
-module _ (bytes xs shovels times : List ℕ) (o : Opened) (l : Listing) (f : Free bytes xs shovels times o l) (known : Known)
-    (d : Draws shovels times o l known) where
+module _ (bytes xs shovels times : List ℕ) (given : Card) (l : Listing) (f : Free bytes xs shovels times given l) (known : Known)
+    (d : Draws xs shovels times given l known) where
   abbrev card : Card
   card = cardOf bytes
 
@@ -59,7 +61,7 @@ module _ (bytes xs shovels times : List ℕ) (o : Opened) (l : Listing) (f : Fre
   -- ranks by the words are those that are drawn from the state
   by-row : (k : ℕ) → ranked (known .width) (known .words) k ≡ record { rank = drawnRank card xs k; taken = taken card xs k }
   by-row k =
-      ap₂ (λ (n : ℕ) (row : List ℕ). ranked n row k) width (d .words ∙ of-values (f .clear) (λ card xs. orbitWords card xs mostTaken))
+      ap₂ (λ (n : ℕ) (row : List ℕ). ranked n row k) width (d .words ∙ of-values (f .clear) (d .lent) (λ card xs. orbitWords card xs mostTaken))
       ∙ ranked-row card xs k
 
   rank-by : (k : ℕ) → ranked (known .width) (known .words) k .rank ≡ drawnRank card xs k
@@ -86,7 +88,7 @@ module _ (bytes xs shovels times : List ℕ) (o : Opened) (l : Listing) (f : Fre
   pub listed : Listed known shovels times
   listed =
       record {
-        width = rw (d .width) (ready (f .clear) .0 .narrow);
+        width = rw (d .width) (accepted (f .clear) .narrow);
         paired = allowed .paired;
         few = allowed .few;
         place = found .0;

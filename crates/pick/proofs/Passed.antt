@@ -3,10 +3,11 @@ use mathlib.Core.Path.{_≡_, sym, ap, _∙_}
 use mathlib.Core.List.{List}
 use Prim.Native.Nat.{ℕ, _≤_, _<_}
 use lib.ListN.{length, take}
+use Rattle.tsc.specs.declared.Card.{Card}
+use Rattle.tsc.specs.declared.State.{State}
 use Rattle.tsc.proofs.Step.{orbit-in-range}
 use Rattle.card_format.specs.Reading.{cardOf}
-use Rattle.stepping.specs.State.{used}
-use Rattle.draws.specs.declared.Opened.{Opened}
+use Rattle.stepping.specs.State.{used, holding}
 use Rattle.draws.proofs.Opening.{Clear}
 use Rattle.draws.proofs.Called.{stored, in-range, of-values}
 use Rattle.ties.specs.Ties.{mostShovels, ties, chosen}
@@ -21,17 +22,17 @@ use Rattle.picks.proofs.Picking.{pick-passed, picking-chosen, ties-few}
 use Rattle.pick.specs.declared.listing.Listing.{Listing}
 
 -- what a call goes on with once nothing is refused: the values, the list and its least time, and the ties
-pub record Free (bytes xs shovels times : List ℕ) (o : Opened) (l : Listing) : Type 0 where
+pub record Free (bytes xs shovels times : List ℕ) (card : Card) (l : Listing) : Type 0 where
   pub none : pickRefusal bytes xs shovels times ≡ 0
-  pub clear : Clear bytes xs o
+  pub clear : Clear bytes xs card
   pub listed : Listed shovels times (l .least)
   pub tied : l .ties ≡ ties times
   pub some : 0 < l .ties
   pub few : l .ties ≤ mostShovels
 
-pub free : (bytes xs shovels times : List ℕ) (o : Opened) (l : Listing) → Clear bytes xs o → l .refusal ≡ pickRefusal bytes xs shovels times
-    → (l .refusal ≡ 0 → LeastOf times (length times) (l .least) × (l .ties ≡ ties times)) → l .refusal ≡ 0 → Free bytes xs shovels times o l
-free bytes xs shovels times o l clear told found z =
+pub free : (bytes xs shovels times : List ℕ) (card : Card) (l : Listing) → Clear bytes xs card → l .refusal ≡ pickRefusal bytes xs shovels times
+    → (l .refusal ≡ 0 → LeastOf times (length times) (l .least) × (l .ties ≡ ties times)) → l .refusal ≡ 0 → Free bytes xs shovels times card l
+free bytes xs shovels times card l clear told found z =
     let none = sym told ∙ z in
     let allowed = pick-passed bytes xs shovels times none .1 in
     let t = found z in
@@ -46,14 +47,14 @@ free bytes xs shovels times o l clear told found z =
     }
 
 -- made: a rank is drawn among the ties, d, the words ys are left and the shovel of that rank is s
-pub made : {bytes xs shovels times ys : List ℕ} {o : Opened} {l : Listing} {d : Sample} {s : ℕ} → Free bytes xs shovels times o l
-    → d ≡ sample (o .card) (used (o .card) (o .state)) (l .ties) → ys ≡ take (length xs) (d .state .words) → s ≡ chosen shovels times (d .rank)
+pub made : {bytes xs shovels times ys : List ℕ} {given : Card} {l : Listing} {lent : State} {d : Sample} {s : ℕ} → Free bytes xs shovels times given l
+    → lent ≡ holding xs → d ≡ sample given (used given lent) (l .ties) → ys ≡ take (length xs) (d .state .words) → s ≡ chosen shovels times (d .rank)
     → (Shovel s (l .ties) (d .taken) ≡ picking bytes xs shovels times) × (ys ≡ picked bytes xs shovels times)
-made {bytes} {xs} {shovels} {times} {ys} {o} {l} {d} f ed ey es =
+made {bytes} {xs} {shovels} {times} {ys} {given} {l} {lent} {d} f el ed ey es =
     let card = cardOf bytes in
     let k = ties times in
     let sx = in-range (f .clear) in
-    let e : d ≡ sample card xs k = ed ∙ of-values (f .clear) (λ card xs. sample card xs (l .ties)) ∙ ap (sample card xs) (f .tied) in
+    let e : d ≡ sample card xs k = ed ∙ of-values (f .clear) el (λ card xs. sample card xs (l .ties)) ∙ ap (sample card xs) (f .tied) in
     let left = ey ∙ stored card (length xs) (drawnState card xs k) _ (sx .0) (orbit-in-range card xs sx _) (ap (λ (d : Sample). d .state) e) in
     let number = es ∙ ap (λ (d : Sample). chosen shovels times (d .rank)) e in
     let words = ap (λ (d : Sample). d .taken) e in

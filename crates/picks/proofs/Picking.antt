@@ -9,9 +9,8 @@ use Rattle.tsc.specs.declared.Card.{Card}
 use Rattle.refusals.specs.Refusals.{Check, firstOf}
 use Rattle.card_format.specs.Reading.{cardOf}
 use Rattle.refusals.proofs.Refusals.{first-left, first-right, first-both}
-use Rattle.draws.specs.declared.Opened.{Opened}
-use Rattle.draws.specs.Calls.{callChecks, refusalFor, opening}
-use Rattle.draws.proofs.Opening.{Clear, begun-refused}
+use Rattle.draws.specs.Calls.{callChecks, refusalFor}
+use Rattle.draws.proofs.Opening.{Clear}
 use Rattle.ties.specs.Ties.{mostShovels, ties, chosen}
 use Rattle.ties.proofs.Least.{ties-some, ties-le}
 use Rattle.tie_list.specs.Checks.{listChecks}
@@ -30,16 +29,16 @@ module _ (bytes xs shovels times : List ℕ) where
   later = listChecks shovels times ++ manyChecks
 
   -- the card or the state is refused, or else the list, or else the count of ties
-  pub told-call : (o : Opened) → o ≡ opening bytes xs → o .refusal ≢ 0 → o .refusal ≡ pickRefusal bytes xs shovels times
+  pub told-call : (r : ℕ) → r ≡ refusalFor bytes xs → r ≢ 0 → r ≡ pickRefusal bytes xs shovels times
   unfolding refusalFor pickRefusal
-  told-call o e ne = let b = begun-refused bytes xs o e ne in b .0 ∙ sym (first-left (callChecks bytes xs) later (b .1))
+  told-call r e ne = e ∙ sym (first-left (callChecks bytes xs) later (λ z. ne (e ∙ z)))
 
   pub refusal-later : refusalFor bytes xs ≡ 0 → firstOf later ≡ pickRefusal bytes xs shovels times
   unfolding refusalFor pickRefusal
   refusal-later z = sym (first-right (callChecks bytes xs) later z)
 
   -- as it is looked at
-  pub told-later : {o : Opened} → Clear bytes xs o → {n r : ℕ} → n ≡ o .card .width → r ≡ firstOf (listChecks shovels times ++ tieChecks n (ties times))
+  pub told-later : {card : Card} → Clear bytes xs card → {n r : ℕ} → n ≡ card .width → r ≡ firstOf (listChecks shovels times ++ tieChecks n (ties times))
       → r ≡ pickRefusal bytes xs shovels times
   told-later c en er =
       let width = en ∙ ap (λ (card : Card). card .width) (c .card-is) in

@@ -14,23 +14,23 @@ use Rattle.state_words.proofs.lent.state_refusal.Statement.{statement}
 use Rattle.state_words.proofs.lent.state_refusal.Tie as tie
 
 abbrev Inv-loop : tie.InvT-loop
-Inv-loop state n k₀ k = (k ≤ length state) × ((j : ℕ) → j < k → ltb (getD state j 0) (2 ^ n) ≡ true)
+Inv-loop m n state k₀ k = (k ≤ length state) × ((j : ℕ) → j < k → ltb (getD state j 0) (2 ^ n) ≡ true)
 
 abbrev μ-loop : tie.MeasureT-loop
-μ-loop state n k₀ k = length state - k
+μ-loop m n state k₀ k = length state - k
 
 -- the lent words, and whether word j of them has n bits
 abbrev words : tie.At-loop Inv-loop μ-loop → List ℕ
-words c = c .before .before .before .before .before .args .state .now
+words c = c .before .before .before .args .state .now
 
 abbrev narrow : tie.At-loop Inv-loop μ-loop → ℕ → Bool
-narrow c j = ltb (getD (words c) j 0) (2 ^ c .before .before .before .before .before .args .card .width)
+narrow c j = ltb (getD (words c) j 0) (2 ^ c .before .before .before .args .n)
 
 -- at the loop the words are as many as the card has: all that is left to ask is whether each has n bits
-told : (c : tie.At-loop Inv-loop μ-loop) → let card = c .before .before .before .before .before .args .card in
-    firstOf (stateChecks card (words c)) ≡ cond (not (every (length (words c)) (narrow c))) (wordTooWide .number) 0
+told : (c : tie.At-loop Inv-loop μ-loop) → let a = c .before .before .before .args in
+    firstOf (stateChecks (a .m) (a .n) (words c)) ≡ cond (not (every (length (words c)) (narrow c))) (wordTooWide .number) 0
 unfolding stateChecks firstOf
-told c = simp (eq-eqb _ _ (c .before .before .if1 .left))
+told c = simp (eq-eqb _ _ (c .before .if1 .left))
 
 -- what the test of word k comes to
 wide : (c : tie.Then2 Inv-loop μ-loop) → let l = c .before .before .before .before in narrow l (l .loop .k) ≡ false
@@ -43,15 +43,9 @@ fits c =
     let l = c .before .before .before .before in
     lt-ltb (getD (words l) (l .loop .k) 0) _ (leb-false _ _ (rw (c .before .exceeds .ensures) at (c .if2 .left)))
 
-cast-if1 : tie.Need-cast-if1 Inv-loop μ-loop
-cast-if1 c = omega arith
-
 returns : tie.Need-returns Inv-loop μ-loop
 unfolding stateChecks firstOf
 returns c = simp (ne-eqb _ _ (c .if1 .taken))
-
-cast-n : tie.Need-cast-n Inv-loop μ-loop
-cast-n c = omega arith
 
 loop-holds : tie.Need-loop-holds Inv-loop μ-loop
 loop-holds c = (omega arith, λ j l. absurd (omega arith))
@@ -92,9 +86,7 @@ state-refusal-spec =
     (tie.spec
     Inv-loop
     μ-loop
-    cast-if1
     returns
-    cast-n
     loop-holds
     mul-exceeds
     shared-slice-read-exceeds
