@@ -1,41 +1,87 @@
-use mathlib.Core.Path.{ap}
+use mathlib.Core.Path.{_≡_, sym, ap, _∙_}
 use mathlib.Core.List.{List}
 use Prim.Native.Nat.{ℕ}
 use native.Mathlib.Omega.{arith}
-use Rattle.draws.proofs.Opening.{Clear, begun}
-use Rattle.draws.proofs.Called.{few, ready, draw-refused, draw-made}
+use borrow.Author.Needs.{needs}
 use Rattle.outputs.specs.declared.next.Output.{Output}
+use Rattle.tsc.specs.declared.Card.{Card}
+use Rattle.draws.specs.Calls.{refusalFor}
+use Rattle.draws.proofs.Opening.{Clear, told, clear}
+use Rattle.draws.proofs.Called.{few, accepted, ready, draw-refused, draw-made}
+use Rattle.stepping.specs.State.{Steps}
+use Rattle.stepping.proofs.Columns.{sized, cycled}
 use Rattle.generator.proofs.call.draw.Statement.{statement}
 use Rattle.generator.proofs.call.draw.Tie as tie
 
--- the card's bytes and the state's words, as they are lent
-abbrev bytes : tie.After-struct-known → List ℕ
-bytes c = c .before .before .before .before .before .args .card .now
+-- where the call begins, with what it is handed
+abbrev start : tie.After-call-refusal → tie.Start
+start o = o .before .before .before .before .before
 
-abbrev xs : tie.After-struct-known → List ℕ
-xs c = c .before .before .before .before .before .args .state .now
+abbrev bytes : tie.After-call-refusal → List ℕ
+bytes o = start o .args .card .now
+
+abbrev xs : tie.After-call-refusal → List ℕ
+xs o = start o .args .state .now
+
+-- the card as it was accepted
+abbrev given : tie.After-call-refusal → Card
+given o = o .before .before .accept .result .card
+
+-- what is told
+refusal : (o : tie.After-call-refusal) → o .call-refusal .result ≡ refusalFor (bytes o) (xs o)
+refusal o = told (bytes o) (xs o) (o .before .before .accept .result) (o .before .before .accept .ensures) (o .call-refusal .ensures)
 
 -- past the first test nothing is refused
-clear : (c : tie.Else1) → Clear (bytes (c .before)) (xs (c .before)) (c .before .before .«open» .result)
-clear c = begun _ _ _ (c .before .before .«open» .ensures) (c .if1 .left)
+passing : (c : tie.Else1) → Clear (bytes (c .before)) (xs (c .before)) (given (c .before))
+passing c = let o = c .before in clear (bytes o) (xs o) (o .before .before .accept .result) (o .before .before .accept .ensures) (sym (refusal o) ∙ c .if1 .left)
 
-open-requires : tie.Need-open-requires
-open-requires c κs = omega arith
+accept-requires : tie.Need-accept-requires
+accept-requires c κs = search needs
+
+call-refusal-requires : tie.Need-call-refusal-requires
+call-refusal-requires c κs = search needs
 
 same-length : tie.Need-same-length
 same-length c = omega arith
 
 returns : tie.Need-returns
-returns c = draw-refused (bytes (c .before)) (xs (c .before)) _ (c .before .before .«open» .ensures) (c .if1 .taken)
+returns c = draw-refused (bytes (c .before)) (xs (c .before)) _ (refusal (c .before)) (c .if1 .taken)
 
-forward-requires : tie.Need-forward-requires
-forward-requires c κs = ready (clear (c .before .before)) .0
+load-requires : tie.Need-load-requires
+load-requires c κs = few (passing (c .before))
+
+terms-of-requires : tie.Need-terms-of-requires
+terms-of-requires c κs = let e = c .before .before .before in sized (given (e .before)) (accepted (passing e))
+
+rotations-of-requires : tie.Need-rotations-of-requires
+rotations-of-requires c κs = let e = c .before .before .before .before .before in let z = sized (given (e .before)) (accepted (passing e)) in (z .0, z .1)
+
+cast-powers-of : tie.Need-cast-powers-of
+cast-powers-of c = omega arith
+
+cast-powers-of-2 : tie.Need-cast-powers-of-2
+cast-powers-of-2 c = omega (arith, c .before .before .before .before .before .before .before .before .before .before .before .accept .ok)
+
+cast-powers-of-3 : tie.Need-cast-powers-of-3
+cast-powers-of-3 c = omega (arith, c .before .before .before .before .before .before .before .before .before .before .before .accept .ok)
+
+powers-of-requires : tie.Need-powers-of-requires
+powers-of-requires c κs = let e = c .before .before .before .before .before .before .before .before in cycled (given (e .before)) (accepted (passing e))
+
+-- what the step asks for
+steps : (c : tie.After-powers-of) → let r = c .before .before .before in let t = r .before .before in
+    Steps (given (t .before .before .before .before .before)) (t .terms-of .result) (c .powers-of .result .odd) (c .powers-of .result .even) (t .before .before .load .result)
+steps c =
+    let t = c .before .before .before .before .before in
+    let l = t .before .before in
+    let k = passing (l .before .before) in
+    record { accepted = accepted k; holds = ready k (l .load .ensures); selects = t .terms-of .ensures; first = c .powers-of .ensures .0; second = c .powers-of .ensures .1 }
 
 next-output-requires : tie.Need-next-output-requires
-next-output-requires c κs = (ready (clear (c .before .before .before)), c .forward .ensures)
+next-output-requires c κs = let p = c .before .before .before in (given (p .before .before .before .before .before .before .before .before .before .before), steps p, p .before .before .before .rotations-of .ensures)
 
 store-requires : tie.Need-store-requires
-store-requires c κs = few (clear (c .before .before .before .before .before))
+store-requires c κs = few (passing (c .before .before .before .before .before .before .before .before .before .before .before .before .before .before))
 
 same-length-2 : tie.Need-same-length-2
 same-length-2 c = omega arith
@@ -43,17 +89,27 @@ same-length-2 c = omega arith
 returns-2 : tie.Need-returns-2
 returns-2 c =
     let made = c .before .before .before .before in
-    let e = made .next-output .ensures in
-    draw-made (clear (made .before .before .before .before)) (ap (λ (o : Output). o .word) e) (ap (λ (o : Output). o .state) e) (c .before .before .store .ensures)
+    let p = made .before .before .before .before in
+    let l = p .before .before .before .before .before .before .before in
+    let o = l .before .before .before in
+    let e = made .next-output .ensures (given o) (steps p) (p .before .before .before .rotations-of .ensures) in
+    draw-made (passing (l .before .before)) (l .load .ensures) (ap (λ (o : Output). o .word) e) (ap (λ (o : Output). o .state) e) (c .before .before .store .ensures)
 
 pub draw-spec : {M : Type 1} → statement M
 draw-spec =
     tie.close
     (tie.spec
-    open-requires
+    accept-requires
+    call-refusal-requires
     same-length
     returns
-    forward-requires
+    load-requires
+    terms-of-requires
+    rotations-of-requires
+    cast-powers-of
+    cast-powers-of-2
+    cast-powers-of-3
+    powers-of-requires
     next-output-requires
     store-requires
     same-length-2
