@@ -22,11 +22,10 @@
 //!
 //! CARD is pairs of hex digits, at most 600 of them. Lists have commas: STATE and STRIP are words
 //! of 32 bits in hex; SHOVELS, TIMES and T decimal numbers of 16, of 32 and of 8 bits. A list has
-//! at most 600 numbers, T at most 512; entries of the writer's 256 that are not given are 0, and
-//! more than 256 are refused by 2. `-` is an empty string or list. C has 32 bits, in decimal or in
-//! hex after `0x`; PLACE and COUNT of `strip` have 32 bits; COUNT of `words` is at most 1024,
-//! PAGELEN at most 600; all other single numbers have 8 bits. Hex digits may have either case,
-//! numbers leading zeros.
+//! at most 600 numbers, T at most the writer's 256; entries that are not given are 0. `-` is an
+//! empty string or list. C has 32 bits, in decimal or in hex after `0x`; PLACE and COUNT of `strip`
+//! have 32 bits; COUNT of `words` is at most 1024, PAGELEN at most 600; all other single numbers
+//! have 8 bits. Hex digits may have either case, numbers leading zeros.
 
 use crate::fill::call_fill;
 use crate::margin::call_margin;
@@ -40,8 +39,6 @@ use std::fmt::Display;
 pub const MOST_INPUT: usize = 4 << 20;
 /// The most bytes of a card or a page, and the most numbers of a list.
 const MOST_LISTED: usize = 600;
-/// The most entries of a table as it is handed over, more than any card has.
-const MOST_ENTRIES: usize = 512;
 /// The most words of one case.
 const MOST_WORDS: usize = 1024;
 /// Every byte of a page as it is lent.
@@ -165,10 +162,10 @@ fn state(field: &[u8]) -> Option<Vec<u32>> {
     list(field, 16, MOST_LISTED)
 }
 
-/// The array of table entries; those not given are 0. A longer list is handed over as it is.
+/// The array of table entries; those not given are 0.
 fn table(field: &[u8]) -> Option<Vec<u8>> {
-    let mut entries = list(field, 10, MOST_ENTRIES)?;
-    entries.resize(entries.len().max(TABLE_ENTRIES), 0);
+    let mut entries = list(field, 10, TABLE_ENTRIES)?;
+    entries.resize(TABLE_ENTRIES, 0);
     Some(entries)
 }
 
@@ -591,9 +588,7 @@ write 2 2 1,2,3,0 1 2 1 1 1 10 = refused 16",
             (16, false),
             (17, false),
             (256, false),
-            (257, false),
-            (512, false),
-            (513, true),
+            (257, true),
             (600, true),
         ] {
             let table = commas(vec![0; count]);

@@ -10,7 +10,7 @@ use generator::call;
 use tsc::MOST_WORDS;
 
 // The most bytes that the program reads.
-pub const MOST_BYTES: usize = 64;
+pub const MOST_BYTES: usize = 512;
 
 // The lines for an accepted card.
 pub const LINES: u8 = 4;

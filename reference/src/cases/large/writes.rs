@@ -92,9 +92,9 @@ fn entries(maker: &mut Maker) {
     }
 }
 
-/// Entries not handed over are 0, of which a ring has one, here the last; more than 256 are refused.
+/// Entries not handed over are 0, of which a ring has one, here the last; more than 256 are no case.
 fn lengths(maker: &mut Maker) {
-    maker.section("write: tables of 2^m - 1, 256, 257, 512 and 513 entries");
+    maker.section("write: tables of 2^m - 1, 256 and 257 entries");
     for count in WORDS {
         let mut card = maker.card(count, 32);
         let last = card.table.len() - 1;
@@ -105,15 +105,7 @@ fn lengths(maker: &mut Maker) {
         card.table.truncate(last - 1);
         write(maker, &card, 270);
     }
-    for (count, length) in [
-        (2, 257),
-        (4, 257),
-        (8, 256),
-        (8, 257),
-        (8, 512),
-        (8, 513),
-        (9, 512),
-    ] {
+    for (count, length) in [(2, 257), (8, 256), (8, 257), (9, 256)] {
         let mut card = maker.card(8, 32);
         card.words = count;
         card.table.resize(length, 0);
@@ -132,12 +124,15 @@ fn relabelled(table: &[u8], one: usize, other: usize) -> Vec<u8> {
     (0..table.len()).map(entry).collect()
 }
 
-/// By 6, 7, 8, 9, each with a page that is too small as well.
+/// By 2, 6, 7, 8, 9, each with a page that is too small as well.
 fn broken(maker: &mut Maker) {
-    maker.section("write: 5 to 8 words, wide and even constants, broken rings, powers");
+    maker.section("write: 5 to 8 words, numbers out of range, wide and even constants, broken rings, powers");
     for count in WORDS {
         let card = maker.card(count, 7);
-        let changes: [fn(&mut Card); 6] = [
+        let changes: [fn(&mut Card); 9] = [
+            |card| card.width = 33,
+            |card| card.filter = 3,
+            |card| card.sum_term = 2,
             |card| card.constant |= 128,
             |card| card.table.swap(0, 1),
             |card| card.table = vec![],
