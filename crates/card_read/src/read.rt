@@ -52,6 +52,7 @@ pub fn read(card: &[u8]) -> Reading
         used: 0,
         numbers: field::ABSENT,
     };
+    // zeros until the table's field is read: an absent table is filled in at the end, where it is not copied
     let mut table = [0; TABLE_SIZE];
     let mut left = card[0];
     let mut next: usize = 0;
