@@ -2,3 +2,4 @@
 pub mod Map
 pub mod FieldRead
 pub mod Reader
+pub mod Table

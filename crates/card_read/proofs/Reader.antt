@@ -14,7 +14,7 @@ use lib.Count.{trailingZeros, trailing-le}
 use lib.Dec.{eqb, leb, ltb}
 use lib.ListN.{length, getD, set, drop, length-drop}
 use lib.Seq.{getD-set-other, set-getD}
-use Rattle.tsc.specs.Constants.{mostWords, defaultWords, tsc1Table}
+use Rattle.tsc.specs.Constants.{mostWords, defaultWords}
 use Rattle.cycle.specs.Notation.{sum, tabulate}
 use Rattle.card_values.specs.declared.values.Values.{Values}
 use Rattle.refusals.specs.Refusals.{Check, firstOf, NoneApplies}
@@ -34,22 +34,17 @@ use Rattle.card_read.proofs.FieldRead.{used-fits}
 abbrev pub absents : List ℕ
 absents = arrayOf defaultWords (λ f. getD (f .absent) 0 0)
 
--- the numbers and the table, once the fields before field k are read
+-- the numbers, once the fields before field k are read
 pub numbersTo : List ℕ → ℕ → List ℕ
 numbersTo bytes zero = absents
 numbersTo bytes (suc k) = cond (eqb k tableBit) (numbersTo bytes k) (set (numbersTo bytes k) k (value bytes k))
 
-pub tableTo : List ℕ → ℕ → List ℕ
-tableTo bytes zero = padded tsc1Table
-tableTo bytes (suc k) = cond (eqb k tableBit) (padded (values bytes k)) (tableTo bytes k)
-
--- none of the checks before field `next` applies, it is at `at`, and v has the values before it
+-- none of the checks before field `next` applies, it is at `at`, and v has the numbers before it
 pub record Reached (bytes : List ℕ) (next at : ℕ) (v : Values) : Type 0 where
   pub none : NoneApplies (checksTo bytes next)
   pub start : at ≡ offset (wordsOf bytes) bytes next
   pub within : at ≤ length bytes
   pub numbers : v .numbers ≡ numbersTo bytes next
-  pub table : v .table ≡ tableTo bytes next
 
 -- ---- the numbers
 
@@ -80,8 +75,8 @@ words-read bytes (suc (suc k)) p = stored-other bytes (suc k) 0 (λ e. absurd (o
 pub words-known : (bytes : List ℕ) (next at : ℕ) (v : Values) → Reached bytes next at v → 0 < next → getD (v .numbers) 0 0 ≡ wordsOf bytes
 words-known bytes next at v h p = ap (λ (l : List ℕ). getD l 0 0) (h .numbers) ∙ words-read bytes next p
 
--- an absent field leaves the numbers and the table as they were
-values-absent : (bytes : List ℕ) (k : ℕ) → present bytes k ≡ false → values bytes k ≡ field (wordsOf bytes) k .absent
+-- an absent field leaves the numbers as they were
+pub values-absent : (bytes : List ℕ) (k : ℕ) → present bytes k ≡ false → values bytes k ≡ field (wordsOf bytes) k .absent
 unfolding valuesAt
 values-absent bytes k a = rw a refl
 
@@ -97,21 +92,12 @@ numbers-absent bytes k l a = go (ℕ-discrete k tableBit)
     go (yes e) = simp (eq-eqb k tableBit e)
     go (no ne) = rw (ne-eqb k tableBit ne, own ne) (sym (set-getD (numbersTo bytes k) k 0))
 
-table-absent : (bytes : List ℕ) (k : ℕ) → present bytes k ≡ false → tableTo bytes k ≡ tableTo bytes (suc k)
-unfolding tableTo fields field
-table-absent bytes k a = go (ℕ-discrete k tableBit)
-  where
-    go : Dec (k ≡ tableBit) → tableTo bytes k ≡ cond (eqb k tableBit) (padded (values bytes k)) (tableTo bytes k)
-    go (yes e) = rw (eq-eqb k tableBit e, values-absent bytes k a, e) refl
-    go (no ne) = simp (ne-eqb k tableBit ne)
-
 -- ---- from field to field
 
 -- before field 0 stands the map
-pub reached-map : (bytes : List ℕ) (v : Values) → 0 < length bytes → v .numbers ≡ absents → v .table ≡ padded tsc1Table → Reached bytes 0 1 v
-unfolding checksTo offset sum numbersTo tableTo NoneApplies
-reached-map bytes v l en et =
-    record { none = (ne-eqb (length bytes) 0 (λ e. absurd (omega arith)), tt); start = refl; within = l; numbers = en; table = et }
+pub reached-map : (bytes : List ℕ) (v : Values) → 0 < length bytes → v .numbers ≡ absents → Reached bytes 0 1 v
+unfolding checksTo offset sum numbersTo NoneApplies
+reached-map bytes v l en = record { none = (ne-eqb (length bytes) 0 (λ e. absurd (omega arith)), tt); start = refl; within = l; numbers = en }
 
 -- past a field that is absent, and needn't be there
 pub reached-absent : (bytes : List ℕ) (k at : ℕ) (v : Values) → k < fieldCount → Reached bytes k at v → present bytes k ≡ false
@@ -123,7 +109,6 @@ reached-absent bytes k at v l h a four =
       start = h .start ∙ sym (offset-suc (wordsOf bytes) bytes k ∙ rw a (add-zero _));
       within = h .within;
       numbers = h .numbers ∙ numbers-absent bytes k l a;
-      table = h .table ∙ table-absent bytes k a;
     }
   where
     there : Dec (k ≡ tableBit) → (eqb k tableBit && not (eqb (wordsOf bytes) defaultWords)) ≡ false
@@ -169,7 +154,7 @@ pub told-field : (bytes : List ℕ) (k at : ℕ) (v : Values) → k < fieldCount
     → fieldRead k (drop at bytes) v .refusal ≢ 0 → firstOf (formChecks bytes) ≡ fieldRead k (drop at bytes) v .refusal
 told-field bytes k at v l h p ne = told-at bytes k l (h .none) _ ne (sym (field-told bytes k at v h p))
 
-values-present : (bytes : List ℕ) (k at : ℕ) (v : Values) → Reached bytes k at v → present bytes k ≡ true
+pub values-present : (bytes : List ℕ) (k at : ℕ) (v : Values) → Reached bytes k at v → present bytes k ≡ true
     → values bytes k ≡ numbers (field (getD (v .numbers) 0 0) k) (drop at bytes)
 unfolding valuesAt
 values-present bytes k at v h p = rw (p, field-known bytes k at v h, h .start) refl
@@ -180,7 +165,7 @@ cond-not false x y = refl
 
 pub reached-field : (bytes : List ℕ) (k at : ℕ) (v : Values) → k < fieldCount → Reached bytes k at v → present bytes k ≡ true
     → fieldRead k (drop at bytes) v .refusal ≡ 0 → Reached bytes (suc k) (at + fieldRead k (drop at bytes) v .used) (fieldRead k (drop at bytes) v)
-unfolding checksTo fieldRead numbersTo tableTo
+unfolding checksTo fieldRead numbersTo
 reached-field bytes k at v l h p z =
     let x = values-present bytes k at v h p in
     let fits = eq-eqb (firstOf (partChecks (field (getD (v .numbers) 0 0) k) (drop at bytes))) 0 z in
@@ -189,7 +174,6 @@ reached-field bytes k at v l h p z =
       start = ap₂ (λ (i j : ℕ). i + j) (h .start) (rw (fits, p, field-known bytes k at v h) refl) ∙ sym (offset-suc (wordsOf bytes) bytes k);
       within = omega (arith, used-fits k (drop at bytes) v, length-drop at bytes, h .within);
       numbers = rw (fits, sym x, h .numbers) (cond-not (eqb k tableBit) _ _);
-      table = rw (fits, sym x, h .table) refl;
     }
 
 -- ---- over absent fields
@@ -224,7 +208,7 @@ pub record Rest (bytes : List ℕ) (left next at : ℕ) (v : Values) : Type 0 wh
   pub fields : Left (getD bytes 0 0) left next
 
 -- the fields between `next` and the lowest of what is left are absent
-absent-below : (bytes : List ℕ) (left next : ℕ) → Left (getD bytes 0 0) left next → (j : ℕ) → next ≤ j → j < trailingZeros 8 left → present bytes j ≡ false
+pub absent-below : (bytes : List ℕ) (left next : ℕ) → Left (getD bytes 0 0) left next → (j : ℕ) → next ≤ j → j < trailingZeros 8 left → present bytes j ≡ false
 absent-below bytes left next h j n l = rw (left-below (getD bytes 0 0) left next h j n l) refl
 
 -- so they are passed over, up to the next field or, where nothing is left, to the end
@@ -301,10 +285,11 @@ pub end-reached : (bytes : List ℕ) (next at : ℕ) (v : Values) → Rest bytes
 unfolding endChecks NoneApplies trailingZeros
 end-reached bytes next at v h n e = rest-reached bytes 0 next at v h n (none-first (endChecks (length bytes) next at v) e .0)
 
--- the card of the values
-pub card-read : (bytes : List ℕ) (at : ℕ) (v : Values) → Reached bytes fieldCount at v → cardFrom (λ k. getD (v .numbers) k 0) (v .table) ≡ cardOf bytes
-unfolding cardOf numbersTo tableTo arrayOf tabulate
-card-read bytes at v h = rw (h .numbers, h .table) refl
+-- the card of the numbers and the table
+pub card-read : (bytes : List ℕ) (at : ℕ) (v : Values) (t : List ℕ) → Reached bytes fieldCount at v → t ≡ padded (values bytes tableBit)
+    → cardFrom (λ k. getD (v .numbers) k 0) t ≡ cardOf bytes
+unfolding cardOf numbersTo arrayOf tabulate
+card-read bytes at v t h e = rw (h .numbers, e) refl
 
 pub reading-refused : (bytes : List ℕ) (r : ℕ) → r ≢ 0 → firstOf (formChecks bytes) ≡ r → refusedReading r ≡ reading bytes
 unfolding reading

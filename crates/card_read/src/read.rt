@@ -1,11 +1,11 @@
 // Reading a card: refusals 1 to 6, and the eight values.
 ghost use mathlib.Core.Path.{_≡_};
-ghost use Prim.Native.Nat.{_<_, _≤_};
+ghost use Prim.Native.Nat.{_^_, _<_, _≤_};
 ghost use lib.ListN.{length, getD};
 ghost use Rattle.tsc.specs.Constants.{mostWords};
 ghost use Rattle.card_format.specs.Fields.{fieldCount};
 ghost use Rattle.card_format.specs.Reading.{reading};
-ghost use Rattle.card_values.specs.FieldRead.{fieldRead};
+ghost use Rattle.card_values.specs.FieldRead.{fieldRead, tableRead};
 use card_fields::field;
 use card_fields::number;
 use card_fields::number::Number;
@@ -15,15 +15,17 @@ use card_values::answer;
 use card_values::end;
 use card_values::values;
 use card_values::values::Values;
+use tsc::TABLE_SIZE;
 
 // Field k at the start of the part.
-fn read_field(k: usize, part: &[u8], v: Values) -> Values
-    requires { ⌜ (k < fieldCount) × (getD (v .numbers) 0 0 ≤ mostWords) ⌝ }
+fn read_field(k: usize, part: &[u8], v: Values, table: &mut [u8; TABLE_SIZE]) -> Values
+    requires { ⌜ (k < fieldCount) × (getD (v .numbers) 0 0 ≤ mostWords) × (length (now table) ≡ 2 ^ mostWords) ⌝ }
     ensures { λ r. ⌜ r ≡ fieldRead k (now (part .entry)) v ⌝ }
     ensures { λ r. ⌜ r .used ≤ length (now (part .entry)) ⌝ }
+    ensures { λ _. ⌜ now (table .exit) ≡ tableRead k (now (part .entry)) v (now (table .entry)) ⌝ }
 {
     if k == field::TABLE {
-        return values::read_table(part, v);
+        return values::read_table(part, v, table);
     }
     let m = v.numbers[field::WORDS];
     match number::read_number(k, m, part) {
@@ -49,8 +51,9 @@ pub fn read(card: &[u8]) -> Reading
         refusal: 0,
         used: 0,
         numbers: field::ABSENT,
-        table: table::absent_table(),
     };
+    // zeros until the table's field is read: an absent table is filled in at the end, where it is not copied
+    let mut table = [0; TABLE_SIZE];
     let mut left = card[0];
     let mut next: usize = 0;
     let mut at: usize = 1;
@@ -59,7 +62,7 @@ pub fn read(card: &[u8]) -> Reading
         if end::table_missing(next, k, v.numbers[field::WORDS]) {
             return answer::refused(refusals::TABLE_MISSING);
         }
-        v = read_field(k, &card[at..], v);
+        v = read_field(k, &card[at..], v, &mut table);
         if v.refusal != 0 {
             return answer::refused(v.refusal);
         }
@@ -71,8 +74,14 @@ pub fn read(card: &[u8]) -> Reading
     if told != 0 {
         return answer::refused(told);
     }
+    if (card[0] >> field::TABLE) % 2 == 0 {
+        return Reading {
+            refusal: 0,
+            card: answer::card_of(v, table::absent_table()),
+        };
+    }
     Reading {
         refusal: 0,
-        card: answer::card_of(v),
+        card: answer::card_of(v, table),
     }
 }

@@ -1,8 +1,9 @@
 // The table of a card: 2^m entries and, past them, zeros. It is lent, since by value it would be copied; that a lent array has all its entries is for
 // callers to say. Callers establish m ≤ mostWords from the words field: the reader has it past its checks, the writer has asked it first.
 ghost use mathlib.Core.Path.{_≡_};
+ghost use mathlib.Core.List.{_++_};
 ghost use Prim.Native.Nat.{ℕ, _^_, _<_, _≤_};
-ghost use lib.ListN.{length, getD, take};
+ghost use lib.ListN.{length, getD, take, drop};
 ghost use Rattle.cycle.specs.Cycle.{firstReturn};
 ghost use Rattle.tsc.specs.Constants.{mostWords, tsc1Table};
 ghost use Rattle.card_format.specs.Fields.{field, tableBit, allowed, same};
@@ -31,17 +32,25 @@ fn wide(x: u8) -> usize
     x as usize
 }
 
-// The table of the first `size` bytes of the part, filled in one by one. The reader has found them there.
-pub fn table_from(part: &[u8], size: usize) -> [u8; TABLE_SIZE]
-    requires { ⌜ (size ≤ 2 ^ mostWords) × (size ≤ length (now part)) ⌝ }
-    ensures { λ r. ⌜ r ≡ padded (take size (now (part .entry))) ⌝ }
+// The first `size` bytes of the part, put over a table's entries. The reader has found them there.
+pub fn put_entries(part: &[u8], size: usize, table: &mut [u8; TABLE_SIZE])
+    requires { ⌜ (size ≤ 2 ^ mostWords) × (size ≤ length (now part)) × (length (now table) ≡ 2 ^ mostWords) ⌝ }
+    ensures { λ _. ⌜ now (table .exit) ≡ take size (now (part .entry)) ++ drop size (now (table .entry)) ⌝ }
 {
-    let mut table = [0; TABLE_SIZE];
     let mut i = 0;
     while i < size {
         table[i] = part[i];
         i += 1;
     }
+}
+
+// The table of the first `size` bytes of the part.
+pub fn table_from(part: &[u8], size: usize) -> [u8; TABLE_SIZE]
+    requires { ⌜ (size ≤ 2 ^ mostWords) × (size ≤ length (now part)) ⌝ }
+    ensures { λ r. ⌜ r ≡ padded (take size (now (part .entry))) ⌝ }
+{
+    let mut table = [0; TABLE_SIZE];
+    put_entries(part, size, &mut table);
     table
 }
 

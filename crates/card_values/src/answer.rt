@@ -30,12 +30,11 @@ pub fn refused(number: u8) -> Reading
     }
 }
 
-// The card of these values. The reader calls it once all checks are passed, so that a number of one byte is below 256.
-pub fn card_of(v: Values) -> Card
+// The card of these numbers and this table. The reader calls it once all checks are passed, so that a number of one byte is below 256.
+pub fn card_of(v: Values, table: [u8; TABLE_SIZE]) -> Card
     requires { ⌜ ((k : ℕ) → k < fieldCount → k ≢ tableBit → k ≢ constantBit → getD (v .numbers) k 0 < 256) ⌝ }
-    ensures { λ r. ⌜ r ≡ cardFrom (λ k. getD (v .numbers) k 0) (v .table) ⌝ }
+    ensures { λ r. ⌜ r ≡ cardFrom (λ k. getD (v .numbers) k 0) table ⌝ }
 {
-    let table = v.table;
     Card {
         words: v.numbers[field::WORDS] as u8,
         width: v.numbers[field::WIDTH] as u8,

@@ -1,6 +1,6 @@
 use Rattle.card_fields.specs.Number.{numberRead}
 use native.Mathlib.Omega.{arith}
-use mathlib.Core.Path.{_≡_, sym, ap, ap₂, _∙_, subst}
+use mathlib.Core.Path.{_≡_, refl, sym, ap, ap₂, _∙_, subst}
 use mathlib.Core.Logic.{_≢_}
 use mathlib.Core.List.{List}
 use Prim.Native.Nat.{ℕ, _≤_, _<_}
@@ -12,7 +12,7 @@ use Rattle.card_values.specs.declared.values.Values.{Values}
 use Rattle.refusals.specs.Refusals.{firstOf}
 use Rattle.card_format.specs.Fields.{Field, field, tableBit, extent}
 use Rattle.card_format.specs.Reading.{partChecks}
-use Rattle.card_values.specs.FieldRead.{refusedAt, fieldRead}
+use Rattle.card_values.specs.FieldRead.{refusedAt, fieldRead, tableRead}
 use Rattle.card_fields.proofs.Answer.{answered}
 use Rattle.card_values.proofs.FieldRead.{field-refused}
 use Rattle.card_read.proofs.FieldRead.{used-fits}
@@ -20,8 +20,14 @@ use Rattle.card_read.proofs.read.read_field.Statement.{statement}
 use Rattle.card_read.proofs.read.read_field.Tie as tie
 
 -- an answer that is the definition's uses bytes of the part alone
-full : (k : ℕ) (part : List ℕ) (v r : Values) → r ≡ fieldRead k part v → (r ≡ fieldRead k part v) × (r .used ≤ length part)
-full k part v r e = (e, subst (λ (r : Values). r .used ≤ length part) (sym e) (used-fits k part v))
+full : (k : ℕ) (part : List ℕ) (v r : Values) (t₀ t : List ℕ) → r ≡ fieldRead k part v → t ≡ tableRead k part v t₀
+    → (r ≡ fieldRead k part v) × ((r .used ≤ length part) × (t ≡ tableRead k part v t₀))
+full k part v r t₀ t e d = (e, (subst (λ (r : Values). r .used ≤ length part) (sym e) (used-fits k part v), d))
+
+-- another field leaves the table as it was
+kept : (k : ℕ) (part : List ℕ) (v : Values) (t : List ℕ) → k ≢ tableBit → t ≡ tableRead k part v t
+unfolding tableRead
+kept k part v t ne = rw (ne-eqb k tableBit ne) refl
 
 -- the field that is read
 abbrev here : ℕ → Values → Field
@@ -34,21 +40,23 @@ refused-as k part v q e =
     field-refused k part v q (ap (λ (n : ℕ). eqb n 0) (r .1) ∙ r .0) (sym (r .1))
 
 stored-as : (k : ℕ) (part : List ℕ) (v : Values) (x u : ℕ) → k ≢ tableBit → Value x ≡ numberRead (here k v) part → u ≡ extent (here k v)
-    → record { refusal = 0; used = u; numbers = set (v .numbers) k x; table = v .table } ≡ fieldRead k part v
+    → record { refusal = 0; used = u; numbers = set (v .numbers) k x } ≡ fieldRead k part v
 unfolding fieldRead
 stored-as k part v x u ne e w =
     let r = answered (here k v) part (Value x) e in
     rw (r .0, ne-eqb k tableBit ne)
-    (ap₂ {C = Values} (λ (q n : ℕ). record { refusal = q; used = n; numbers = set (v .numbers) k x; table = v .table }) (sym (eqb-true _ 0 (r .0))) w
-    ∙ ap {B = Values} (λ (x : ℕ). record { refusal = firstOf (partChecks (here k v) part); used = extent (here k v); numbers = set (v .numbers) k x; table = v .table }) (r .1))
+    (ap₂ {C = Values} (λ (q n : ℕ). record { refusal = q; used = n; numbers = set (v .numbers) k x }) (sym (eqb-true _ 0 (r .0))) w
+    ∙ ap {B = Values} (λ (x : ℕ). record { refusal = firstOf (partChecks (here k v) part); used = extent (here k v); numbers = set (v .numbers) k x }) (r .1))
 
 read-table-requires : tie.Need-read-table-requires
 read-table-requires c κs = omega arith
 
 returns : tie.Need-returns
 returns c =
-    let a = c .before .before .before .args in
-    full (a .k) (a .part .now) (a .t3) _ (c .read-table .ensures ∙ ap (λ (k : ℕ). fieldRead k (a .part .now) (a .t3)) (sym (c .before .if1 .taken)))
+    let a = c .before .before .before .before .args in
+    let e = sym (c .before .before .if1 .taken) in
+    full (a .k) (a .part .now) (a .t3) _ (a .table .now) _ (c .read-table .ensures .0 ∙ ap (λ (k : ℕ). fieldRead k (a .part .now) (a .t3)) e)
+    (c .read-table .ensures .1 ∙ ap (λ (k : ℕ). tableRead k (a .part .now) (a .t3) (a .table .now)) e)
 
 element-copy-out-m : tie.Need-element-copy-out-m
 element-copy-out-m c = lit< tt
@@ -78,15 +86,18 @@ returns-2 : tie.Need-returns-2
 returns-2 c =
     let n = c .before .before .before .before in
     let a = n .before .before .before .before .args in
-    full (a .k) (a .part .now) (a .t3) _
-    (stored-as (a .k) (a .part .now) (a .t3) _ _ (n .before .before .if1 .left) (sym (c .before .before .x .given .1) ∙ n .read-number .ensures) (c .extent-of .ensures))
+    let other = n .before .before .if1 .left in
+    full (a .k) (a .part .now) (a .t3) _ (a .table .now) _
+    (stored-as (a .k) (a .part .now) (a .t3) _ _ other (sym (c .before .before .x .given .1) ∙ n .read-number .ensures) (c .extent-of .ensures))
+    (kept (a .k) _ _ _ other)
 
 returns-3 : tie.Need-returns-3
 returns-3 c =
     let n = c .before .before .before .before in
     let a = n .before .before .before .before .args in
-    full (a .k) (a .part .now) (a .t3) _
+    full (a .k) (a .part .now) (a .t3) _ (a .table .now) _
     (c .refused-at .ensures ∙ refused-as (a .k) (a .part .now) (a .t3) _ (sym (c .before .before .r .given .1) ∙ n .read-number .ensures))
+    (kept (a .k) _ _ _ (n .before .before .if1 .left))
 
 pub read-field-spec : {M : Type 1} → statement M
 read-field-spec =
