@@ -3,6 +3,7 @@
 // can speak of what is printed, so the stored output of the program holds that.
 ghost use Prim.Native.Nat.{_≤_};
 ghost use Rattle.case_fields.specs.Lists.{room};
+use card::check;
 use case_answers::answer;
 use case_fields::list::Numbers;
 use case_fields::list::ROOM;
@@ -64,9 +65,15 @@ pub fn print_run(card: &[u8], state: Numbers, count: usize)
 {
     let mut words = state.words;
     let m = state.count;
-    let begun = call::open(card, &words[..m]);
-    if begun.refusal != 0 {
-        return answer::print_refused(begun.refusal, true);
+    let found = check::accept(card);
+    let refusal = call::call_refusal(
+        found.refusal,
+        found.card.words,
+        found.card.width,
+        &words[..m],
+    );
+    if refusal != 0 {
+        return answer::print_refused(refusal, true);
     }
     io::write_all(1, b"words ");
     row::print_draws(card, &mut words[..m], count);

@@ -11,20 +11,23 @@ use Rattle.case_states.proofs.calls.print_run.Tie as tie
 abbrev entered : tie.Else1 → tie.Start
 entered c = c .before .before .before .before .before .before
 
+accept-requires : tie.Need-accept-requires
+accept-requires c κs = tt
+
 array-share-prefix-words : tie.Need-array-share-prefix-words
 array-share-prefix-words c =
-    let state = c .before .before .args .state in
-    let z : length (state .words) ≡ room = search needs in
-    front (state .count) (state .words) z (c .before .before .pre)
+    let start = c .before .before .before in
+    let z : length (start .args .state .words) ≡ room = search needs in
+    front (start .args .state .count) (start .args .state .words) z (start .pre)
 
-slice-aggregate-open : tie.Need-slice-aggregate-open
-slice-aggregate-open c =
-    let state = c .before .before .before .args .state in
-    let z : length (state .words) ≡ room = search needs in
-    front-length (state .count) (state .words) z (c .before .before .before .pre)
+slice-aggregate-call-refusal : tie.Need-slice-aggregate-call-refusal
+slice-aggregate-call-refusal c =
+    let start = c .before .before .before .before in
+    let z : length (start .args .state .words) ≡ room = search needs in
+    front-length (start .args .state .count) (start .args .state .words) z (start .pre)
 
-open-requires : tie.Need-open-requires
-open-requires c κs = tt
+call-refusal-requires : tie.Need-call-refusal-requires
+call-refusal-requires c κs = tt
 
 print-refused-requires : tie.Need-print-refused-requires
 print-refused-requires c κs = tt
@@ -69,9 +72,10 @@ pub print-run-spec : {M : Type 1} → statement M
 print-run-spec =
     tie.close
     (tie.spec
+    accept-requires
     array-share-prefix-words
-    slice-aggregate-open
-    open-requires
+    slice-aggregate-call-refusal
+    call-refusal-requires
     print-refused-requires
     returns
     slice-aggregate-write-all

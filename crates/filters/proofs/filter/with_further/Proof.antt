@@ -64,8 +64,7 @@ loop-less c = omega arith
 loop-again : tie.Need-loop-again Inv-loop μ-loop
 loop-again c =
     let s = c .before .before .before .before .before .before .before in
-    let l = c .before .before .before .before .before .loop in
-    (
+    let l = c .before .before .before .before .before .loop in (
       omega arith,
       l .inv .1,
       further-next (s .args .t1) (s .pre .0 .0) (l .j) (omega arith) (λ k. getD (s .args .t2 .words) k 0) (s .args .word) (l .sum) _ _ (l .inv .2)

@@ -43,8 +43,7 @@ with-further-requires c κs =
     let card = s .pre .0 in
     let f = s .pre .1 in
     let e = bits card (s .args .t) (s .args .s) f in
-    let x : ℕ → ℕ = λ k. getD (s .args .s .words) k 0 in
-    (
+    let x : ℕ → ℕ = λ k. getD (s .args .s .words) k 0 in (
       (further-there card (s .args .t) (s .args .s) f (omega (arith, words card (s .args .t) (s .args .s) f)), rw (e, c .before .before .filtered-by .ensures card f) (filtered-lt card x)),
       rw e (f .words),
     )

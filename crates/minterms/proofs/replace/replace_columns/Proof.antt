@@ -67,8 +67,7 @@ loop-again c =
     let odd = even .before .before in
     let l = odd .before .before .before .loop in
     let a = odd .before .before .before .before .args in
-    let holders = c .before .minterm-of .result in
-    (
+    let holders = c .before .minterm-of .result in (
       omega arith,
       done-next (a .odd .now) (a .even .now) (a .selector) (a .low) (take fewWords (a .s .words)) fewWords (l .c) holders (l .out .words) (c .put .result .words)
           (c .before .minterm-of .ensures) (l .inv .1)

@@ -60,8 +60,7 @@ loop-again : tie.Need-loop-again Inv-loop μ-loop
 loop-again c =
     let even = c .before .before in
     let l = even .before .before .before .loop in
-    let a = even .before .before .before .before .args in
-    (
+    let a = even .before .before .before .before .args in (
       omega arith,
       simp (length-set, length-set) (l .inv .1),
       images-next (a .odd .now) (a .even .now) (l .c) (even .widened .result) (c .widened2 .result) (l .out) (even .widened .ensures) (c .widened2 .ensures) (omega arith) (l .inv .2),

@@ -41,8 +41,7 @@ known c =
     let t = r .before in
     let powers = t .before in
     let s = started c in
-    let p = powers .powers-of .ensures in
-    (
+    let p = powers .powers-of .ensures in (
       powers .powers-of .result .odd,
       powers .powers-of .result .even,
       record { accepted = s .pre .0; holds = s .pre .1; selects = t .terms-of .ensures; first = p .0; second = p .1 },
@@ -95,7 +94,7 @@ now-known c card p =
     (p .0, p .1, steps-at card _ (p .0) (p .1) _ _ (p .2) h, p .3, p .4, p .5)
 
 next-in-row-requires : tie.Need-next-in-row-requires Inv-loop μ-loop
-next-in-row-requires c κs = 
+next-in-row-requires c κs =
     let o = c .before .before in
     let q = now-known (c .before) (started o .args .t1) (known o) in
     (started o .args .t1, q .0, q .1, q .2, q .3, q .4, q .5)

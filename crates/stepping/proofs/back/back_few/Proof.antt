@@ -43,8 +43,7 @@ loop-again : tie.Need-loop-again Inv-loop μ-loop
 loop-again c =
     let at = c .before .before .before .before in
     let l = at .loop in
-    let a = at .before .args in
-    (
+    let a = at .before .args in (
       omega arith,
       l .inv .1,
       λ card u.

@@ -43,8 +43,7 @@ loop-again : tie.Need-loop-again Inv-loop μ-loop
 loop-again c =
     let at = c .before .before .before .before in
     let l = at .loop in
-    let a = at .before .args in
-    (
+    let a = at .before .args in (
       omega arith,
       λ card u.
           let few : card .words ≤ mostWords = u .accepted .few in
