@@ -1,15 +1,19 @@
 // What the program prints of a card (document 01, The program). Which numbers these are is in the contracts of the check and of the draw; no contract can
 // speak of what is read and printed, so the stored outputs of the programs inspect_card and inspect_inputs hold that.
 ghost use mathlib.Core.Path.{_≡_};
+ghost use Prim.Native.Nat.{_<_};
+ghost use lib.ListN.{length, replicate};
 ghost use Rattle.io.specs.Counts.{Counts};
 ghost use Rattle.cycle.specs.Notation.{iterate};
+ghost use Rattle.card_format.specs.Fields.{mostCardBytes};
 ghost use Rattle.draws.specs.Calls.{stepped};
+ghost use Rattle.inspect.specs.Room.{mostRead};
 use card::check;
 use draws::Draw;
 use generator::call;
 use tsc::MOST_WORDS;
 
-// The most bytes that the program reads.
+// The most bytes that the program reads (document 02, Five).
 pub const MOST_BYTES: usize = 512;
 
 // The lines for an accepted card.
@@ -90,9 +94,17 @@ fn read_all(file: i32, bytes: &mut [u8]) -> Input
     }
 }
 
+// Room for the bytes that the program reads.
+fn room() -> [u8; MOST_BYTES]
+    ensures { λ r. ⌜ r ≡ replicate mostRead 0 ⌝ }
+    ensures { λ r. ⌜ mostCardBytes < length r ⌝ }
+{
+    [0; MOST_BYTES]
+}
+
 // An open file as a card, up to its end or to the most bytes. Where it can't be read there is no verdict.
 pub fn print_from(file: i32) {
-    let mut bytes = [0u8; MOST_BYTES];
+    let mut bytes = room();
     let found = read_all(file, &mut bytes);
     if found.failed {
         io::write_all(2, b"the card can't be read\n");

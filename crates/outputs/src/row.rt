@@ -81,12 +81,12 @@ fn fill_many(card: Card, s: State, count: usize, words: &mut [u32]) -> State
     let terms = selector::terms_of(card);
     let rotations = filter::rotations_of(card);
     let mut held = s;
-    let mut k = 0;
-    while k < count {
+    let mut at = 0;
+    while at < count {
         let drawn = next::next_output(terms, rotations, &p.odd, &p.even, held);
-        words[k] = drawn.word;
+        words[at] = drawn.word;
         held = drawn.state;
-        k += 1;
+        at += 1;
     }
     held
 }

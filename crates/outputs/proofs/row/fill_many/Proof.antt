@@ -19,10 +19,10 @@ abbrev Known : Terms → Rotations → Powers → State → Card → Type 0
 Known terms rotations p s card = Steps card terms (p .odd) (p .even) s × (rotations ≡ rotationsOf card)
 
 abbrev Inv-loop : tie.InvT-loop
-Inv-loop count words₀ p terms rotations held₀ k₀ words held k = Row (Known terms rotations p held₀) held₀ count words₀ k held words
+Inv-loop count words₀ p terms rotations held₀ at₀ words held at = Row (Known terms rotations p held₀) held₀ count words₀ at held words
 
 abbrev μ-loop : tie.MeasureT-loop
-μ-loop count words₀ p terms rotations held₀ k₀ words held k = count - k
+μ-loop count words₀ p terms rotations held₀ at₀ words held at = count - at
 
 -- the call, from what is worked out before the loop
 abbrev started : tie.After-rotations-of Inv-loop μ-loop → tie.Start Inv-loop μ-loop
@@ -47,7 +47,7 @@ size : (c : tie.At-loop Inv-loop μ-loop) → length (c .loop .words) ≡ length
 size c =
     let o = c .before in
     let s = started o in
-    row-length (P o) (s .args .s) (s .args .count) (s .args .words .now) (s .pre .2) (held o) (c .loop .k) (c .loop .held) (c .loop .words) (c .loop .inv) (s .args .t1) (known o)
+    row-length (P o) (s .args .s) (s .args .count) (s .args .words .now) (s .pre .2) (held o) (c .loop .at) (c .loop .held) (c .loop .words) (c .loop .inv) (s .args .t1) (known o)
 
 cast-powers-of : tie.Need-cast-powers-of Inv-loop μ-loop
 cast-powers-of c = omega arith
@@ -76,7 +76,7 @@ now-known : (c : tie.At-loop Inv-loop μ-loop) → let o = c .before in
 now-known c card p =
     let o = c .before in
     let s = started o in
-    let h = row-holds (P o) (s .args .s) (s .args .count) (s .args .words .now) (s .pre .2) (held o) (c .loop .k) (c .loop .held) (c .loop .words) (c .loop .inv) card p in
+    let h = row-holds (P o) (s .args .s) (s .args .count) (s .args .words .now) (s .pre .2) (held o) (c .loop .at) (c .loop .held) (c .loop .words) (c .loop .inv) card p in
     (steps-at card _ _ _ _ _ (p .0) h, p .1)
 
 next-output-requires : tie.Need-next-output-requires Inv-loop μ-loop
@@ -98,8 +98,8 @@ slice-write-words c =
     let s = started (t .before .before) in
     omega (arith, size (t .before), t .loop-test .taken, s .pre .2)
 
-add-k : tie.Need-add-k Inv-loop μ-loop
-add-k c =
+add-at : tie.Need-add-at Inv-loop μ-loop
+add-at c =
     let t = c .before .before .before .before .before in
     let s = started (t .before .before) in
     omega (arith, t .loop-test .taken, size (t .before), s .pre .2, s .good .1 .1 .1 .0)
@@ -114,7 +114,7 @@ loop-again c =
     let o = at .before in
     let s = started o in
     let l = at .loop in
-    row-next (P o) (s .args .s) (s .args .count) (s .args .words .now) (s .pre .2) (held o) (l .k) (l .held) (l .words) (l .inv) (t .loop-test .taken) _ (λ card p.
+    row-next (P o) (s .args .s) (s .args .count) (s .args .words .now) (s .pre .2) (held o) (l .at) (l .held) (l .words) (l .inv) (t .loop-test .taken) _ (λ card p.
     let q = now-known at card p in
     c .before .next-output .ensures card (q .0) (q .1))
 
@@ -126,7 +126,7 @@ returns c =
     let o = c .before .before in
     let s = started o in
     let l = c .before .loop in
-    row-all (P o) (s .args .s) (s .args .count) (s .args .words .now) (s .pre .2) (held o) (l .k) (l .held) (l .words) (l .inv) (omega arith) (s .args .t1) (known o)
+    row-all (P o) (s .args .s) (s .args .count) (s .args .words .now) (s .pre .2) (held o) (l .at) (l .held) (l .words) (l .inv) (omega arith) (s .args .t1) (known o)
 
 pub fill-many-spec : {M : Type 1} → statement M
 fill-many-spec =
@@ -144,7 +144,7 @@ fill-many-spec =
     next-output-requires
     mul-words
     slice-write-words
-    add-k
+    add-at
     loop-less
     loop-again
     same-length

@@ -1,0 +1,2 @@
+-- What the program has room for.
+pub mod Room
