@@ -164,13 +164,13 @@ struct Ratio {
 /// A call of the library on a card, so often.
 type OnCard = fn(&str, &'static [u8], usize) -> Subject;
 
-/// A fill of Rust's: how it goes, itself, and the goal of the library's fill to it.
-type ByHand<const M: usize, const E: usize> = (&'static str, Fill<M, E>, f64);
-const BY_MASKS: ByHand<4, 16> = ("by minterm masks", fill_by_masks, 1.0);
-const BY_COLUMNS: ByHand<4, 16> = ("column by column", fill_by_columns, 0.25);
+/// A fill of Rust's: how it goes, itself, and the most of the library's fill to it, where there is a goal.
+type ByHand<const M: usize, const E: usize> = (&'static str, Fill<M, E>, Option<f64>);
+const BY_MASKS: ByHand<4, 16> = ("by minterm masks", fill_by_masks, Some(1.0));
+const BY_COLUMNS: ByHand<4, 16> = ("column by column", fill_by_columns, Some(0.25));
 
-/// Column by column with both results joined by a mask, which every number of words is held to.
-const fn by_joined_columns<const M: usize, const E: usize>(most: f64) -> ByHand<M, E> {
+/// With both results joined by a mask.
+fn by_joined_columns<const M: usize, const E: usize>(most: Option<f64>) -> ByHand<M, E> {
     ("column by column by mask", fill_by_joined_columns, most)
 }
 
@@ -223,7 +223,7 @@ impl Bench {
             let rust = format!("Rust {how}, {name}: {told}");
             last = self.add(fill_by_hand(&rust, card, words, by_hand));
             let ratio = format!("fill on {name} to Rust {how}");
-            self.ratio(&ratio, library, last, Some(most));
+            self.ratio(&ratio, library, last, most);
             told = "the same";
         }
         (library, last)
@@ -251,10 +251,10 @@ impl Bench {
     /// Each number of words (document 02, Five).
     fn add_rows(&mut self) {
         for words in 2..=4 {
-            self.add_row(words, &[BY_MASKS, by_joined_columns(0.25)]);
+            self.add_row(words, &[BY_MASKS, by_joined_columns(None)]);
         }
         for words in 5..=8 {
-            self.add_row::<8, 256>(words, &[by_joined_columns(0.75)]);
+            self.add_row::<8, 256>(words, &[by_joined_columns(Some(0.75))]);
         }
     }
 
