@@ -144,8 +144,9 @@ loads: lib ## the loads of six equal shovels by a word's remainder and by fair r
 fmt: ## the files of Rattle laid out
 	rt fmt
 
-pictures: ## the pictures of docs/PROOFS.md, drawn anew
+pictures: ## the pictures of docs/PROOFS.md and docs/PERFORMANCE.md, drawn anew
 	python3 docs/pictures/pictures.py
+	python3 docs/pictures/words.py
 
 lines: ## lines without comments, imports and blank ones, and the must-fail edits: what the notes in docs/changes tell
 	@for part in specs src proofs; do \

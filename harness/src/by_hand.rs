@@ -1,7 +1,7 @@
 //! The generator in Rust as one would write it by hand for speed, for any accepted card: what the library's fill is timed
-//! beside. All columns at once by minterm masks, and column by column, with the same selector and word. And how near a pick
-//! is, for the library's margin. Written for cards of up to M words with E = 2^M entries, so that a small card does not pay
-//! for the largest.
+//! beside. All columns at once by minterm masks, and two ways column by column, with the same selector and word. And how near
+//! a pick is, for the library's margin. Written for cards of up to M words with E = 2^M entries, so that a small card does not
+//! pay for the largest; no loop over the words asks the card how many it has.
 
 use reference::{mask, Card};
 use std::array::from_fn;
@@ -117,6 +117,8 @@ fn put<const M: usize>(after: &mut State<M>, t: u32, d: u32) {
     }
 }
 
+/// Inlined although fill and margin both call it: out of line it takes half as long again.
+#[inline(always)]
 fn step_by_masks<const M: usize, const E: usize>(setup: &Setup<M, E>, x: &State<M>) -> State<M> {
     let a = setup.selector(x);
     let [even, odd] = &setup.powers;
@@ -142,6 +144,28 @@ fn step_by_columns<const M: usize, const E: usize>(setup: &Setup<M, E>, x: &Stat
         }
     }
     after
+}
+
+/// Both powers' images joined by the selector's bit as a mask. What made it quicker: all 32 columns and not n, from the top
+/// down, and out of line, where the loop has the registers to itself.
+#[inline(never)]
+fn step_by_joined_columns<const M: usize, const E: usize>(
+    setup: &Setup<M, E>,
+    x: &State<M>,
+) -> State<M> {
+    let a = setup.selector(x);
+    let [even, odd] = &setup.powers;
+    let mut after = [0; M];
+    for i in (0..u32::BITS).rev() {
+        let bits = x.iter().rev().map(|word| word >> i & 1);
+        let column = bits.fold(0, |column, bit| column << 1 | bit as usize);
+        let selected = 0u32.wrapping_sub(a >> i & 1);
+        let to = (odd[column] & selected) | (even[column] & !selected);
+        for (k, word) in after.iter_mut().enumerate() {
+            *word = *word << 1 | (to >> k & 1);
+        }
+    }
+    after.map(|word| word & setup.low)
 }
 
 // ---- A strip of words.
@@ -177,6 +201,14 @@ pub fn fill_by_columns<const M: usize, const E: usize>(
     strip: &mut [u32],
 ) {
     fill(setup, state, strip, step_by_columns)
+}
+
+pub fn fill_by_joined_columns<const M: usize, const E: usize>(
+    setup: &Setup<M, E>,
+    state: &mut State<M>,
+    strip: &mut [u32],
+) {
+    fill(setup, state, strip, step_by_joined_columns)
 }
 
 // ---- How near a pick is: document 02, Four.

@@ -1,16 +1,12 @@
 //! Whether a call takes as long whatever the selector is: medians for states chosen by their selectors.
 
-use crate::by_hand;
+use crate::by_hand::State;
 use crate::random::Random;
 use crate::timing::within;
 use reference::{selector, Card};
 use std::array::from_fn;
 use std::hint::black_box;
 use std::time::Instant;
-
-/// Four words, and the columns they make.
-type State = by_hand::State<4>;
-const COLUMNS: usize = 16;
 
 /// A call is too short for the clock: a block, one call from each of so many states, is timed. With 512 the processor
 /// learns their selectors by heart, and a branch on the selector's bits does not show; with 4096 it does.
@@ -28,27 +24,25 @@ const KINDS: [(&str, Wanted); 4] = [
     ("random", |random| random.word() as u32 | 1),
 ];
 
-fn with_column(state: &State, i: u32, c: u32) -> State {
+fn with_column<const M: usize>(state: &State<M>, i: u32, c: u32) -> State<M> {
     from_fn(|k| state[k] | (c >> k & 1) << i)
 }
 
-/// A random state of 4 words of 32 bits with the selector wanted. Bit i + 1 depends on the columns up to i alone, so
-/// they are chosen from the lowest up.
-fn state_with(card: &Card, wanted: u32, random: &mut Random) -> State {
-    let mut state = [0; 4];
+/// A random state of M words of 32 bits with the selector wanted. Bit i + 1 depends on the columns up to i alone, so
+/// they are chosen from the lowest up, each anew until it fits: about one in two does.
+fn state_with<const M: usize>(card: &Card, wanted: u32, random: &mut Random) -> State<M> {
+    let mut state = [0; M];
     for i in 0..32 {
-        let mut columns: [u32; COLUMNS] = from_fn(|c| c as u32);
-        random.shuffle(&mut columns);
-        let states = columns.map(|c| with_column(&state, i, c));
         // above the top column nothing is asked for
-        let fits = |state: &&State| (selector(card, *state) ^ wanted) >> i >> 1 & 1 == 0;
-        state = *states.iter().find(fits).expect("a column that fits");
+        let fits = |state: &State<M>| (selector(card, state) ^ wanted) >> i >> 1 & 1 == 0;
+        let mut tries = (0..1000).map(|_| with_column(&state, i, random.word() as u32));
+        state = tries.find(fits).expect("a column that fits");
     }
     assert_eq!(selector(card, &state), wanted);
     state
 }
 
-fn states(card: &Card, wanted: Wanted) -> Vec<State> {
+fn states<const M: usize>(card: &Card, wanted: Wanted) -> Vec<State<M>> {
     let mut random = Random::new(SEED, 0);
     let mut one = || {
         let wanted = wanted(&mut random);
@@ -58,7 +52,7 @@ fn states(card: &Card, wanted: Wanted) -> Vec<State> {
 }
 
 /// Nanoseconds of one call, in a block of one from each state.
-fn block(states: &[State], call: &mut impl FnMut(&mut State)) -> f64 {
+fn block<const M: usize>(states: &[State<M>], call: &mut impl FnMut(&mut State<M>)) -> f64 {
     let start = Instant::now();
     for given in states {
         let mut state = *black_box(given);
@@ -74,7 +68,7 @@ fn median(mut times: Vec<f64>) -> f64 {
 }
 
 /// The median of each kind, by turns between them.
-fn medians(card: &Card, mut call: impl FnMut(&mut State)) -> [f64; KINDS.len()] {
+fn medians<const M: usize>(card: &Card, mut call: impl FnMut(&mut State<M>)) -> [f64; KINDS.len()] {
     let states = KINDS.map(|(_, wanted)| states(card, wanted));
     let mut times = KINDS.map(|_| Vec::new());
     for _ in 0..BLOCKS {
@@ -85,8 +79,13 @@ fn medians(card: &Card, mut call: impl FnMut(&mut State)) -> [f64; KINDS.len()] 
     times.map(median)
 }
 
-/// Whether the slowest kind takes at most so many times as long as the quickest.
-pub fn steady(name: &str, card: &Card, most: f64, call: impl FnMut(&mut State)) -> bool {
+/// Whether the slowest kind takes at most so many times as long as the quickest, on a card of M words of 32 bits.
+pub fn steady<const M: usize>(
+    name: &str,
+    card: &Card,
+    most: f64,
+    call: impl FnMut(&mut State<M>),
+) -> bool {
     let medians = medians(card, call);
     for ((kind, _), median) in KINDS.iter().zip(medians) {
         println!(

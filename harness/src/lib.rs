@@ -6,6 +6,7 @@ pub mod calls;
 pub mod inputs;
 pub mod jitter;
 pub mod random;
+pub mod subjects;
 pub mod timing;
 
 /// Bytes in hex, one space apart.

@@ -42,6 +42,15 @@ pub fn measure(subjects: &mut [Subject]) -> Vec<f64> {
     best
 }
 
+/// Nanoseconds as documents have them: tenths below 100, and a comma before the hundreds.
+pub fn figure(time: f64) -> String {
+    match time.round() as u64 {
+        0..100 => format!("{time:.1}"),
+        whole @ 100..1000 => whole.to_string(),
+        whole => format!("{},{:03}", whole / 1000, whole % 1000),
+    }
+}
+
 /// A ratio, and whether it is within its goal.
 pub fn within(name: &str, ratio: f64, most: f64) -> bool {
     let held = ratio <= most;

@@ -1,10 +1,10 @@
-//! How long the library's calls take, beside Rust on the same machine in the same run. Prints nanoseconds a call, or a word of a fill, and ratios.
+//! How long the library's calls take, beside Rust on the same machine in the same run. Prints nanoseconds a call, or a word of a fill, a table by numbers of words, and ratios.
 
-use harness::by_hand::{self, fill_by_columns, fill_by_masks};
+use harness::by_hand::{self, fill_by_columns, fill_by_joined_columns, fill_by_masks, Fill, State};
 use harness::jitter::steady;
-use harness::timing::{measure, within, Subject};
+use harness::subjects::{check, draw, fill, fill_by_hand, step, step_back, SPAN};
+use harness::timing::{figure, measure, within, Subject};
 use reference::{accept, Card};
-use std::array::from_fn;
 use std::hint::black_box;
 use std::process::exit;
 use tiedraw::Shovel;
@@ -14,8 +14,8 @@ const CALLS: usize = 1_000_000;
 /// margins of 5 shovels, and of 64
 const MARGINS: usize = 100_000;
 const LONG_MARGINS: usize = 10_000;
-/// the words of a fill
-const SPAN: usize = 4096;
+/// checks, draws and steps back for each number of words
+const ROW_CALLS: usize = 200_000;
 
 const P1: &[u8] = &[0];
 const P2: &[u8] = &[
@@ -28,73 +28,26 @@ const WORST_POWERS: &[u8] = &[0x18, 255, 254];
 /// TSC-1 with words of 6 bits and as many bits of its constant
 const NARROW: &[u8] = &[0x22, 6, 0x21, 0, 0, 0];
 
-/// Rust's, for cards of up to four words.
-type State = by_hand::State<4>;
-type Setup = by_hand::Setup<4, 16>;
-type Fill = by_hand::Fill<4, 16>;
-
 /// The cards whose fill is held to Rust's.
 const FILLED: [(&str, &[u8]); 3] = [("P1", P1), ("P2", P2), ("3 words of 24 bits", THREE_WORDS)];
 
-// ---- The library.
-
-fn draw(name: &str, card: &'static [u8]) -> Subject {
-    let mut state = [1, 2, 3, 4];
-    Subject::call(name, STEPS, move || {
-        black_box(tiedraw::draw(black_box(card), &mut state).unwrap());
-    })
+/// A card of so many words, of 32 bits: the table y to 5y + 3, which is one cycle, an odd constant, and else TSC-1's values.
+fn card_of(words: u8) -> &'static [u8] {
+    let entry = |y: u32| (5 * y + 3) % (1 << words);
+    let card = Card {
+        words,
+        width: 32,
+        table: (0..1 << words).map(|y| entry(y) as u8).collect(),
+        odd_power: 1,
+        even_power: 2,
+        constant: 0x1357_9bdf,
+        filter: 1,
+        sum_term: 1,
+    };
+    reference::write(&card).unwrap().leak()
 }
 
-/// As many words as are told, in fills of SPAN and one of the rest: each word counts as a call.
-fn words(name: &str, mut fill: impl FnMut(&mut [u32]) + 'static) -> Subject {
-    let mut strip = [0; SPAN];
-    Subject::new(name, STEPS, move |words| {
-        for done in (0..words).step_by(SPAN) {
-            let count = SPAN.min(words - done);
-            fill(black_box(&mut strip[..count]));
-        }
-    })
-}
-
-/// The state that fills start from: 1, 2 and so on, and 0 past the card's words.
-fn start(card: &Card) -> State {
-    from_fn(|k| {
-        if k < card.words.into() {
-            k as u32 + 1
-        } else {
-            0
-        }
-    })
-}
-
-fn fill(name: &str, bytes: &'static [u8]) -> Subject {
-    let card = accept(bytes).unwrap();
-    let mut state = start(&card);
-    words(name, move |strip| {
-        let state = &mut state[..card.words.into()];
-        tiedraw::fill(black_box(bytes), state, strip, 0, strip.len()).unwrap();
-    })
-}
-
-fn check(name: &str, card: &'static [u8]) -> Subject {
-    Subject::call(name, CALLS, move || {
-        tiedraw::check(black_box(card)).unwrap()
-    })
-}
-
-fn step(name: &str, card: &'static [u8]) -> Subject {
-    let mut state = [1, 2, 3, 4];
-    Subject::call(name, CALLS, move || {
-        tiedraw::step(black_box(card), &mut state).unwrap()
-    })
-}
-
-fn step_back(name: &str, card: &'static [u8]) -> Subject {
-    let mut state = [1, 2, 3, 4];
-    Subject::call(name, CALLS, move || {
-        tiedraw::step_back(black_box(card), &mut state).unwrap()
-    })
-}
+// ---- Lists of shovels.
 
 /// Shovels in descending order, and their times.
 struct List {
@@ -141,6 +94,9 @@ fn margin(name: &str, calls: usize, list: List) -> Subject {
 
 // ---- Rust.
 
+/// For cards of up to four words.
+type Setup = by_hand::Setup<4, 16>;
+
 /// The second program's step and word, for a card that it has read.
 fn second_program(name: &str, bytes: &[u8], steps: usize) -> Subject {
     let card = accept(bytes).unwrap();
@@ -151,17 +107,7 @@ fn second_program(name: &str, bytes: &[u8], steps: usize) -> Subject {
     })
 }
 
-/// Rust's fill, what depends on the card alone worked out beforehand.
-fn fill_by_hand(name: &str, bytes: &[u8], fill: Fill) -> Subject {
-    let card = accept(bytes).unwrap();
-    let setup = Setup::new(&card);
-    let mut state = start(&card);
-    words(name, move |strip| {
-        fill(black_box(&setup), &mut state, strip)
-    })
-}
-
-/// Rust's margin on P1, likewise.
+/// Rust's margin on P1, what depends on the card alone worked out beforehand.
 fn margin_by_hand(name: &str, calls: usize, list: List) -> Subject {
     let setup = Setup::new(&accept(P1).unwrap());
     let mut state = [1, 2, 3, 4];
@@ -169,19 +115,6 @@ fn margin_by_hand(name: &str, calls: usize, list: List) -> Subject {
         state[0] += 1;
         black_box(by_hand::margin(&setup, &state, black_box(list.pairs())).unwrap());
     })
-}
-
-/// Both of Rust's fills give the library's words and state, so that the same thing is timed.
-fn compare(name: &str, bytes: &[u8]) {
-    let card = accept(bytes).unwrap();
-    let mut state = start(&card);
-    let mut strip = [0; SPAN];
-    tiedraw::fill(bytes, &mut state[..card.words.into()], &mut strip, 0, SPAN).unwrap();
-    for fill in [fill_by_masks, fill_by_columns] {
-        let mut by_hand = (start(&card), [0; SPAN]);
-        fill(&Setup::new(&card), &mut by_hand.0, &mut by_hand.1);
-        assert!(by_hand == (state, strip), "words or state differ: {name}");
-    }
 }
 
 /// Rust's margin is the library's, on P1 and with words of 6 bits.
@@ -228,10 +161,32 @@ struct Ratio {
     most: Option<f64>,
 }
 
+/// A call of the library on a card, so often.
+type OnCard = fn(&str, &'static [u8], usize) -> Subject;
+
+/// A fill of Rust's: how it goes, itself, and the most of the library's fill to it, where there is a goal.
+type ByHand<const M: usize, const E: usize> = (&'static str, Fill<M, E>, Option<f64>);
+const BY_MASKS: ByHand<4, 16> = ("by minterm masks", fill_by_masks, Some(1.0));
+const BY_COLUMNS: ByHand<4, 16> = ("column by column", fill_by_columns, Some(0.25));
+
+/// With both results joined by a mask.
+fn by_joined_columns<const M: usize, const E: usize>(most: Option<f64>) -> ByHand<M, E> {
+    ("column by column by mask", fill_by_joined_columns, most)
+}
+
+/// What is told of one number of words.
+struct Row {
+    words: u8,
+    bytes: usize,
+    /// of check, draw, step back, fill, and Rust column by column by mask
+    places: [usize; 5],
+}
+
 #[derive(Default)]
 struct Bench {
     subjects: Vec<Subject>,
     ratios: Vec<Ratio>,
+    rows: Vec<Row>,
     /// places of the margins of 64
     long_margins: Vec<usize>,
 }
@@ -252,27 +207,62 @@ impl Bench {
         });
     }
 
-    /// A card's fill beside both of Rust's; gives the places of the fill and of Rust's column by column.
-    fn add_fill(&mut self, name: &str, card: &'static [u8]) -> (usize, usize) {
-        let masks = format!("Rust by minterm masks, {name}: a word, the card's part worked out");
-        let columns = format!("Rust column by column, {name}: the same");
-        let library = self.add(fill(
-            &format!("fill: a word, of {SPAN} a call, {name}"),
-            card,
-        ));
-        let masks = self.add(fill_by_hand(&masks, card, fill_by_masks));
-        let columns = self.add(fill_by_hand(&columns, card, fill_by_columns));
-        let to = |what: &str| format!("fill on {name} to Rust {what}");
-        self.ratio(&to("by minterm masks"), library, masks, Some(1.0));
-        self.ratio(&to("column by column"), library, columns, Some(0.25));
-        (library, columns)
+    /// A card's fill beside some of Rust's; gives the places of the fill and of the last of Rust's.
+    fn add_fill<const M: usize, const E: usize>(
+        &mut self,
+        name: &str,
+        card: &'static [u8],
+        words: usize,
+        rust: &[ByHand<M, E>],
+    ) -> (usize, usize) {
+        let library = format!("fill: a word, of {SPAN} a call, {name}");
+        let library = self.add(fill(&library, card, words));
+        let mut told = "a word, the card's part worked out";
+        let mut last = library;
+        for &(how, by_hand, most) in rust {
+            let rust = format!("Rust {how}, {name}: {told}");
+            last = self.add(fill_by_hand(&rust, card, words, by_hand));
+            let ratio = format!("fill on {name} to Rust {how}");
+            self.ratio(&ratio, library, last, most);
+            told = "the same";
+        }
+        (library, last)
+    }
+
+    /// The calls on a card of so many words, its fill beside some of Rust's of which the last is column by column by mask.
+    fn add_row<const M: usize, const E: usize>(&mut self, words: u8, rust: &[ByHand<M, E>]) {
+        let card = card_of(words);
+        let name = format!("{words} words of 32 bits");
+        let (fill, columns) = self.add_fill(&name, card, CALLS, rust);
+        let calls = [
+            ("check", check as OnCard),
+            ("draw", draw),
+            ("step_back", step_back),
+        ];
+        let [check, draw, back] =
+            calls.map(|(call, on)| self.add(on(&format!("{call}, {name}"), card, ROW_CALLS)));
+        self.rows.push(Row {
+            words,
+            bytes: card.len(),
+            places: [check, draw, back, fill, columns],
+        });
+    }
+
+    /// Each number of words (document 02, Five).
+    fn add_rows(&mut self) {
+        for words in 2..=4 {
+            self.add_row(words, &[BY_MASKS, by_joined_columns(None)]);
+        }
+        for words in 5..=8 {
+            self.add_row::<8, 256>(words, &[by_joined_columns(Some(0.75))]);
+        }
     }
 
     /// The draw and the worst powers; the fill on P1 and Rust's column by column stand at these places.
     fn add_draw(&mut self, fill_p1: usize, columns: usize) {
-        let draw_p1 = self.add(draw("draw: read, check, step and word, P1", P1));
-        let draw_worst = self.add(draw("draw, worst powers", WORST_POWERS));
-        let fill_worst = self.add(fill("fill: a word, worst powers", WORST_POWERS));
+        let draw_p1 = self.add(draw("draw: read, check, step and word, P1", P1, STEPS));
+        let draw_worst = self.add(draw("draw, worst powers", WORST_POWERS, STEPS));
+        let fill_worst = self.add(fill("fill: a word, worst powers", WORST_POWERS, STEPS));
         let second = "second program, P1: step and word, the card already read";
         let second = self.add(second_program(second, P1, STEPS));
         for (name, over, under, most) in [
@@ -331,10 +321,12 @@ impl Bench {
 
     fn new() -> Bench {
         let mut bench = Bench::default();
-        let places = FILLED.map(|(name, card)| bench.add_fill(name, card));
+        let places =
+            FILLED.map(|(name, card)| bench.add_fill(name, card, STEPS, &[BY_MASKS, BY_COLUMNS]));
         let (fill_p1, columns_p1) = places[0];
         bench.add_draw(fill_p1, columns_p1);
         bench.add_margins();
+        bench.add_rows();
         bench.subjects.extend(others());
         bench
     }
@@ -343,13 +335,13 @@ impl Bench {
 /// What is in no ratio.
 fn others() -> Vec<Subject> {
     vec![
-        draw("draw, P2", P2),
-        check("check: read and check, P1 of 1 byte", P1),
-        check("check, P2 of 23 bytes", P2),
-        step("step: read, check and step, P1", P1),
-        step("step, P2", P2),
-        step_back("step_back: read, check and step back, P1", P1),
-        step_back("step_back, P2", P2),
+        draw("draw, P2", P2, STEPS),
+        check("check: read and check, P1 of 1 byte", P1, CALLS),
+        check("check, P2 of 23 bytes", P2, CALLS),
+        step("step: read, check and step, P1", P1, CALLS),
+        step("step, P2", P2, CALLS),
+        step_back("step_back: read, check and step back, P1", P1, CALLS),
+        step_back("step_back, P2", P2, CALLS),
         pick("pick: 6 of 6 shovels tie, P1", P1, List::tied(6, 6)),
         pick(
             "pick: one shovel of 64 is nearest, P1",
@@ -390,19 +382,46 @@ fn quick_margins(bench: &Bench, best: &[f64]) -> bool {
     !held.contains(&false)
 }
 
-/// Whether the step, and a fill of one word, take as long whatever the selector is.
+/// The table of docs/PERFORMANCE.md, The cost for each number of words.
+fn print_rows(rows: &[Row], best: &[f64]) {
+    println!("| m | card bytes | check | draw | step back | a word of fills | Rust column by column | ratio |");
+    println!("|---|---|---|---|---|---|---|---|");
+    for Row {
+        words,
+        bytes,
+        places,
+    } in rows
+    {
+        let times = places.map(|place| best[place]);
+        let [_, _, _, fill, columns] = times;
+        let times = times.map(figure).join(" | ");
+        println!("| {words} | {bytes} | {times} | {:.2} |", fill / columns);
+    }
+}
+
+/// Whether the step, of 4 and of 8 words, and a fill of one word take as long whatever the selector is.
 fn steady_calls() -> bool {
     let card = accept(P1).unwrap();
-    let step = |state: &mut State| tiedraw::step(black_box(P1), state).unwrap();
-    let fill =
-        |state: &mut State| tiedraw::fill(black_box(P1), state, black_box(&mut [0]), 0, 1).unwrap();
-    let step = steady("step, P1", &card, 1.05, step);
-    let fill = steady("fill of one word, P1", &card, 1.05, fill);
-    step && fill
+    let step = |state: &mut State<4>| tiedraw::step(black_box(P1), state).unwrap();
+    let fill = |state: &mut State<4>| {
+        tiedraw::fill(black_box(P1), state, black_box(&mut [0]), 0, 1).unwrap()
+    };
+    let eight = card_of(8);
+    let step_of_eight = |state: &mut State<8>| tiedraw::step(black_box(eight), state).unwrap();
+    let held = [
+        steady("step, P1", &card, 1.05, step),
+        steady("fill of one word, P1", &card, 1.05, fill),
+        steady(
+            "step, 8 words of 32 bits",
+            &accept(eight).unwrap(),
+            1.05,
+            step_of_eight,
+        ),
+    ];
+    !held.contains(&false)
 }
 
 fn main() {
-    FILLED.iter().for_each(|(name, card)| compare(name, card));
     let lists = SHORT.iter().chain(&LONG);
     lists.for_each(|(name, list)| compare_margins(name, &list()));
     let mut bench = Bench::new();
@@ -410,6 +429,7 @@ fn main() {
     for (subject, best) in bench.subjects.iter().zip(&best) {
         println!("{best:>9.1} ns  {} ({} times)", subject.name, subject.calls);
     }
+    print_rows(&bench.rows, &best);
     let held: Vec<bool> = bench
         .ratios
         .iter()
