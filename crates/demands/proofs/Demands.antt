@@ -16,12 +16,14 @@ use Rattle.tsc.specs.Word.{orbitWords}
 use Rattle.tsc.specs.Coverage.{stepBack}
 use Rattle.tsc.proofs.Step.{column-step}
 use Rattle.tsc.proofs.StepBack.{back-of-step}
+use Rattle.tsc.proofs.Word.{word-of-few}
 use Rattle.tsc.proofs.Balanced.{word-balanced}
 use Rattle.card_format.specs.Reading.{cardOf, formChecks, noCard, reading}
 use Rattle.card_format.specs.Verdict.{cardChecks, verdict, Accepted}
 use Rattle.card_format.specs.Writing.{writing, pageAfter, rewriteChecks, rewriting, pageRewritten}
 use Rattle.card_format.proofs.Verdict.{verdict-covers, accepted-card}
-use Rattle.card_format.proofs.RoundTrip.{accepted-writing}
+use Rattle.card_format.proofs.RoundTrip.{accepted-short, accepted-writing}
+use Rattle.card_format.proofs.Examples.{longest, longest-accepted}
 use Rattle.draws.specs.Calls.{refusalFor, stepped, steppedBack, drawing}
 use Rattle.draws.proofs.Opening.{passes, unless-passed}
 use Rattle.draws.proofs.Called.{only-before}
@@ -37,7 +39,7 @@ use Rattle.picks.proofs.Fair.{picks-fair}
 use Rattle.margins.proofs.Answers.{margin-refused, margin-one}
 use Rattle.margins.proofs.Alike.{margin-order}
 use Rattle.margins.proofs.Firm.{counts-unrefused, told-counts, told-least, firm-exactly, alone-firm}
-use Rattle.demands.specs.Demands.{ByTable, nothing, AnsweredOrRefused, Ready, Published, Undone, SameBytes, SameLots, AcceptedIffCovers, FilledAsDrawn, FairRanks, NearestChange, Demands}
+use Rattle.demands.specs.Demands.{ByTable, nothing, AnsweredOrRefused, Ready, Published, Undone, SameBytes, SameLots, AcceptedIffCovers, FilledAsDrawn, FairRanks, NearestChange, UpToEightWords, Demands}
 
 -- ---- demand 1
 
@@ -186,6 +188,17 @@ nearest-change =
       order = margin-order;
     }
 
+-- ---- document 02, Five
+
+pub up-to-eight-words : UpToEightWords
+up-to-eight-words =
+    record {
+      words = λ bytes z. let a = accepted-card bytes z in (a .formed .words, a .few);
+      short = accepted-short;
+      reached = (longest, longest-accepted .0, longest-accepted .1, longest-accepted .2);
+      asBefore = λ bytes xs h few. word-of-few (cardOf bytes) xs (omega (arith, h .state .0));
+    }
+
 -- ---- the whole
 
 pub demands : Demands
@@ -200,4 +213,5 @@ demands =
       requestOne = filled-as-drawn;
       requestTwo = fair-ranks;
       requestFour = nearest-change;
+      requestFive = up-to-eight-words;
     }

@@ -14,7 +14,7 @@ use Rattle.tsc.specs.declared.Card.{Card}
 use Rattle.tsc.specs.Columns.{column}
 use Rattle.tsc.specs.Selector.{selector}
 use Rattle.tsc.specs.Step.{entry, power, step, orbit}
-use Rattle.tsc.specs.Word.{word, orbitWords}
+use Rattle.tsc.specs.Word.{filtered, word, orbitWords}
 use Rattle.tsc.specs.Coverage.{IsState, states, stepBack}
 use Rattle.card_format.specs.declared.Written.the-variants as Written
 use Rattle.card_format.specs.Fields.{Bytes}
@@ -195,6 +195,16 @@ pub record NearestChange : Type 0 where
   pub order : (bytes xs shovels times shovels₂ times₂ : List ℕ) → SameShovels shovels times shovels₂ times₂
       → (m m₂ : Margin) → IsMargin bytes xs shovels times m → IsMargin bytes xs shovels₂ times₂ m₂ → m₂ ≡ m
 
+-- ---- document 02, Five: 2 to 8 words, hence a table of 4 to 256 entries and at most 267 bytes. The words past x3 enter the output word behind the filter, and
+-- a card of 2 to 4 words draws what it drew
+
+pub record UpToEightWords : Type 0 where
+  pub words : (bytes : List ℕ) → verdict bytes ≡ 0 → (2 ≤ cardOf bytes .words) × (cardOf bytes .words ≤ 8)
+  pub short : (bytes : List ℕ) → verdict bytes ≡ 0 → length bytes ≤ 267
+  pub reached : (bytes : List ℕ) × (verdict bytes ≡ 0) × (cardOf bytes .words ≡ 8) × (length bytes ≡ 267)
+  pub asBefore : (bytes xs : List ℕ) → Ready bytes xs → cardOf bytes .words ≤ 4
+      → word (cardOf bytes) xs ≡ filtered (cardOf bytes) (λ k. getD xs k 0)
+
 -- ---- the whole
 
 pub record Demands : Type 0 where
@@ -207,3 +217,4 @@ pub record Demands : Type 0 where
   pub requestOne : FilledAsDrawn
   pub requestTwo : FairRanks
   pub requestFour : NearestChange
+  pub requestFive : UpToEightWords
