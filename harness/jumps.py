@@ -4,10 +4,10 @@
 
 A loop end is a conditional jump of which one way stays in the innermost loop around it and the other leaves that loop; a
 loop has one. That it goes backward is not enough: compilers put the end of a branch before its start. Held to this are
-one step as a whole, which step and draw must call, the loop of many steps, which fill and margin must call, that of the
-step back, and whatever these call.
-The loop in which a pick tries words may end at several places, and has the one division that makes a rank; it branches
-nowhere else.
+one step and one draw as a whole, which step, draw and pick must call, the loops of many steps, which fill and margin must
+call, those of the step back, and whatever these call. One branch in each of three functions is let pass, on the card.
+Between two words that a pick tries, in a loop or one behind the other, it may stop at several places, and has the one
+division that makes a rank; it branches nowhere else.
 """
 
 import collections
@@ -16,16 +16,21 @@ import subprocess
 import sys
 
 STEP = "stepping::step::next_state"
+DRAW = "outputs::next::next_output"
 ROW = "outputs::row::fill_words"
-CALLERS = {"tiedraw_step": STEP, "tiedraw_draw": STEP, "tiedraw_fill": ROW, "tiedraw_margin": ROW}
-LOOPED = [ROW, "tiedraw_step_back"]
+CALLERS = {"tiedraw_step": STEP, DRAW: STEP, "tiedraw_draw": DRAW, "tiedraw_fill": ROW, "tiedraw_margin": ROW}
+# The loops held are those of so many instructions or more: the smaller ones of a step back check card and state.
+LOOPED = {ROW: 0, "tiedraw_step_back": 60}
 # A pick asks of each word whether it decides, and divides by the number of ties.
 TRIED = "tiedraw_pick"
 OUTSIDE = ["memcpy", "memset"]
-# more masks than this are a step's
-MASKED = 20
-# The one branch let pass: the word asks the card, never the state, which of two filters it has.
-FILTER = ("filters::filter::word_by", ("cmp $0x2,", "cmpb $0x2,"))
+# The branches let pass, one in each function: it asks the card, never the state, whether it has more than four words, and
+# which of two filters.
+LET_PASS = {
+    STEP: ("cmp $0x4,", "cmpl $0x4,"),
+    DRAW: ("cmp $0x5,", "cmpl $0x5,"),
+    "filters::filter::filtered_by": ("cmp $0x2,", "cmpb $0x2,"),
+}
 
 NAME = re.compile(r"[0-9a-f]+ <(.*)>:$")
 INSTRUCTION = re.compile(r" *([0-9a-f]+):\t([^#]*)")
@@ -163,10 +168,9 @@ def plain_faults(ways, place):
 
 
 def lets_pass(name, ways, place):
-    """Whether this is the branch on the card's filter."""
-    function, comparisons = FILTER
-    compared = [ways.at[before].text.startswith(comparisons) for before in ways.before[place]]
-    return name == function and compared == [True]
+    """Whether this is a branch on the card that this function may have."""
+    compared = [ways.at[before].text.startswith(LET_PASS.get(name, ())) for before in ways.before[place]]
+    return compared == [True]
 
 
 def jump_faults(name, ways, inside, loops):
@@ -179,7 +183,8 @@ def jump_faults(name, ways, inside, loops):
             faults += [(place, "leaves its loop a second time")] if around in ended else []
             ended.add(around)
         elif lets_pass(name, ways, place):
-            count["branches on the card's filter"] += 1
+            count["branches on the card"] += 1
+            faults += [(place, "a second branch on the card")] if count["branches on the card"] > 1 else []
         else:
             faults.append((place, "a branch"))
     faults += [(min(loop), "in a loop entered at two places") for loop in loops if len(ways.entries(loop)) != 1]
@@ -220,24 +225,27 @@ class Check:
         return any(instruction.calls() and instruction.callee() == callee for instruction in self.body(name))
 
     def hold_tries(self, name):
-        """Holds the loop of a function in which whole words are masked, that is, in which steps are made."""
+        """Holds what a function does from one draw to the next, wherever it makes another."""
         ways = Ways(self.body(name))
-        masked = lambda loop: sum(ways.at[place].kind in ("pand", "pandn") for place in loop) > MASKED
-        loops = [loop for loop in loops_in(ways, ways.reached) if masked(loop)]
-        if len(loops) != 1:
-            raise Unexpected(f"{name}: {len(loops)} loops with steps")
-        jumps = [place for place in sorted(loops[0]) if ways.at[place].conditional()]
-        inside = [place for place in jumps if not ways.after[place] - loops[0]]
-        divisions = sum("div" in ways.at[place].kind for place in loops[0])
-        told = f"{len(loops[0])} instructions, ends {len(jumps) - len(inside)}, divisions {divisions}"
-        wrong = bool(inside) or divisions > 1
-        print(f"{name}, loop {min(loops[0]):x} to {max(loops[0]):x}: {told}, {'FAULTS' if wrong else 'held'}", flush=True)
-        self.faults += [f"{name}, {place:x}: {ways.at[place].text}: a branch" for place in inside]
-        self.faults += [f"{name}: {divisions} divisions in its loop"] if divisions > 1 else []
+        draws = {place for place in ways.reached if ways.at[place].calls() and ways.at[place].callee() == DRAW}
+        if not draws:
+            raise Unexpected(f"{name}: does not call {DRAW}")
+        rest = ways.reached - draws
+        before_a_draw = set().union(*(spread(place, ways.before, rest) for place in draws))
+        between = {place: spread(place, ways.after, rest) & before_a_draw for place in draws}
+        inside = set().union(*between.values())
+        jumps = [place for place in sorted(inside) if ways.at[place].conditional()]
+        branches = [place for place in jumps if not ways.after[place] - inside - draws]
+        divisions = [sum("div" in ways.at[place].kind for place in places) for places in between.values()]
+        told = f"draws {len(draws)}, ends {len(jumps) - len(branches)}, divisions {max(divisions)} each"
+        wrong = branches or max(divisions) > 1
+        print(f"{name}, between draws: {len(inside)} instructions, {told}, {'FAULTS' if wrong else 'held'}", flush=True)
+        self.faults += [f"{name}, {place:x}: {ways.at[place].text}: a branch" for place in branches]
+        self.faults += [f"{name}: {max(divisions)} divisions between two draws"] if max(divisions) > 1 else []
 
-    def hold_loops(self, name):
+    def hold_loops(self, name, least):
         ways = Ways(self.body(name))
-        loops = loops_in(ways, ways.reached)
+        loops = [loop for loop in loops_in(ways, ways.reached) if len(loop) >= least]
         if not loops:
             raise Unexpected(f"{name}: no loop")
         for loop in loops:
@@ -247,12 +255,12 @@ class Check:
 def main(archive):
     try:
         check = Check(disassembled(archive))
-        check.hold_function(STEP)
+        check.hold_function(DRAW)
         for name, callee in CALLERS.items():
             if not check.calls(name, callee):
                 raise Unexpected(f"{name}: does not call {callee}")
-        for name in LOOPED:
-            check.hold_loops(name)
+        for name, least in LOOPED.items():
+            check.hold_loops(name, least)
         check.hold_tries(TRIED)
     except (Unexpected, OSError, subprocess.CalledProcessError) as error:
         sys.exit(f"jumps: {error}")

@@ -9,10 +9,14 @@ import unittest
 
 import jumps
 
-LOOP = "mov $4,%ecx\n1: dec %ecx\njne 1b\nret"
-# words tried: masks, a division, and an end in the middle
-MASKS = "pand %xmm0,%xmm1\n" * (jumps.MASKED + 1)
-TRIES = f"1: {MASKS}test %eax,%eax\nje 2f\ndiv %ecx\ndec %ecx\njne 1b\n2: ret"
+# of a loop that is long enough to be held
+LONG = "nop\n" * max(jumps.LOOPED.values())
+LOOP = f"mov $4,%ecx\n1: {LONG}dec %ecx\njne 1b\nret"
+# words tried: a division, and an end in the middle
+DRAWN = f'call "{jumps.DRAW}"\n'
+TRIES = f"1: {DRAWN}test %eax,%eax\nje 2f\ndiv %ecx\ndec %ecx\njne 1b\n2: ret"
+# the same one behind the other
+TWO_TRIES = f"{DRAWN}div %ecx\ntest %eax,%eax\nje 2f\n{DRAWN}div %ecx\n2: ret"
 GOOD = {
     jumps.STEP: "xor %eax,%eax\nret",
     **{name: f'call "{callee}"\nret' for name, callee in jumps.CALLERS.items()},
@@ -20,8 +24,10 @@ GOOD = {
     jumps.TRIED: TRIES,
 }
 BRANCH = "test %eax,%eax\nje 2f\ninc %eax\n2: "
+# on the number of words, which a step may ask the card for
+WORDS = "cmpl $4,(%rsi)\nja 2f\ninc %eax\n2: "
 # the branch's end stands before its start, so that it jumps backward
-BACKWARD = "mov $4,%ecx\njmp 1f\n3: inc %eax\njmp 2f\n1: test %eax,%eax\njne 3b\n2: dec %ecx\njne 1b\nret"
+BACKWARD = f"mov $4,%ecx\njmp 1f\n3: inc %eax\njmp 2f\n1: {LONG}test %eax,%eax\njne 3b\n2: dec %ecx\njne 1b\nret"
 
 
 def archive(functions, folder):
@@ -52,6 +58,12 @@ def found(**changed):
 class Jumps(unittest.TestCase):
     def test_loops_and_calls_pass(self):
         self.assertIsNone(found())
+        self.assertIsNone(found(tiedraw_pick=TWO_TRIES))
+
+    def test_a_step_that_asks_the_card_twice(self):
+        self.assertIsNone(found(stepping__step__next_state=WORDS + "ret"))
+        self.assertIn("a second branch on the card", found(stepping__step__next_state=WORDS + WORDS + "ret"))
+        self.assertIn("a branch", found(tiedraw_step_back=f"mov $4,%ecx\n1: {LONG}{WORDS}dec %ecx\njne 1b\nret"))
 
     def test_a_step_that_branches(self):
         self.assertIn("a branch", found(stepping__step__next_state=BRANCH + "ret"))
@@ -79,15 +91,17 @@ class Jumps(unittest.TestCase):
         self.assertIn("does not call", found(tiedraw_fill=LOOP))
 
     def test_a_pick_that_branches_between_words(self):
-        self.assertIn("a branch", found(tiedraw_pick=f"1: {MASKS}test %eax,%eax\nje 2f\ninc %eax\n2: dec %ecx\njne 1b\nret"))
+        self.assertIn("a branch", found(tiedraw_pick=f"1: {DRAWN}{BRANCH}dec %ecx\njne 1b\nret"))
+        self.assertIn("a branch", found(tiedraw_pick=f"{DRAWN}{BRANCH}{DRAWN}ret"))
 
     def test_a_pick_that_divides_more_than_once(self):
-        self.assertIn("2 divisions", found(tiedraw_pick=f"1: {MASKS}div %ecx\ndiv %ecx\ndec %ecx\njne 1b\nret"))
+        self.assertIn("2 divisions", found(tiedraw_pick=f"1: {DRAWN}div %ecx\ndiv %ecx\ndec %ecx\njne 1b\nret"))
 
     def test_what_is_not_there(self):
         self.assertIn("not in the archive", found(tiedraw_pick=None))
-        self.assertIn("0 loops with steps", found(tiedraw_pick=LOOP))
+        self.assertIn("does not call", found(tiedraw_pick=LOOP))
         self.assertIn("no loop", found(tiedraw_step_back="ret"))
+        self.assertIn("no loop", found(tiedraw_step_back=LOOP.replace(LONG, "")))
 
 
 if __name__ == "__main__":
