@@ -160,13 +160,10 @@ mod tests {
         rows.iter().filter(legal).collect()
     }
 
-    #[test]
-    fn every_refusal_of_every_call() {
-        let rows = answered();
-        let card: Vec<u8> = (1..=9).collect();
+    pub fn refusals_of_calls() -> [(&'static str, Vec<u8>); 10] {
         let state: Vec<u8> = (1..=11).collect();
-        for (call, refusals) in [
-            ("check", card),
+        [
+            ("check", (1..=9).collect()),
             ("read", (1..=6).collect()),
             ("step", state.clone()),
             ("back", state.clone()),
@@ -176,7 +173,13 @@ mod tests {
             ("pick", (1..=15).chain([18]).collect()),
             ("margin", (1..=15).chain([18, 19]).collect()),
             ("write", vec![2, 6, 7, 8, 9, 16]),
-        ] {
+        ]
+    }
+
+    #[test]
+    fn every_refusal_of_every_call() {
+        let rows = answered();
+        for (call, refusals) in refusals_of_calls() {
             let word = if call == "check" {
                 "verdict"
             } else {

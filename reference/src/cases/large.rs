@@ -172,6 +172,7 @@ fn around_the_limit(maker: &mut Maker) {
 
 #[cfg(test)]
 mod tests {
+    use super::super::tests::refusals_of_calls;
     use super::*;
     use crate::replay::answer;
     use std::collections::HashSet;
@@ -210,19 +211,7 @@ mod tests {
                 found.insert((call, count(&case), number.parse().unwrap()));
             }
         }
-        let state: Vec<u8> = (1..=11).collect();
-        for (call, refusals) in [
-            ("check", (1..=9).collect()),
-            ("read", (1..=6).collect()),
-            ("step", state.clone()),
-            ("back", state.clone()),
-            ("draw", state.clone()),
-            ("words", state),
-            ("strip", (1..=11).chain([17]).collect()),
-            ("pick", (1..=15).chain([18]).collect()),
-            ("margin", (1..=15).chain([18, 19]).collect()),
-            ("write", vec![2, 6, 7, 8, 9, 16]),
-        ] {
+        for (call, refusals) in refusals_of_calls() {
             for m in WORDS {
                 for &refusal in &refusals {
                     let row = (call.to_string(), Some(m), refusal);

@@ -101,16 +101,23 @@ fn absent_values(maker: &mut Maker) {
         if !given(2) && words == 4 {
             card.table = TSC1_TABLE.to_vec();
         }
-        card.odd_power = if given(3) { card.odd_power | 2 } else { 1 };
-        card.even_power = if given(4) { card.even_power & 252 } else { 2 };
-        if !given(5) {
-            card.constant = TSC1_CONSTANT;
-        }
-        card.filter = 1 + u8::from(given(6));
-        card.sum_term = u8::from(!given(7));
-        let page = encode(&card).len() + maker.below(3);
-        write(maker, &card, page);
+        write_given(maker, card, map);
     }
+}
+
+/// From the odd power on, the values with a bit in the map differ from the absent ones. The page
+/// has room.
+pub fn write_given(maker: &mut Maker, mut card: Card, map: u8) {
+    let given = |bit: u8| (map >> bit) & 1 == 1;
+    card.odd_power = if given(3) { card.odd_power | 2 } else { 1 };
+    card.even_power = if given(4) { card.even_power & 252 } else { 2 };
+    if !given(5) {
+        card.constant = TSC1_CONSTANT;
+    }
+    card.filter = 1 + u8::from(given(6));
+    card.sum_term = u8::from(!given(7));
+    let page = encode(&card).len() + maker.below(3);
+    write(maker, &card, page);
 }
 
 fn ranges(maker: &mut Maker) {

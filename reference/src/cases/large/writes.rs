@@ -1,9 +1,9 @@
 //! The writer with tables of up to 256 entries.
 
-use super::super::writes::write;
+use super::super::writes::{write, write_given};
 use super::super::Maker;
 use super::WORDS;
-use crate::{encode, mask, Card, TABLE_ENTRIES, TSC1_CONSTANT, TSC1_TABLE};
+use crate::{encode, mask, Card, TABLE_ENTRIES, TSC1_TABLE};
 
 pub fn make(maker: &mut Maker) {
     pages(maker);
@@ -39,18 +39,12 @@ fn absent_values(maker: &mut Maker) {
     maker
         .section("write: 5 to 8 words, every set of other values that differ from the absent ones");
     for (number, map) in (0..=255u8).filter(|map| map & 5 == 5).enumerate() {
-        let given = |bit: u8| (map >> bit) & 1 == 1;
-        let width = if given(1) { 29 + maker.byte() % 3 } else { 32 };
-        let mut card = maker.card(WORDS[number % 4], width);
-        card.odd_power = if given(3) { card.odd_power | 2 } else { 1 };
-        card.even_power = if given(4) { card.even_power & 252 } else { 2 };
-        if !given(5) {
-            card.constant = TSC1_CONSTANT;
-        }
-        card.filter = 1 + u8::from(given(6));
-        card.sum_term = u8::from(!given(7));
-        let page = encode(&card).len() + maker.below(3);
-        write(maker, &card, page);
+        let width = match map & 2 {
+            0 => 32,
+            _ => 29 + maker.byte() % 3,
+        };
+        let card = maker.card(WORDS[number % 4], width);
+        write_given(maker, card, map);
     }
 }
 
@@ -126,7 +120,9 @@ fn relabelled(table: &[u8], one: usize, other: usize) -> Vec<u8> {
 
 /// By 2, 6, 7, 8, 9, each with a page that is too small as well.
 fn broken(maker: &mut Maker) {
-    maker.section("write: 5 to 8 words, numbers out of range, wide and even constants, broken rings, powers");
+    maker.section(
+        "write: 5 to 8 words, numbers out of range, wide and even constants, broken rings, powers",
+    );
     for count in WORDS {
         let card = maker.card(count, 7);
         let changes: [fn(&mut Card); 9] = [
