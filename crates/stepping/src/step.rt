@@ -2,8 +2,6 @@
 ghost use mathlib.Core.Path.{_≡_};
 ghost use Rattle.tsc.specs.declared.Card.{Card};
 ghost use Rattle.tsc.specs.Step.{step};
-ghost use Rattle.card_format.specs.Verdict.{Accepted};
-ghost use Rattle.columns.specs.Replace.{IsPower};
 ghost use Rattle.words.specs.Widths.{IsWidth};
 ghost use Rattle.stepping.specs.State.{used, holding, Steps};
 use columns::few::FEW_WORDS;

@@ -1,5 +1,5 @@
 use mathlib.Core.Path.{_≡_, refl, sym, ap, _∙_}
-use Prim.Native.Nat.{ℕ, _-_, _^_, _≤_, _<_}
+use Prim.Native.Nat.{ℕ, _-_, _<_}
 use native.Mathlib.Omega.{arith}
 use borrow.Author.Needs.{needs}
 use borrow.Author.Tests.{lt-ltb}
@@ -7,7 +7,7 @@ use lib.ListN.{length, getD}
 use Rattle.tsc.specs.declared.Card.{Card}
 use Rattle.tsc.specs.declared.State.{State}
 use Rattle.tsc.specs.Constants.{mostWords, filterWords}
-use Rattle.tsc.specs.Word.{_⊞_, further, word}
+use Rattle.tsc.specs.Word.{word}
 use Rattle.tsc.proofs.Word.{filtered-lt, word-filtered}
 use Rattle.filters.specs.declared.filter.Rotations.{Rotations}
 use Rattle.filters.specs.Rotations.{Filters, HasFurther}

@@ -1,4 +1,3 @@
-use mathlib.Core.Path.{_≡_}
 use Rattle.stepping.proofs.Columns.{terms-width}
 use Rattle.outputs.proofs.Made.{after-filters, output-made}
 use Rattle.outputs.proofs.next.next_output.Statement.{statement}

@@ -1,5 +1,5 @@
-use mathlib.Core.Path.{_≡_, refl, ap}
-use Prim.Native.Nat.{ℕ, _-_, _≤_}
+use mathlib.Core.Path.{refl, ap}
+use Prim.Native.Nat.{_-_, _≤_}
 use native.Mathlib.Omega.{arith}
 use Rattle.tsc.specs.declared.Card.{Card}
 use Rattle.tsc.specs.Coverage.{stepBack}
