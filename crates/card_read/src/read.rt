@@ -75,13 +75,7 @@ pub fn read(card: &[u8]) -> Reading
         return answer::refused(told);
     }
     if (card[0] >> field::TABLE) % 2 == 0 {
-        return Reading {
-            refusal: 0,
-            card: answer::card_of(v, table::absent_table()),
-        };
+        return answer::passed(v, table::absent_table());
     }
-    Reading {
-        refusal: 0,
-        card: answer::card_of(v, table),
-    }
+    answer::passed(v, table)
 }

@@ -4,7 +4,7 @@ ghost use mathlib.Core.Logic.{_≢_};
 ghost use Prim.Native.Nat.{ℕ, _<_};
 ghost use lib.ListN.{getD};
 ghost use Rattle.card_format.specs.Fields.{fieldCount, tableBit, constantBit};
-ghost use Rattle.card_format.specs.Reading.{cardFrom, refusedReading};
+ghost use Rattle.card_format.specs.Reading.{cardFrom, refusedReading, answering};
 use super::values::Values;
 use card_fields::field;
 use card_format::Reading;
@@ -31,18 +31,21 @@ pub fn refused(number: u8) -> Reading
 }
 
 // The card of these numbers and this table. The reader calls it once all checks are passed, so that a number of one byte is below 256.
-pub fn card_of(v: Values, table: [u8; TABLE_SIZE]) -> Card
+pub fn passed(v: Values, table: [u8; TABLE_SIZE]) -> Reading
     requires { ⌜ ((k : ℕ) → k < fieldCount → k ≢ tableBit → k ≢ constantBit → getD (v .numbers) k 0 < 256) ⌝ }
-    ensures { λ r. ⌜ r ≡ cardFrom (λ k. getD (v .numbers) k 0) table ⌝ }
+    ensures { λ r. ⌜ r ≡ answering 0 (cardFrom (λ k. getD (v .numbers) k 0) table) ⌝ }
 {
-    Card {
-        words: v.numbers[field::WORDS] as u8,
-        width: v.numbers[field::WIDTH] as u8,
-        table: table,
-        odd_power: v.numbers[field::ODD_POWER] as u8,
-        even_power: v.numbers[field::EVEN_POWER] as u8,
-        constant: v.numbers[field::CONSTANT],
-        filter: v.numbers[field::FILTER] as u8,
-        sum_term: v.numbers[field::SUM_TERM] as u8,
+    Reading {
+        refusal: 0,
+        card: Card {
+            words: v.numbers[field::WORDS] as u8,
+            width: v.numbers[field::WIDTH] as u8,
+            table: table,
+            odd_power: v.numbers[field::ODD_POWER] as u8,
+            even_power: v.numbers[field::EVEN_POWER] as u8,
+            constant: v.numbers[field::CONSTANT],
+            filter: v.numbers[field::FILTER] as u8,
+            sum_term: v.numbers[field::SUM_TERM] as u8,
+        },
     }
 }

@@ -9,12 +9,11 @@ use lib.Count.{ones, ones-le, trailingZeros, trailing-le}
 use lib.ListN.{length, getD, drop}
 use Rattle.cycle.specs.Notation.{tabulate, bit}
 use Rattle.tsc.specs.Constants.{mostWords}
-use Rattle.tsc.specs.declared.Card.{Card}
 use Rattle.refusals.specs.Refusals.{firstOf}
 use Rattle.refusals.proofs.Refusals.{none-first}
 use Rattle.card_format.specs.declared.Reading.{Reading}
 use Rattle.card_format.specs.Fields.{field, fields, fieldCount, tableBit, constantBit}
-use Rattle.card_format.specs.Reading.{reading, values, padded, cardFrom, formChecks}
+use Rattle.card_format.specs.Reading.{reading, answering, values, padded, cardFrom, formChecks}
 use Rattle.card_format.proofs.Lists.{part-rest}
 use Rattle.card_fields.proofs.Arrays.{arrayOf}
 use Rattle.card_values.specs.FieldRead.{fieldRead, tableRead, missing}
@@ -81,12 +80,11 @@ low : (c : tie.Else4 Inv-loop μ-loop) → let v = c .before .before .before .lo
     (k : ℕ) → k < fieldCount → k ≢ tableBit → k ≢ constantBit → getD (v .numbers) k 0 < 256
 low c = let l = c .before .before .before .loop in byte-values _ (none-first _ (end-told (c .before) ∙ c .if4 .left)) (l .at) (l .v) (passed c)
 
-accepted : (c : tie.Else4 Inv-loop μ-loop) (card : Card) (t : List ℕ) → let o = c .before .before .before in
-    card ≡ cardFrom (λ k. getD (o .loop .v .numbers) k 0) t → t ≡ padded (values (bytes o) tableBit) → record { refusal = 0; card = card } ≡ reading (bytes o)
-accepted c card t e d =
+accepted : (c : tie.Else4 Inv-loop μ-loop) (r : Reading) (t : List ℕ) → let o = c .before .before .before in
+    r ≡ answering 0 (cardFrom (λ k. getD (o .loop .v .numbers) k 0) t) → t ≡ padded (values (bytes o) tableBit) → r ≡ reading (bytes o)
+accepted c r t e d =
     let l = c .before .before .before .loop in
-    ap {B = Reading} (λ (card : Card). record { refusal = 0; card = card }) (e ∙ card-read _ (l .at) (l .v) t (passed c) d)
-    ∙ reading-accepted _ (end-told (c .before) ∙ c .if4 .left)
+    e ∙ ap (answering 0) (card-read _ (l .at) (l .v) t (passed c) d) ∙ reading-accepted _ (end-told (c .before) ∙ c .if4 .left)
 
 -- ---- the needs
 
@@ -210,17 +208,17 @@ shr-if5 c = omega arith
 absent-table-requires : tie.Need-absent-table-requires Inv-loop μ-loop
 absent-table-requires c κs = tt
 
-card-of-requires : tie.Need-card-of-requires Inv-loop μ-loop
-card-of-requires c κs = low (c .before .before .before)
+passed-requires : tie.Need-passed-requires Inv-loop μ-loop
+passed-requires c κs = low (c .before .before .before)
 
 returns-5 : tie.Need-returns-5 Inv-loop μ-loop
 returns-5 c =
     let a = c .before in
     let e = a .before .before .before in
-    accepted e _ _ (c .card-of .ensures) (a .absent-table .ensures ∙ table-absent (bytes (e .before .before .before)) (rw (a .before .if5 .taken) refl))
+    accepted e _ _ (c .passed .ensures) (a .absent-table .ensures ∙ table-absent (bytes (e .before .before .before)) (rw (a .before .if5 .taken) refl))
 
-card-of-requires-2 : tie.Need-card-of-requires-2 Inv-loop μ-loop
-card-of-requires-2 c κs = low (c .before .before)
+passed-requires-2 : tie.Need-passed-requires-2 Inv-loop μ-loop
+passed-requires-2 c κs = low (c .before .before)
 
 returns-6 : tie.Need-returns-6 Inv-loop μ-loop
 returns-6 c =
@@ -228,7 +226,7 @@ returns-6 c =
     let o = e .before .before .before in
     let l = o .loop in
     let given = eq-eqb (bit tableBit (getD (bytes o) 0 0)) 1 (omega (arith, c .before .if5 .left)) in
-    accepted e _ _ (c .card-of2 .ensures) (table-given _ (l .next) (l .at) (l .v) (l .table) (ended (e .before .before)) (l .inv .2) given (l .inv .5))
+    accepted e _ _ (c .passed2 .ensures) (table-given _ (l .next) (l .at) (l .v) (l .table) (ended (e .before .before)) (l .inv .2) given (l .inv .5))
 
 pub read-spec : {M : Type 1} → statement M
 read-spec =
@@ -264,7 +262,7 @@ read-spec =
     cast-if5
     shr-if5
     absent-table-requires
-    card-of-requires
+    passed-requires
     returns-5
-    card-of-requires-2
+    passed-requires-2
     returns-6)

@@ -1,6 +1,6 @@
 use native.Mathlib.Omega.{arith}
-use Rattle.card_values.proofs.answer.card_of.Statement.{statement}
-use Rattle.card_values.proofs.answer.card_of.Tie as tie
+use Rattle.card_values.proofs.answer.passed.Statement.{statement}
+use Rattle.card_values.proofs.answer.passed.Tie as tie
 use lib.Dec.{lit<}
 use mathlib.Core.Path.{refl}
 
@@ -46,8 +46,8 @@ cast-t30 c = let at = c .before .before .before .before in omega (arith, at .bef
 returns : tie.Need-returns
 returns c = refl
 
-pub card-of-spec : {M : Type 1} → statement M
-card-of-spec =
+pub passed-spec : {M : Type 1} → statement M
+passed-spec =
     tie.close
     (tie.spec
     element-copy-out-t6
