@@ -48,7 +48,7 @@ fn with_field(card: Card, k: usize, o: Outline) -> Outline
     }
 }
 
-// The outline of a card.
+// The outline of a card. The writer has asked for m.
 pub fn outline_of(card: Card) -> Outline
     requires { ⌜ card .words ≤ mostWords ⌝ }
     ensures { λ r. ⌜ r .map ≡ mapTo card fieldCount ⌝ }
@@ -106,7 +106,7 @@ fn put_field(card: Card, k: usize, part: &mut [u8]) -> usize
     size
 }
 
-// The map and the fields, at the start of a page that has room for them.
+// The map and the fields, at the start of a page that has room for them: the writer has asked for ranges and room, and has the map from the outline.
 pub fn put_card(card: Card, map: u8, page: &mut [u8])
     requires { ⌜ (inRange card ≡ true) × (map ≡ mapTo card fieldCount) ⌝ }
     requires { ⌜ length (written card) ≤ length (now page) ⌝ }

@@ -17,7 +17,7 @@ const TSC1_SIZE: usize = 1 << DEFAULT_WORDS;
 
 const TSC1_TABLE: [u8; TSC1_SIZE] = [3, 5, 9, 13, 1, 6, 11, 15, 4, 0, 8, 14, 10, 7, 2, 12];
 
-// 2^m, the entries of a table.
+// 2^m, the entries of a table. Reader and writer have asked for m; so they have where the functions below get one.
 pub fn entries(m: u32) -> usize
     requires { ⌜ m ≤ mostWords ⌝ }
     ensures { λ r. ⌜ r ≡ 2 ^ m ⌝ }
@@ -44,7 +44,7 @@ pub fn put_entries(part: &[u8], size: usize, table: &mut [u8; TABLE_SIZE])
     }
 }
 
-// The table of the first `size` bytes of the part.
+// The table of the first `size` bytes of the part, which are there: callers have looked at their number.
 pub fn table_from(part: &[u8], size: usize) -> [u8; TABLE_SIZE]
     requires { ⌜ (size ≤ 2 ^ mostWords) × (size ≤ length (now part)) ⌝ }
     ensures { λ r. ⌜ r ≡ padded (take size (now (part .entry))) ⌝ }
@@ -61,7 +61,7 @@ pub fn absent_table() -> [u8; TABLE_SIZE]
     table_from(&TSC1_TABLE, TSC1_SIZE)
 }
 
-// Whether each used entry is below 2^m.
+// Whether each used entry is below 2^m. A lent array has its length, here and below.
 pub fn entries_allowed(table: &[u8; TABLE_SIZE], m: u32) -> bool
     requires { ⌜ (m ≤ mostWords) × (length (now table) ≡ 2 ^ mostWords) ⌝ }
     ensures { λ r. ⌜ r ≡ allowed (field m tableBit) (take (2 ^ m) (now (table .entry))) ⌝ }

@@ -14,7 +14,7 @@ use margins::Margin;
 use margins::Nearest;
 use picks::Pick;
 
-// A step.
+// A step. A list that was read has at most `room` numbers, here and below.
 pub fn print_step(card: &[u8], state: Numbers)
     requires { ⌜ state .count ≤ room ⌝ }
 {

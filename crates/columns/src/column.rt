@@ -12,7 +12,7 @@ ghost use Rattle.columns.specs.Replace.{withColumn};
 use tsc::State;
 use words::mask;
 
-// Column i of the first words of a state, from the last of them to the first.
+// Column i of the first words of a state, from the last of them to the first. The step back goes over the columns of a width, and over few words or all.
 pub fn column_of(s: State, i: u32, count: usize) -> u32
     requires { ⌜ (i < widestWidth) × (count ≤ mostWords) ⌝ }
     ensures { λ r. ⌜ r ≡ column i (take count (s .words)) ⌝ }
@@ -27,7 +27,7 @@ pub fn column_of(s: State, i: u32, count: usize) -> u32
 }
 
 // A state of i columns with one more above them in its first words: odd where the selector has a 1 in place i, even where it has a 0. Both results are put
-// into place i and joined by the selector as a whole, since a mask of its one bit would be compiled to a branch.
+// into place i and joined by the selector as a whole, since a mask of its one bit would be compiled to a branch. The step back has nothing from column i up yet.
 pub fn with_column(s: State, i: u32, selector: u32, odd: u32, even: u32, count: usize) -> State
     requires { ⌜ (i < widestWidth) × (count ≤ mostWords) ⌝ }
     requires { ⌜ ((k : ℕ) → k < mostWords → getD (s .words) k 0 < 2 ^ i) ⌝ }

@@ -29,7 +29,8 @@ fn entry_after(table: &[u8; TABLE_SIZE], m: u32, times: u32) -> u8
     y
 }
 
-// Both powers in one round: x goes round the cycle from 0, and y and z, as many entries ahead as the table is applied, go along.
+// Both powers in one round: x goes round the cycle from 0, and y and z, as many entries ahead as the table is applied, go along. The calls hold an accepted
+// card, whose table is a single cycle.
 pub fn powers_of(table: &[u8; TABLE_SIZE], m: u32, odd: u32, even: u32) -> Powers
     requires { ⌜ (0 < m) × (m ≤ mostWords) × IsCycle m (now table) ⌝ }
     ensures { λ r. ⌜ IsPowerOf m (now (table .entry)) odd (r .odd) × IsPowerOf m (now (table .entry)) even (r .even) ⌝ }

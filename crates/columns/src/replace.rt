@@ -12,7 +12,7 @@ use tsc::State;
 use tsc::TABLE_SIZE;
 use words::byte::widened;
 
-// Column i of s, put through the table, as column i of a state that has the columns below it.
+// Column i of s, put through the table, as column i of a state that has the columns below it, as the step back has found them.
 pub fn replace_column<'a>(
     odd: &'a [u8; TABLE_SIZE],
     even: &'a [u8; TABLE_SIZE],

@@ -209,12 +209,17 @@ fn two_changes(maker: &mut Maker) {
     maker.section("write: one or two changes, for the order");
     let mut full = values(FULL);
     full.table.resize(ENTRIES, 0);
-    for (number, first) in CHANGES.iter().enumerate() {
-        for second in &CHANGES[number..] {
-            let mut changed = full.clone();
+    write_changed(maker, &full, &CHANGES, [0, 18, 19]);
+}
+
+/// One or two of the changes made, on one of the pages.
+pub fn write_changed(maker: &mut Maker, card: &Card, changes: &[fn(&mut Card)], pages: [usize; 3]) {
+    for (number, first) in changes.iter().enumerate() {
+        for second in &changes[number..] {
+            let mut changed = card.clone();
             first(&mut changed);
             second(&mut changed);
-            let page = [0, 18, 19][maker.below(3)];
+            let page = pages[maker.below(3)];
             write(maker, &changed, page);
         }
     }

@@ -1,6 +1,6 @@
 //! The writer with tables of up to 256 entries.
 
-use super::super::writes::{write, write_given};
+use super::super::writes::{write, write_changed, write_given};
 use super::super::Maker;
 use super::WORDS;
 use crate::{encode, mask, Card, TABLE_ENTRIES, TSC1_TABLE};
@@ -167,13 +167,5 @@ const CHANGES: [fn(&mut Card); 15] = [
 fn two_changes(maker: &mut Maker) {
     maker.section("write: 5 words, one or two changes, for the order");
     let card = maker.card(5, 17);
-    for (number, first) in CHANGES.iter().enumerate() {
-        for second in &CHANGES[number..] {
-            let mut changed = card.clone();
-            first(&mut changed);
-            second(&mut changed);
-            let page = [0, 42, 50][maker.below(3)];
-            write(maker, &changed, page);
-        }
-    }
+    write_changed(maker, &card, &CHANGES, [0, 42, 50]);
 }
