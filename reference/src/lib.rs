@@ -10,6 +10,7 @@ pub mod fill;
 #[cfg(test)]
 mod large_tests;
 pub mod margin;
+pub mod period;
 pub mod pick;
 pub mod replay;
 

@@ -3,7 +3,7 @@ use mathlib.Core.Path.{_≡_, refl}
 use mathlib.Core.List.{List, [], _∷_, _++_}
 use Prim.Native.Nat.{ℕ, suc}
 use lib.ListN.{length}
-use Rattle.cycle.specs.Notation.{sum, tabulate, iterate}
+use Rattle.cycle.specs.Notation.{sum, tabulate, Each, iterate}
 use Rattle.cycle.specs.Cycle.{returnFrom, firstReturn}
 use Rattle.tsc.specs.Constants.{mostWords}
 use Rattle.tsc.specs.Columns.{column, fromColumns}
@@ -14,11 +14,11 @@ use Rattle.refusals.specs.Refusals.{firstOf}
 use Rattle.card_format.specs.Fields.{fields, field, mostCardBytes, numbers, allowed, same}
 use Rattle.card_format.specs.Reading.{offset, valuesAt, wordsOf, cardOf, partChecks, fieldChecks, checksTo, formChecks}
 use Rattle.card_format.specs.Verdict.{periodChecks, verdict}
-use Rattle.card_format.specs.Examples.{rows, AllHold}
+use Rattle.card_format.specs.Examples.{rows, Holds}
 
-pub rows-hold : AllHold rows
+pub rows-hold : Each Holds rows
 unfolding sum tabulate iterate returnFrom firstReturn column fromColumns andWords sumWords selector step _⊞_ _⋘_ filter1 filter2 further word firstOf fields field numbers allowed same offset valuesAt wordsOf cardOf partChecks fieldChecks checksTo formChecks periodChecks verdict rows
-rows-hold = (refl, (refl, refl), (refl, (refl, refl), (refl, tt, (refl, tt, (refl, tt, (refl, (refl, refl), (refl, tt, (refl, tt, (refl, tt, (refl, tt, (refl, (refl, refl), (refl, (refl, refl), tt))))))))))))
+rows-hold = ((refl, (refl, refl)), ((refl, (refl, refl)), ((refl, tt), ((refl, tt), ((refl, tt), ((refl, (refl, refl)), ((refl, tt), ((refl, tt), ((refl, tt), ((refl, tt), ((refl, (refl, refl)), ((refl, (refl, refl)), tt))))))))))))
 
 -- the bound of a card's length is reached: by eight words and every field
 abbrev pub longest : List ℕ

@@ -7,3 +7,4 @@ pub mod Bytes
 pub mod Writing
 pub mod RoundTrip
 pub mod Examples
+pub mod WordPeriod

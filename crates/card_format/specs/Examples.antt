@@ -1,4 +1,4 @@
--- The rows marked P of document 01, At the edges: ONE table, and what it says of a row.
+-- The rows marked P of document 01, At the edges: ONE table, and what it says of a row. And a card whose words repeat early (document 02, Six).
 use mathlib.Core.Path.{_≡_}
 use mathlib.Core.List.{List, [], _∷_, _++_}
 use mathlib.Core.Option.{Option, some, none}
@@ -22,11 +22,18 @@ accepted b s w = record { bytes = b; verdict = 0; fromZero = some (s, w) }
 abbrev refused : List ℕ → ℕ → Row
 refused b v = record { bytes = b; verdict = v; fromZero = none }
 
+-- TSC-1 and TSC-2, the generators of document 002
+abbrev pub p1 : List ℕ
+p1 = 0x00 ∷ []
+
+abbrev pub p2 : List ℕ
+p2 = 0x74 ∷ tsc2Table ++ (0x00 ∷ 0x01 ∷ 0x00 ∷ 0x00 ∷ 0x00 ∷ 0x02 ∷ [])
+
 -- P1 to P12. The states and words of P6, P11 and P12 are not the paper's: they come from a second program
 unfoldable pub rows : List Row
 rows =
-    accepted (0x00 ∷ []) (0xffffffff ∷ 0x12488421 ∷ 0xedb77bde ∷ 0xedb77bde ∷ []) 0x0b857478  -- P1
-    ∷ accepted (0x74 ∷ tsc2Table ++ (0x00 ∷ 0x01 ∷ 0x00 ∷ 0x00 ∷ 0x00 ∷ 0x02 ∷ [])) (1 ∷ 0 ∷ 1 ∷ 0 ∷ []) 0x02401008  -- P2
+    accepted p1 (0xffffffff ∷ 0x12488421 ∷ 0xedb77bde ∷ 0xedb77bde ∷ []) 0x0b857478  -- P1
+    ∷ accepted p2 (1 ∷ 0 ∷ 1 ∷ 0 ∷ []) 0x02401008  -- P2
     ∷ refused [] 1  -- P3
     ∷ refused (0x01 ∷ 0x03 ∷ []) 4  -- P4
     ∷ refused (0x02 ∷ 0x1c ∷ []) 6  -- P5
@@ -47,7 +54,11 @@ Follows bytes (some d) =
     let next = step card (replicate (card .words) 0) in
     (next ≡ d .0) × (word card next ≡ d .1)
 
--- THE STATEMENT: each row's verdict, and what follows the all-zero state where it is given
-abbrev pub AllHold : List Row → Type 0
-AllHold [] = Unit {0}
-AllHold (r ∷ rs) = (verdict (r .bytes) ≡ r .verdict) × Follows (r .bytes) (r .fromZero) × AllHold rs
+-- THE STATEMENT of a row: its verdict, and what follows the all-zero state where it is given
+abbrev pub Holds : Row → Type 0
+Holds r = (verdict (r .bytes) ≡ r .verdict) × Follows (r .bytes) (r .fromZero)
+
+-- two words of 3 bits. The square of the table flips both bits of a column, so that half the orbit on the top bits of x0 and x1 have flipped; filter 1 turns neither word within
+-- 3 bits, and their sum is the word. All 64 states come up, and the words repeat after 32
+abbrev pub repeating : List ℕ
+repeating = 0x27 ∷ 0x02 ∷ 0x03 ∷ 0x01 ∷ 0x03 ∷ 0x00 ∷ 0x02 ∷ 0x01 ∷ 0x00 ∷ 0x00 ∷ 0x00 ∷ []

@@ -1,6 +1,7 @@
--- Cards as document 01 has them: refusals, fields, what bytes mean, which are accepted, what the writer writes, the P rows.
+-- Cards as document 01 has them: refusals, fields, what bytes mean, which are accepted, what the writer writes, the P rows, the period of the words.
 pub mod Fields
 pub mod Reading
 pub mod Verdict
 pub mod Writing
 pub mod Examples
+pub mod WordPeriod

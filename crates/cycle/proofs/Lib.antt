@@ -11,5 +11,6 @@ pub mod Iterate
 pub mod Cycle
 pub mod FirstReturn
 pub mod Inverse
+pub mod Period
 pub mod Skew
 pub mod Remainder

@@ -8,7 +8,7 @@ use lib.Pow.{pow-pos}
 use Rattle.cycle.specs.Notation.{sum, iterate}
 use Rattle.cycle.specs.Cycle.{SingleCycle}
 use Rattle.cycle.proofs.Iterate.{iterate-add, iterate-rounds, MapsBelow, iterate-below}
-use Rattle.cycle.proofs.Cycle.{Reaches, le-of-reaches, cycle-of-return}
+use Rattle.cycle.proofs.Cycle.{Reaches, le-of-reaches, cycle-of-return, cycle-from, sum-around}
 use Rattle.cycle.proofs.Inverse.{odd-inverse}
 
 unfoldable pub skew : ℕ → (ℕ → ℕ) → (ℕ → ℕ) → (ℕ → ℕ) → ℕ → ℕ
@@ -43,19 +43,25 @@ module _ (K : ℕ) (t g e : ℕ → ℕ) (pos : 0 < K) (below : MapsBelow K t) w
       (sym (iterate-add g (e (iterate t k x)) (sum k (λ j. e (iterate t j x))) y)
       ∙ ap (λ (b : ℕ). iterate g b y) (add-comm (e (iterate t k x)) (sum k (λ j. e (iterate t j x)))))
 
+  -- j rounds of the low part from x
+  skew-rounds-from : (x : ℕ) → x < K → iterate t K x ≡ x → (j y : ℕ)
+      → iterate (skew K t g e) (j * K) (y * K + x) ≡ iterate g (j * sum K (λ i. e (iterate t i x))) y * K + x
+  unfolding iterate
+  skew-rounds-from x l back zero y = rw (zero-mul K, zero-mul (sum K (λ i. e (iterate t i x))))
+  skew-rounds-from x l back (suc j) y =
+      let E : ℕ = sum K (λ i. e (iterate t i x)) in
+      rw (suc-mul j K, add-comm (j * K) K, iterate-add, skew-rounds-from x l back j y)
+      (skew-iterate K (iterate g (j * E) y) x l
+      ∙ ap₂ (λ (a b : ℕ). a * K + b)
+      (sym (iterate-add g E (j * E) y) ∙ ap (λ (a : ℕ). iterate g a y) (add-comm E (j * E) ∙ sym (suc-mul j E))) back)
+
   module _ (back : iterate t K 0 ≡ 0) where
-    -- j rounds of the low part
+    -- and from 0
     skew-rounds : (j : ℕ) → iterate (skew K t g e) (j * K) 0 ≡ iterate g (j * roundPower K t e) 0 * K
-    unfolding iterate roundPower
-    skew-rounds zero = rw (zero-mul K, zero-mul (roundPower K t e), zero-mul K)
-    skew-rounds (suc j) =
-        rw (suc-mul j K, add-comm (j * K) K, iterate-add, skew-rounds j)
-        (ap (iterate (skew K t g e) K) (sym (add-zero (iterate g (j * roundPower K t e) 0 * K)))
-        ∙ skew-iterate K (iterate g (j * roundPower K t e) 0) 0 pos
-        ∙ ap₂ (λ (a b : ℕ). a * K + b)
-        (sym (iterate-add g (roundPower K t e) (j * roundPower K t e) 0)
-        ∙ ap (λ (a : ℕ). iterate g a 0) (add-comm (roundPower K t e) (j * roundPower K t e) ∙ sym (suc-mul j (roundPower K t e)))) back
-        ∙ add-zero (iterate g (suc j * roundPower K t e) 0 * K))
+    unfolding roundPower
+    skew-rounds j =
+        ap (iterate (skew K t g e) (j * K)) (sym (ap (λ (a : ℕ). a + 0) (zero-mul K)))
+        ∙ skew-rounds-from 0 pos back j 0 ∙ add-zero (iterate g (j * roundPower K t e) 0 * K)
 
     -- k applications into round j
     skew-into : (j k : ℕ) → iterate (skew K t g e) (k + j * K) 0 ≡ iterate g (sum k (λ i. e (iterate t i 0)) + j * roundPower K t e) 0 * K + iterate t k 0
@@ -104,3 +110,16 @@ module _ (K : ℕ) (t g e : ℕ → ℕ) (pos : 0 < K) (below : MapsBelow K t) w
       skew-rounds back h ∙ ap (λ (a : ℕ). a * K) (ap (λ (a : ℕ). iterate g a 0) he ∙ iterate-rounds g (h * 2) 0 gback (E / 2)) ∙ zero-mul K in
       let le : h * 2 * K ≤ h * K = le-of-reaches (h * 2 * K) (skew K t g e) 0 (h * K) r b (mul-pos hpos pos) in
       omega (arith, le, mul-pos hpos pos)
+
+  -- single cycles below and above, an odd power a round: after half of the numbers the low part is back, and g has made half of its round
+  pub skew-half : (h : ℕ) → SingleCycle K t 0 → SingleCycle (h * 2) g 0 → sum K e % 2 ≡ 1 → (y x : ℕ) → y < h * 2 → x < K
+      → iterate (skew K t g e) (h * K) (y * K + x) ≡ iterate g h y * K + x
+  skew-half h c r odd y x ly lx =
+      let cx = cycle-from K t 0 pos c x lx in
+      let q : ℕ = sum K e / 2 in
+      let E : sum K (λ i. e (iterate t i x)) ≡ 1 + 2 * q = sum-around K t x pos cx below lx e ∙ omega arith in
+      let hE : h * (1 + 2 * q) ≡ h + q * (h * 2) = omega arith in
+      skew-rounds-from x lx (cx .returns) h y
+      ∙ ap (λ (a : ℕ). a * K + x)
+      (ap (λ (a : ℕ). iterate g a y) (ap (λ (a : ℕ). h * a) E ∙ hE) ∙ iterate-add g h (q * (h * 2)) y
+      ∙ ap (iterate g h) (iterate-rounds g (h * 2) y (cycle-from (h * 2) g 0 (omega arith) r y ly .returns) q))

@@ -1,4 +1,5 @@
--- Notation, what a single cycle is, and fair ranks.
+-- Notation, what a single cycle is, fair ranks, and periods of a sequence.
 pub mod Notation
 pub mod Cycle
 pub mod Fair
+pub mod Period

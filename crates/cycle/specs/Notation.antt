@@ -1,4 +1,4 @@
--- Notation: a finite sum, a test of all numbers below n, how many of them meet one and which is the first, a list by its entries or filled up with zeros, a function applied repeatedly, a bit.
+-- Notation: a finite sum, a test of all numbers below n, how many of them meet one and which is the first, a list by its entries or filled up with zeros, a statement on each entry, a function applied repeatedly, a bit.
 use mathlib.Core.Bool.{Bool, true, cond, _&&_}
 use mathlib.Core.List.{List, [], _∷_, _++_}
 use Prim.Native.Nat.{ℕ, zero, suc, _+_, _-_, _/_, _%_, _^_}
@@ -35,6 +35,11 @@ tabulate (suc n) f = f 0 ∷ tabulate n (λ i. f (suc i))
 -- xs, and past it zeros up to n entries
 abbrev pub zeroFilled : ℕ → List ℕ → List ℕ
 zeroFilled n xs = xs ++ replicate (n - length xs) 0
+
+-- P of each entry
+abbrev pub Each : {A : Type 0} → (A → Type 0) → List A → Type 0
+Each P [] = Unit {0}
+Each P (x ∷ xs) = P x × Each P xs
 
 -- f applied k times
 unfoldable pub iterate : {A : Type 0} → (A → A) → ℕ → A → A

@@ -2,7 +2,7 @@
 use mathlib.Core.Path.{_≡_, refl, sym, ap, _∙_}
 use mathlib.Core.Bool.{Bool, true, false, cond}
 use mathlib.Core.List.{List, _++_}
-use Prim.Native.Nat.{ℕ, _+_, _^_}
+use Prim.Native.Nat.{ℕ, _+_, _-_, _^_}
 use native.Mathlib.Omega.{arith}
 use borrow.Author.Tests.{ne-eqb, le-ltb}
 use lib.Dec.{eqb}
@@ -18,12 +18,15 @@ use Rattle.tsc.proofs.Step.{column-step}
 use Rattle.tsc.proofs.StepBack.{back-of-step}
 use Rattle.tsc.proofs.Word.{word-of-few}
 use Rattle.tsc.proofs.Balanced.{word-balanced}
+use Rattle.tsc.proofs.ColumnPeriod.{column-period, opposite-top, opposite-lower}
+use Rattle.tsc.proofs.WordPeriod.{words-return, words-halved, word-period}
 use Rattle.card_format.specs.Reading.{cardOf, formChecks, noCard, reading}
 use Rattle.card_format.specs.Verdict.{cardChecks, verdict, Accepted}
 use Rattle.card_format.specs.Writing.{writing, pageAfter, rewriteChecks, rewriting, pageRewritten}
 use Rattle.card_format.proofs.Verdict.{verdict-covers, accepted-card}
 use Rattle.card_format.proofs.RoundTrip.{accepted-short, accepted-writing}
 use Rattle.card_format.proofs.Examples.{longest, longest-accepted}
+use Rattle.card_format.proofs.WordPeriod.{published-periods, repeating-accepted, repeating-early}
 use Rattle.draws.specs.Calls.{refusalFor, stepped, steppedBack, drawing}
 use Rattle.draws.proofs.Opening.{passes, unless-passed}
 use Rattle.draws.proofs.Called.{only-before}
@@ -39,7 +42,7 @@ use Rattle.picks.proofs.Fair.{picks-fair}
 use Rattle.margins.proofs.Answers.{margin-refused, margin-one}
 use Rattle.margins.proofs.Alike.{margin-order}
 use Rattle.margins.proofs.Firm.{counts-unrefused, told-counts, told-least, firm-exactly, alone-firm}
-use Rattle.demands.specs.Demands.{ByTable, nothing, AnsweredOrRefused, Ready, Published, Undone, SameBytes, SameLots, AcceptedIffCovers, FilledAsDrawn, FairRanks, NearestChange, UpToEightWords, Demands}
+use Rattle.demands.specs.Demands.{ByTable, nothing, AnsweredOrRefused, Ready, Published, Undone, SameBytes, SameLots, AcceptedIffCovers, FilledAsDrawn, FairRanks, NearestChange, UpToEightWords, NoEarlyRepeat, Demands}
 
 -- ---- demand 1
 
@@ -199,6 +202,23 @@ up-to-eight-words =
       asBefore = λ bytes xs h few. word-of-few (cardOf bytes) xs (omega (arith, h .state .0));
     }
 
+-- ---- document 02, Six
+
+pub no-early-repeat : NoEarlyRepeat
+no-early-repeat =
+    record {
+      published = published-periods;
+      repeats = λ bytes xs h. let a = ok bytes xs h in words-return (cardOf bytes) (a .formed) (a .period) xs;
+      halved = λ bytes xs h. let a = ok bytes xs h in words-halved (cardOf bytes) (a .formed) (a .period) xs;
+      lower = λ bytes xs h i l. let a = ok bytes xs h in
+          opposite-lower (cardOf bytes) (a .formed) (a .period) xs (h .state) (cardOf bytes .width - 1) (omega arith) i (omega arith);
+      top = λ bytes xs h. let a = ok bytes xs h in
+          opposite-top (cardOf bytes) (a .formed) (a .period) xs (h .state) (cardOf bytes .width - 1) (omega (arith, a .formed .width));
+      exactly = λ bytes xs h. let a = ok bytes xs h in word-period (cardOf bytes) (a .formed) (a .period) xs;
+      early = (repeating-accepted .0, repeating-accepted .1, λ xs sx. repeating-early xs);
+      columns = λ bytes xs h. let a = ok bytes xs h in column-period (cardOf bytes) (a .formed) (a .period) xs (h .state);
+    }
+
 -- ---- the whole
 
 pub demands : Demands
@@ -214,4 +234,5 @@ demands =
       requestTwo = fair-ranks;
       requestFour = nearest-change;
       requestFive = up-to-eight-words;
+      requestSix = no-early-repeat;
     }

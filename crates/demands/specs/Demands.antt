@@ -3,24 +3,28 @@
 use mathlib.Core.Path.{_≡_}
 use mathlib.Core.Logic.{_↔_, _≢_}
 use mathlib.Core.Bool.{true}
-use mathlib.Core.List.{List, _++_}
+use mathlib.Core.List.{List, [], _∷_, _++_}
 use Prim.Native.Nat.{ℕ, suc, _+_, _-_, _*_, _/_, _%_, _^_, _≤_, _<_}
 use lib.Dec.{eqb}
 use lib.ListN.{length, getD, take, drop}
 use Rattle.refusals.specs.Refusals.{noSuchChange, Check, firstOf, NoneApplies}
-use Rattle.cycle.specs.Notation.{count, iterate, bit}
+use Rattle.cycle.specs.Notation.{count, Each, iterate, bit}
+use Rattle.cycle.specs.Period.{Period, LeastPeriod}
 use Rattle.cycle.specs.Fair.{givesRank}
 use Rattle.tsc.specs.declared.Card.{Card}
 use Rattle.tsc.specs.Columns.{column}
 use Rattle.tsc.specs.Selector.{selector}
 use Rattle.tsc.specs.Step.{entry, power, step, orbit}
-use Rattle.tsc.specs.Word.{filtered, word, orbitWords}
+use Rattle.tsc.specs.Word.{filtered, word, wordAt, orbitWords}
 use Rattle.tsc.specs.Coverage.{IsState, states, stepBack}
+use Rattle.tsc.specs.Opposite.{opposite, Differs}
 use Rattle.card_format.specs.declared.Written.the-variants as Written
 use Rattle.card_format.specs.Fields.{Bytes}
 use Rattle.card_format.specs.Reading.{cardOf, formChecks, refusedReading, reading}
 use Rattle.card_format.specs.Verdict.{cardChecks, verdict, ZeroIffCovers, Accepted}
 use Rattle.card_format.specs.Writing.{written, writeChecks, writing, pageAfter, rewriteChecks, rewriting, pageRewritten}
+use Rattle.card_format.specs.Examples.{p1, p2, repeating}
+use Rattle.card_format.specs.WordPeriod.{WordPeriod}
 use Rattle.draws.specs.declared.Draw.the-variants as Draw
 use Rattle.draws.specs.Calls.{callChecks, refusalFor, stepped, steppedBack, drawing, OnlyBefore}
 use Rattle.fills.specs.Fills.{fillChecks, fillRefusal, filled, filledState}
@@ -90,7 +94,7 @@ pub record Published : Type 0 where
       column i (stepped bytes xs) ≡ iterate (entry card) (power card (bit i (selector card xs))) (column i xs)
   pub states : (bytes xs : List ℕ) → Ready bytes xs → (t : ℕ) → iterate (stepped bytes) t xs ≡ orbit (cardOf bytes) xs t
   pub words : (bytes xs : List ℕ) → Ready bytes xs → (t : ℕ)
-      → drawing bytes (iterate (stepped bytes) t xs) ≡ Draw.Word (word (cardOf bytes) (orbit (cardOf bytes) xs (suc t)))
+      → drawing bytes (iterate (stepped bytes) t xs) ≡ Draw.Word (wordAt (cardOf bytes) xs t)
 
 -- 2b. Of the calls, and of the definitions
 pub record Undone : Type 0 where
@@ -150,7 +154,7 @@ pub record FairRanks : Type 0 where
   -- no word is taken for one alone, and only then; else all but the last are passed over, the last is below L or the sixteenth, and its remainder serves
   pub none : (card : Card) (xs : List ℕ) (k : ℕ) → (taken card xs k ≡ 0) ↔ (k ≡ 1)
   pub few : (card : Card) (xs : List ℕ) (k : ℕ) → taken card xs k ≤ mostTaken
-  pub over : (card : Card) (xs : List ℕ) (k t : ℕ) → suc t < taken card xs k → limit card k ≤ word card (orbit card xs (suc t))
+  pub over : (card : Card) (xs : List ℕ) (k t : ℕ) → suc t < taken card xs k → limit card k ≤ wordAt card xs t
   pub kept : (card : Card) (xs : List ℕ) (k : ℕ) → k ≢ 1 → taken card xs k < mostTaken → word card (orbit card xs (taken card xs k)) < limit card k
   pub serves : (card : Card) (xs : List ℕ) (k : ℕ) → drawnRank card xs k ≡ word card (orbit card xs (taken card xs k)) % k
   -- the state has made as many steps as the pick tells, for every input, and so many steps back undo it
@@ -205,6 +209,30 @@ pub record UpToEightWords : Type 0 where
   pub asBefore : (bytes xs : List ℕ) → Ready bytes xs → cardOf bytes .words ≤ 4
       → word (cardOf bytes) xs ≡ filtered (cardOf bytes) (λ k. getD xs k 0)
 
+-- ---- document 02, Six: for the cards P1 and P2, from every state, no shift of 1 to 2^128 - 1 words maps the endless word sequence onto itself, and 2^128 does.
+-- With what it rests on, for every accepted card, and with what does not hold
+
+pub record NoEarlyRepeat : Type 0 where
+  pub published : Each (λ bytes. WordPeriod bytes (2 ^ 128)) (p1 ∷ p2 ∷ [])
+  -- the words of every accepted card repeat after N draws, from every state, and where they do so earlier, after N / 2
+  pub repeats : (bytes xs : List ℕ) → Ready bytes xs → Period (wordAt (cardOf bytes) xs) (states (cardOf bytes))
+  pub halved : (bytes xs : List ℕ) → Ready bytes xs → let card = cardOf bytes in
+      (d : ℕ) → 0 < d → d < states card → Period (wordAt card xs) d → Period (wordAt card xs) (states card / 2)
+  -- N / 2 steps on every column is as it was but the top one, which the table has moved 2^(m - 1) times
+  pub lower : (bytes xs : List ℕ) → Ready bytes xs → let card = cardOf bytes in
+      (i : ℕ) → suc i < card .width → column i (opposite card xs) ≡ column i xs
+  pub top : (bytes xs : List ℕ) → Ready bytes xs → let card = cardOf bytes in let i = card .width - 1 in
+      column i (opposite card xs) ≡ iterate (entry card) (2 ^ (card .words - 1)) (column i xs)
+  -- so N is the least period exactly where some state has another word than the state N / 2 steps on
+  pub exactly : (bytes xs : List ℕ) → Ready bytes xs → let card = cardOf bytes in
+      LeastPeriod (wordAt card xs) (states card) ↔ ((ys : List ℕ) × IsState card ys × Differs card ys)
+  -- an accepted card may have none: this one has 64 states, and its words repeat after 32
+  pub early : (verdict repeating ≡ 0) × (states (cardOf repeating) ≡ 64)
+      × ((xs : List ℕ) → IsState (cardOf repeating) xs → Period (wordAt (cardOf repeating) xs) 32)
+  -- and bits of the state's words repeat early on every card: column i after 2^(m (i + 1)) steps, and no sooner
+  pub columns : (bytes xs : List ℕ) → Ready bytes xs → let card = cardOf bytes in
+      (i : ℕ) → i < card .width → LeastPeriod (λ t. column i (orbit card xs t)) (2 ^ (card .words * suc i))
+
 -- ---- the whole
 
 pub record Demands : Type 0 where
@@ -218,3 +246,4 @@ pub record Demands : Type 0 where
   pub requestTwo : FairRanks
   pub requestFour : NearestChange
   pub requestFive : UpToEightWords
+  pub requestSix : NoEarlyRepeat

@@ -7,7 +7,7 @@ use Rattle.cycle.specs.Notation.{first}
 use Rattle.cycle.specs.Fair.{largestMultiple}
 use Rattle.tsc.specs.declared.Card.{Card}
 use Rattle.tsc.specs.Step.{orbit}
-use Rattle.tsc.specs.Word.{word}
+use Rattle.tsc.specs.Word.{word, wordAt}
 use Rattle.refusals.specs.Refusals.{Check, check, tooManyTies}
 
 -- the most words that are tried, and so taken
@@ -18,9 +18,9 @@ mostTaken = 16
 abbrev pub limit : Card → ℕ → ℕ
 limit card k = largestMultiple (2 ^ card .width) k
 
--- how many words are tried: up to the first below L, or else all. Word number t + 1 is that of state number t + 1 of the orbit
+-- how many words are tried: up to the first below L, or else all
 unfoldable pub tried : Card → List ℕ → ℕ → ℕ
-tried card xs k = suc (first (mostTaken - 1) (λ t. ltb (word card (orbit card xs (suc t))) (limit card k)))
+tried card xs k = suc (first (mostTaken - 1) (λ t. ltb (wordAt card xs t) (limit card k)))
 
 -- how many words are taken: for one tie alone none is tried
 unfoldable pub taken : Card → List ℕ → ℕ → ℕ

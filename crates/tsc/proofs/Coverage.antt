@@ -6,8 +6,8 @@
 use mathlib.Core.Path.{_≡_, refl, sym, ap, ap₂, _∙_, subst}
 use mathlib.Core.Logic.{_↔_, _⊎_, inl, inr}
 use mathlib.Core.List.{List}
-use Prim.Native.Nat.{ℕ, zero, suc, pred, _+_, _-_, _*_, _%_, _^_, _<_}
-use native.Mathlib.Nat.{zero-add, suc-add, add-zero, zero-mul, mul-zero, mul-comm, add-comm, le-refl, mod-lt, pow-zero, pow-suc, pow-succ', one-le-pow, mod-eq-of-lt, mul-one, one-mul, mul-pos, suc-pred-eq-of-pos, lt-of-lt-of-le, pow-le-pow-right, le-suc, mod-one, div-one, suc-mul, eq-zero-or-pos, mul-mod-left, add-mod}
+use Prim.Native.Nat.{ℕ, zero, suc, _+_, _-_, _*_, _%_, _^_, _≤_, _<_}
+use native.Mathlib.Nat.{zero-add, suc-add, add-zero, zero-mul, mul-zero, mul-comm, add-comm, le-refl, mod-lt, pow-zero, pow-suc, pow-succ', one-le-pow, mod-eq-of-lt, mul-one, one-mul, mul-pos, lt-of-lt-of-le, pow-le-pow-right, le-suc, mod-one, div-one, suc-mul, eq-zero-or-pos, mul-mod-left, add-mod}
 use native.Mathlib.Decide.{decLt}
 use native.Mathlib.Omega.{arith}
 use lib.Arith.{lt-one}
@@ -30,10 +30,10 @@ use Rattle.tsc.proofs.Step.{orbit-in-range, powerBelow, stepNumber, num
 -- ---- sizes
 
 -- the count of numbers of i columns
-abbrev size : Card → ℕ → ℕ
+abbrev pub size : Card → ℕ → ℕ
 size card i = (2 ^ card .words) ^ i
 
-size-pos : (card : Card) (i : ℕ) → 0 < size card i
+pub size-pos : (card : Card) (i : ℕ) → 0 < size card i
 size-pos card i = one-le-pow i (2 ^ card .words) (pow-pos (card .words))
 
 -- ---- the powers of the table that a selector picks, added up
@@ -80,7 +80,7 @@ module _ (card : Card) (wf : WellFormed card) where
   abbrev n : ℕ
   n = card .width
 
-  stepNumber-below : (i : ℕ) → MapsBelow (size card i) (stepNumber card i)
+  pub stepNumber-below : (i : ℕ) → MapsBelow (size card i) (stepNumber card i)
   unfolding stepNumber
   stepNumber-below zero z l = rw pow-zero (le-refl 1)
   stepNumber-below (suc i) z l =
@@ -88,14 +88,17 @@ module _ (card : Card) (wf : WellFormed card) where
       (skew-below (size card i) (stepNumber card i) (entry card) (powerBelow card i) (size-pos card i) (stepNumber-below i) (2 ^ m) (wf .entries) z
       (subst (λ (a : ℕ). z < a) (pow-succ' (2 ^ m) i) l))
 
-  -- ---- an orbit of states is an orbit of their numbers
+  -- ---- an orbit of states is an orbit of their numbers, and of those of the i low columns
 
   module _ (start : List ℕ) (st : IsState card start) where
-    orbit-number : (t : ℕ) → number m n (orbit card start t) ≡ iterate (stepNumber card n) t (number m n start)
+    pub orbit-low : (i : ℕ) → i ≤ n → (t : ℕ) → number m i (orbit card start t) ≡ iterate (stepNumber card i) t (number m i start)
     unfolding iterate
-    orbit-number zero = refl
-    orbit-number (suc t) =
-        number-step card wf (orbit card start t) (orbit-in-range card start st t .0) n (le-refl n) ∙ ap (stepNumber card n) (orbit-number t)
+    orbit-low i l zero = refl
+    orbit-low i l (suc t) =
+        number-step card wf (orbit card start t) (orbit-in-range card start st t .0) i l ∙ ap (stepNumber card i) (orbit-low i l t)
+
+    orbit-number : (t : ℕ) → number m n (orbit card start t) ≡ iterate (stepNumber card n) t (number m n start)
+    orbit-number = orbit-low n (le-refl n)
 
     cycle-covers : SingleCycle (states card) (stepNumber card n) (number m n start) → Covers card start
     unfolding iterate
@@ -130,7 +133,7 @@ module _ (card : Card) (wf : WellFormed card) where
   selected : ℕ → ℕ
   selected i = sum (size card i) (selectorBit m (eqb (card .«sum_term») 1) (card .constant) i)
 
-  powers : ℕ → ℕ
+  unfoldable pub powers : ℕ → ℕ
   powers i = sum (size card i) (powerBelow card i)
 
   powers-are : (i : ℕ) → powers i + card .«even_power» * selected i ≡ card .«odd_power» * selected i + size card i * card .«even_power»
@@ -154,7 +157,7 @@ module _ (card : Card) (wf : WellFormed card) where
   -- ---- from the premises to coverage
 
   module _ (ok : FullPeriod card) where
-    powers-odd : (i : ℕ) → powers i % 2 ≡ 1
+    pub powers-odd : (i : ℕ) → powers i % 2 ≡ 1
     powers-odd i =
         let c : card .constant % 2 ≡ 1 = ok .constant in
         let o = odd-mul (card .«odd_power») (selected i) (ok .odd) in
@@ -162,7 +165,7 @@ module _ (card : Card) (wf : WellFormed card) where
         let f = even-mul (card .«even_power») (size card i) (ok .even) in
         omega (arith, powers-are i, selected-parity i, mul-comm (size card i) (card .«even_power»))
 
-    cycles : (i : ℕ) → SingleCycle (size card i) (stepNumber card i) 0
+    pub cycles : (i : ℕ) → SingleCycle (size card i) (stepNumber card i) 0
     unfolding stepNumber
     cycles zero = cycle-none
     cycles (suc i) =
@@ -171,7 +174,7 @@ module _ (card : Card) (wf : WellFormed card) where
         (skew-cycle (size card i) (stepNumber card i) (entry card) (powerBelow card i) (size-pos card i) (stepNumber-below i) m c (ok .cycle)
         (ap (λ (a : ℕ). a % 2) (round-powers i c) ∙ powers-odd i))
 
-    period-covers : (start : List ℕ) → IsState card start → Covers card start
+    pub period-covers : (start : List ℕ) → IsState card start → Covers card start
     period-covers start st =
         cycle-covers start st
         (cycle-from (states card) (stepNumber card n) 0 (pow-pos (m * n))
@@ -204,8 +207,8 @@ module _ (card : Card) (wf : WellFormed card) where
   some : 0 < m
   some = omega (arith, wf .words)
 
-  half-size : 2 ^ m ≡ 2 ^ pred m * 2
-  half-size = ap (λ (a : ℕ). 2 ^ a) (sym (suc-pred-eq-of-pos some)) ∙ pow-suc 2 (pred m)
+  pub half-size : 2 ^ m ≡ 2 ^ (m - 1) * 2
+  half-size = let e : m ≡ suc (m - 1) = omega (arith, wf .words) in ap (λ (a : ℕ). 2 ^ a) e ∙ pow-suc 2 (m - 1)
 
   -- an even power a round does not cover
   powers-must-be-odd : iterate (entry card) (2 ^ m) 0 ≡ 0 → (i : ℕ) → SingleCycle (size card i) (stepNumber card i) 0
@@ -218,7 +221,7 @@ module _ (card : Card) (wf : WellFormed card) where
       go (no p) =
           absurd
           (skew-even (size card i) (stepNumber card i) (entry card) (powerBelow card i) (size-pos card i) (stepNumber-below i)
-          (2 ^ pred m) (pow-pos (pred m)) (c .returns) (subst (λ (a : ℕ). iterate (entry card) a 0 ≡ 0) half-size g)
+          (2 ^ (m - 1)) (pow-pos (m - 1)) (c .returns) (subst (λ (a : ℕ). iterate (entry card) a 0 ≡ 0) half-size g)
           (subst (λ (a : ℕ). Reaches a (stepNumber card (suc i)) 0) (pow-succ' (2 ^ m) i ∙ ap (λ (a : ℕ). a * size card i) half-size)
           (cycle-reaches (size card (suc i)) (stepNumber card (suc i)) 0 (size-pos card (suc i)) d))
           (ap (λ (a : ℕ). a % 2) (round-powers i c) ∙ omega arith))
@@ -274,7 +277,7 @@ module _ (card : Card) (wf : WellFormed card) where
       b = card .«even_power»
 
       even1 : size card 1 % 2 ≡ 0
-      even1 = ap (λ (a : ℕ). a % 2) (size-one ∙ half-size) ∙ mul-mod-left (2 ^ pred m) 2
+      even1 = ap (λ (a : ℕ). a % 2) (size-one ∙ half-size) ∙ mul-mod-left (2 ^ (m - 1)) 2
 
       go : Dec (0 < card .constant % 2) → (card .constant % 2 ≡ 1) × (a % 2 ≡ 1) × (b % 2 ≡ 0)
       go (no q) =

@@ -6,7 +6,9 @@ pub mod Selector
 pub mod Step
 pub mod Table
 pub mod Coverage
+pub mod ColumnPeriod
 pub mod StepBack
 pub mod LowWords
 pub mod Word
 pub mod Balanced
+pub mod WordPeriod

@@ -47,11 +47,14 @@ pub number-ext : (m i : ℕ) (xs ys : List ℕ) → ((j : ℕ) → j < i → col
 unfolding number
 number-ext m i xs ys h = fromDigits-ext (2 ^ m) i (λ j. column j xs) (λ j. column j ys) h
 
-pub number-injective : (m n : ℕ) (xs ys : List ℕ) → InRange m n xs → InRange m n ys → number m n xs ≡ number m n ys → xs ≡ ys
+pub number-columns : (m i : ℕ) (xs ys : List ℕ) → length xs ≡ m → length ys ≡ m → number m i xs ≡ number m i ys
+    → (j : ℕ) → j < i → column j xs ≡ column j ys
 unfolding number
-number-injective m n xs ys rx ry e =
-    columns-ext m n xs ys rx ry
-    (fromDigits-injective (2 ^ m) n (λ i. column i xs) (λ i. column i ys) (pow-pos m) (columns m xs (rx .0) n) (columns m ys (ry .0) n) e)
+number-columns m i xs ys ex ey =
+    fromDigits-injective (2 ^ m) i (λ j. column j xs) (λ j. column j ys) (pow-pos m) (columns m xs ex i) (columns m ys ey i)
+
+pub number-injective : (m n : ℕ) (xs ys : List ℕ) → InRange m n xs → InRange m n ys → number m n xs ≡ number m n ys → xs ≡ ys
+number-injective m n xs ys rx ry e = columns-ext m n xs ys rx ry (number-columns m n xs ys (rx .0) (ry .0) e)
 
 pub stateOf-in-range : (m n z : ℕ) → InRange m n (stateOf m n z)
 unfolding stateOf

@@ -5,3 +5,4 @@ pub mod Selector
 pub mod Step
 pub mod Word
 pub mod Coverage
+pub mod Opposite

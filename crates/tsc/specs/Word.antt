@@ -43,6 +43,10 @@ word card xs =
     let x : ℕ → ℕ = λ k. getD xs k 0 in
     _⊞_ (card .width) (filtered card x) (further (card .width) x (length xs - filterWords))
 
--- the words of states number 1 to count of the orbit: what so many draws give
+-- the endless sequence of words from a state (document 02, Six): draw number t, counted from 0, gives the word of state number t + 1 of the orbit
+abbrev pub wordAt : Card → List ℕ → ℕ → ℕ
+wordAt card xs t = word card (orbit card xs (suc t))
+
+-- its first words: what so many draws give
 unfoldable pub orbitWords : Card → List ℕ → ℕ → List ℕ
-orbitWords card xs count = tabulate count (λ t. word card (orbit card xs (suc t)))
+orbitWords card xs count = tabulate count (wordAt card xs)
