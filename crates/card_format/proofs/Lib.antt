@@ -7,4 +7,3 @@ pub mod Bytes
 pub mod Writing
 pub mod RoundTrip
 pub mod Examples
-pub mod WordPeriod

@@ -1,4 +1,4 @@
--- The rows marked P of document 01, At the edges: ONE table, and what it says of a row. And a card whose words repeat early (document 02, Six).
+-- The rows marked P of document 01, At the edges: ONE table, and what it says of a row.
 use mathlib.Core.Path.{_≡_}
 use mathlib.Core.List.{List, [], _∷_, _++_}
 use mathlib.Core.Option.{Option, some, none}
@@ -57,8 +57,3 @@ Follows bytes (some d) =
 -- THE STATEMENT of a row: its verdict, and what follows the all-zero state where it is given
 abbrev pub Holds : Row → Type 0
 Holds r = (verdict (r .bytes) ≡ r .verdict) × Follows (r .bytes) (r .fromZero)
-
--- two words of 3 bits. The square of the table flips both bits of a column, so that half the orbit on the top bits of x0 and x1 have flipped; filter 1 turns neither word within
--- 3 bits, and their sum is the word. All 64 states come up, and the words repeat after 32
-abbrev pub repeating : List ℕ
-repeating = 0x27 ∷ 0x02 ∷ 0x03 ∷ 0x01 ∷ 0x03 ∷ 0x00 ∷ 0x02 ∷ 0x01 ∷ 0x00 ∷ 0x00 ∷ 0x00 ∷ []

@@ -26,7 +26,8 @@ use Rattle.card_format.specs.Writing.{writing, pageAfter, rewriteChecks, rewrit
 use Rattle.card_format.proofs.Verdict.{verdict-covers, accepted-card}
 use Rattle.card_format.proofs.RoundTrip.{accepted-short, accepted-writing}
 use Rattle.card_format.proofs.Examples.{longest, longest-accepted}
-use Rattle.card_format.proofs.WordPeriod.{published-periods, repeating-accepted, repeating-early}
+use Rattle.periods.proofs.Computed.{published-periods, repeating-accepted, repeating-early}
+use Rattle.periods.proofs.Wide.{wide-period}
 use Rattle.draws.specs.Calls.{refusalFor, stepped, steppedBack, drawing}
 use Rattle.draws.proofs.Opening.{passes, unless-passed}
 use Rattle.draws.proofs.Called.{only-before}
@@ -215,6 +216,7 @@ no-early-repeat =
       top = λ bytes xs h. let a = ok bytes xs h in
           opposite-top (cardOf bytes) (a .formed) (a .period) xs (h .state) (cardOf bytes .width - 1) (omega (arith, a .formed .width));
       exactly = λ bytes xs h. let a = ok bytes xs h in word-period (cardOf bytes) (a .formed) (a .period) xs;
+      wide = λ bytes xs h w. wide-period (cardOf bytes) (ok bytes xs h) w xs;
       early = (repeating-accepted .0, repeating-accepted .1, λ xs sx. repeating-early xs);
       columns = λ bytes xs h. let a = ok bytes xs h in column-period (cardOf bytes) (a .formed) (a .period) xs (h .state);
     }

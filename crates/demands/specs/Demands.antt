@@ -23,8 +23,8 @@ use Rattle.card_format.specs.Fields.{Bytes}
 use Rattle.card_format.specs.Reading.{cardOf, formChecks, refusedReading, reading}
 use Rattle.card_format.specs.Verdict.{cardChecks, verdict, ZeroIffCovers, Accepted}
 use Rattle.card_format.specs.Writing.{written, writeChecks, writing, pageAfter, rewriteChecks, rewriting, pageRewritten}
-use Rattle.card_format.specs.Examples.{p1, p2, repeating}
-use Rattle.card_format.specs.WordPeriod.{WordPeriod}
+use Rattle.card_format.specs.Examples.{p1, p2}
+use Rattle.periods.specs.WordPeriod.{WordPeriod, repeating}
 use Rattle.draws.specs.declared.Draw.the-variants as Draw
 use Rattle.draws.specs.Calls.{callChecks, refusalFor, stepped, steppedBack, drawing, OnlyBefore}
 use Rattle.fills.specs.Fills.{fillChecks, fillRefusal, filled, filledState}
@@ -226,7 +226,9 @@ pub record NoEarlyRepeat : Type 0 where
   -- so N is the least period exactly where some state has another word than the state N / 2 steps on
   pub exactly : (bytes xs : List ℕ) → Ready bytes xs → let card = cardOf bytes in
       LeastPeriod (wordAt card xs) (states card) ↔ ((ys : List ℕ) × IsState card ys × Differs card ys)
-  -- an accepted card may have none: this one has 64 states, and its words repeat after 32
+  -- so it is of every accepted card of 32-bit words
+  pub wide : (bytes xs : List ℕ) → Ready bytes xs → cardOf bytes .width ≡ 32 → LeastPeriod (wordAt (cardOf bytes) xs) (states (cardOf bytes))
+  -- but not of every accepted card: this one has 64 states, and its words repeat after 32
   pub early : (verdict repeating ≡ 0) × (states (cardOf repeating) ≡ 64)
       × ((xs : List ℕ) → IsState (cardOf repeating) xs → Period (wordAt (cardOf repeating) xs) 32)
   -- and bits of the state's words repeat early on every card: column i after 2^(m (i + 1)) steps, and no sooner

@@ -48,7 +48,7 @@ module _ (card : Card) (wf : WellFormed card) (ok : FullPeriod card) where
   table-half = subst (λ (a : ℕ). SingleCycle a (entry card) 0) (half-size card wf) (ok .cycle)
 
   -- it leads elsewhere
-  half-moves : (y : ℕ) → y < 2 ^ m → iterate (entry card) half y ≡ y → ⊥
+  pub half-moves : (y : ℕ) → y < 2 ^ m → iterate (entry card) half y ≡ y → ⊥
   unfolding iterate
   half-moves y l e =
       let pos = pow-pos (m - 1) in
@@ -140,7 +140,7 @@ module _ (card : Card) (wf : WellFormed card) (ok : FullPeriod card) where
     opposite-lower i l = ap (column i) (sym opposite-is) ∙ lower-half xs sx top (omega arith) i l
 
 -- how often the table has then moved column i, but for whole rounds of it
-abbrev turns : Card → ℕ → ℕ
+abbrev pub turns : Card → ℕ → ℕ
 turns card i = cond (eqb (suc i) (card .width)) (2 ^ (card .words - 1)) 0
 
 -- the opposite of a state, to compute with
@@ -154,7 +154,7 @@ module _ (card : Card) (wf : WellFormed card) (ok : FullPeriod card) (xs : List 
       column-fromColumns (card .words) (card .width) (λ i. iterate (entry card) (turns card i) (column i xs)) i l
       (iterate-below (2 ^ card .words) (entry card) (wf .entries) (turns card i) (column i xs) (columns (card .words) xs (sx .0) (card .width) i l))
 
-  column-opposite : (i : ℕ) → i < card .width → column i (opposite card xs) ≡ iterate (entry card) (turns card i) (column i xs)
+  pub column-opposite : (i : ℕ) → i < card .width → column i (opposite card xs) ≡ iterate (entry card) (turns card i) (column i xs)
   unfolding iterate
   column-opposite i l = go (ℕ-discrete (suc i) (card .width))
     where

@@ -19,13 +19,13 @@ use Rattle.tsc.proofs.Number.{stateOf, stateOf-in-range, numbers-list}
 use Rattle.tsc.proofs.ColumnPeriod.{topMoved, half-orbit}
 use Rattle.tsc.proofs.WordPeriod.{words-half, word-period}
 use Rattle.refusals.specs.Refusals.{firstOf}
 use Rattle.card_format.specs.Fields.{fields, field, numbers, allowed, same}
 use Rattle.card_format.specs.Reading.{offset, valuesAt, wordsOf, cardOf, partChecks, fieldChecks, checksTo, formChecks}
 use Rattle.card_format.specs.Verdict.{periodChecks, verdict}
-use Rattle.card_format.specs.Examples.{p1, p2, rows, repeating}
-use Rattle.card_format.specs.WordPeriod.{WordPeriod}
+use Rattle.card_format.specs.Examples.{p1, p2, rows}
+use Rattle.periods.specs.WordPeriod.{WordPeriod, repeating}
 use Rattle.card_format.proofs.Verdict.{accepted-card}
 use Rattle.card_format.proofs.Examples.{rows-hold}
 
 module _ (bytes : List ℕ) (v : verdict bytes ≡ 0) where
   -- the state of number z

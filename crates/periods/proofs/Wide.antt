@@ -1,0 +1,128 @@
+-- EVERY ACCEPTED CARD OF 32-BIT WORDS, from any start: its words don't repeat before all states have passed. For the opposite of the all-zero state has a top column that is
+-- not 0, and 0 in every other; the words of all such states are computed, for each number of words and both filters, and none is that of the all-zero state.
+--   opposite-of-none    the opposite of the all-zero state
+--   wide-period         the theorem
+use mathlib.Core.Path.{_≡_, refl, sym, ap, _∙_, subst}
+use mathlib.Core.Logic.{_≢_}
+use mathlib.Core.Bool.{Bool, true, false, cond, not, _&&_, and-eq-true-iff}
+use mathlib.Core.List.{List}
+use Prim.Native.Nat.{ℕ, suc, _-_, _/_, _^_, _<_}
+use native.Mathlib.Omega.{arith}
+use borrow.Author.Tests.{eqb-false, not-true}
+use lib.Dec.{eqb}
+use lib.ListN.{length, getD}
+use lib.Pow.{pow-pos}
+use Rattle.cycle.specs.Notation.{sum, every, tabulate, iterate}
+use Rattle.cycle.specs.Period.{LeastPeriod}
+use Rattle.cycle.proofs.Every.{every-at}
+use Rattle.cycle.proofs.Iterate.{iterate-below}
+use Rattle.tsc.specs.declared.Card.{Card}
+use Rattle.tsc.specs.Constants.{mostWords, filterWords}
+use Rattle.tsc.specs.Columns.{column, fromColumns}
+use Rattle.tsc.specs.Step.{entry}
+use Rattle.tsc.specs.Word.{_⊞_, _⋘_, filter1, filter2, further, word, wordAt}
+use Rattle.tsc.specs.Coverage.{IsState, states}
+use Rattle.tsc.specs.Opposite.{opposite, Differs}
+use Rattle.tsc.proofs.Columns.{column-fromColumns, fromColumns-in-range, columns-ext}
+use Rattle.tsc.proofs.Step.{orbit-in-range}
+use Rattle.tsc.proofs.ColumnPeriod.{turns, half-moves, column-opposite}
+use Rattle.tsc.proofs.WordPeriod.{word-period}
+use Rattle.card_format.specs.Verdict.{Accepted}
+
+-- ---- states with no column but the top one
+
+-- m words of n bits: column n - 1 is c, and all others are 0
+only : ℕ → ℕ → ℕ → List ℕ
+only m n c = fromColumns m n (λ i. cond (eqb (suc i) n) c 0)
+
+column-only : (m n c : ℕ) → c < 2 ^ m → (i : ℕ) → i < n → column i (only m n c) ≡ cond (eqb (suc i) n) c 0
+unfolding only
+column-only m n c l i li = column-fromColumns m n (λ i. cond (eqb (suc i) n) c 0) i li (below (eqb (suc i) n))
+  where
+    below : (b : Bool) → cond b c 0 < 2 ^ m
+    below true = l
+    below false = pow-pos m
+
+turned : (g : ℕ → ℕ) (h : ℕ) (b : Bool) → iterate g (cond b h 0) (cond b 0 0) ≡ cond b (iterate g h 0) 0
+unfolding iterate
+turned g h true = refl
+turned g h false = refl
+
+-- ---- their words
+
+-- the word of a state of n-bit words, by filter 2 or else by filter 1
+wordBy : ℕ → Bool → List ℕ → ℕ
+wordBy n second xs =
+    let x : ℕ → ℕ = λ k. getD xs k 0 in
+    _⊞_ n (cond second (filter2 n x) (filter1 n x)) (further n x (length xs - filterWords))
+
+word-by : (card : Card) (xs : List ℕ) → word card xs ≡ wordBy (card .width) (eqb (card .filter) 2) xs
+unfolding word wordBy
+word-by card xs = refl
+
+-- whether the word is another than that of the all-zero state, for every top column but 0
+differing : ℕ → Bool → ℕ → Bool
+differing n second m = every (2 ^ m - 1) (λ c. not (eqb (wordBy n second (only m n 0)) (wordBy n second (only m n (suc c)))))
+
+computed : every (suc mostWords) (λ m. differing 32 true m && differing 32 false m) ≡ true
+unfolding sum every tabulate fromColumns _⊞_ _⋘_ filter1 filter2 further only wordBy differing
+computed = refl
+
+words-differ : (m : ℕ) → m < suc mostWords → (second : Bool) (c : ℕ) → c < 2 ^ m → c ≢ 0 → wordBy 32 second (only m 32 0) ≢ wordBy 32 second (only m 32 c)
+unfolding differing
+words-differ m l second c lc ne =
+    let both = and-eq-true-iff (differing 32 true m) (differing 32 false m) .0 (every-at (suc mostWords) _ computed m l) in
+    let e : suc (c - 1) ≡ c = omega (arith, ne) in
+    subst (λ (c : ℕ). wordBy 32 second (only m 32 0) ≢ wordBy 32 second (only m 32 c)) e
+    (eqb-false _ _ (not-true _ (every-at (2 ^ m - 1) _ (go second (both .0) (both .1)) (c - 1) (omega (arith, ne)))))
+  where
+    go : (b : Bool) → differing 32 true m ≡ true → differing 32 false m ≡ true → differing 32 b m ≡ true
+    go true y n = y
+    go false y n = n
+
+-- ---- the theorem
+
+module _ (card : Card) (a : Accepted card) where
+  abbrev m : ℕ
+  m = card .words
+
+  abbrev n : ℕ
+  n = card .width
+
+  none : List ℕ
+  none = only m n 0
+
+  none-in-range : IsState card none
+  unfolding none only
+  none-in-range = fromColumns-in-range m n (λ i. cond (eqb (suc i) n) 0 0)
+
+  -- the top column of the opposite
+  moved : ℕ
+  moved = iterate (entry card) (2 ^ (m - 1)) 0
+
+  moved-below : moved < 2 ^ m
+  unfolding moved
+  moved-below = iterate-below (2 ^ m) (entry card) (a .formed .entries) (2 ^ (m - 1)) 0 (pow-pos m)
+
+  opposite-of-none : opposite card none ≡ only m n moved
+  unfolding none only moved
+  opposite-of-none =
+      columns-ext m n (opposite card none) (only m n moved) (orbit-in-range card none none-in-range (states card / 2))
+      (fromColumns-in-range m n (λ i. cond (eqb (suc i) n) moved 0))
+      (λ i l.
+      column-opposite card (a .formed) (a .period) none none-in-range i l
+      ∙ ap (iterate (entry card) (turns card i)) (column-only m n 0 (pow-pos m) i l) ∙ turned (entry card) (2 ^ (m - 1)) (eqb (suc i) n)
+      ∙ sym (column-only m n moved moved-below i l))
+
+  none-differs : n ≡ 32 → Differs card none
+  unfolding none moved
+  none-differs wide e =
+      subst (λ (n : ℕ). wordBy n second (only m n 0) ≢ wordBy n second (only m n moved)) (sym wide)
+      (words-differ m (omega (arith, a .few)) second moved moved-below (half-moves card (a .formed) (a .period) 0 (pow-pos m)))
+      (sym (word-by card none) ∙ e ∙ ap (word card) opposite-of-none ∙ word-by card (only m n moved))
+    where
+      second : Bool
+      second = eqb (card .filter) 2
+
+  pub wide-period : n ≡ 32 → (start : List ℕ) → LeastPeriod (wordAt card start) (states card)
+  wide-period wide start = word-period card (a .formed) (a .period) start .1 (none, none-in-range, none-differs wide)
