@@ -4,6 +4,7 @@ use harness::calls::{compare, compare_margin, Told, ToldMargin, CALLS, MARGIN, M
 use harness::hex;
 use harness::inputs::{sound_form, Input};
 use harness::random::Random;
+use reference::period::{least_period, opposite};
 use std::panic::catch_unwind;
 use std::process::exit;
 use std::sync::atomic::{AtomicUsize, Ordering};
@@ -254,40 +255,70 @@ fn walk(card: &reference::Card, start: &[u32]) -> Result<u8, String> {
     agrees.then_some(verdict).ok_or_else(differs)
 }
 
-/// How often each verdict was told on some cards of one size, each walked from a random start.
-fn walk_block(seed: u64, block: usize, words: u8, width: u8) -> Result<[usize; 10], String> {
+/// Whether the words of an accepted card repeat before all N states have passed, counted out on N words that the library fills
+/// in. By document 02, Six, they do exactly where each state has the word of its opposite, the state N/2 steps on.
+fn repeats_early(card: &reference::Card, start: &[u32]) -> Result<bool, String> {
+    let bytes = reference::encode(card);
+    let bits = u32::from(card.width) * u32::from(card.words);
+    let mut words = vec![0; 1 << bits];
+    let mut state = start.to_vec();
+    tiedraw::fill(&bytes, &mut state, &mut words, 0, 1 << bits).expect("an accepted card");
+    let early = least_period(&words) < words.len();
+    let word_of = |number: u32, k: u8| number >> (k * card.width) & reference::mask(card.width);
+    let alike = (0..1 << bits).all(|number| {
+        let state: Vec<u32> = (0..card.words).map(|k| word_of(number, k)).collect();
+        reference::word(card, &state) == reference::word(card, &opposite(card, &state))
+    });
+    let differs = || {
+        let card = hex(&bytes);
+        format!("card {card}: early {early} from {start:x?}, but opposite states alike {alike}")
+    };
+    (early == alike).then_some(early).ok_or_else(differs)
+}
+
+/// How often each verdict was told on some cards of one size, each walked from a random start; then how many of the accepted
+/// ones repeat their words early.
+fn walk_block(seed: u64, block: usize, words: u8, width: u8) -> Result<[usize; 11], String> {
     let mut random = Random::new(
         seed ^ u64::from(words) << 40 ^ u64::from(width) << 48,
         block as u64,
     );
-    let mut verdicts = [0; 10];
+    let mut counts = [0; 11];
     for _ in 0..OF_WALKS {
         let card = sound_form(words, width, &mut random);
         let start: Vec<u32> = (0..words)
             .map(|_| random.word() as u32 & reference::mask(width))
             .collect();
-        verdicts[usize::from(walk(&card, &start)?)] += 1;
+        let verdict = walk(&card, &start)?;
+        counts[usize::from(verdict)] += 1;
+        counts[10] += usize::from(verdict == 0 && repeats_early(&card, &start)?);
     }
-    Ok(verdicts)
+    Ok(counts)
 }
 
 fn count_out_walks(seed: u64) {
     println!("walks of cards of sound form counted out:");
+    let mut early_ones = 0;
     for (words, width, cards) in WALKS {
-        let mut verdicts = [0; 10];
+        let mut counts = [0; 11];
         for some in run_blocks(cards / OF_WALKS, |block| {
             walk_block(seed, block, words, width)
         }) {
-            add_up(&mut verdicts, &some);
+            add_up(&mut counts, &some);
         }
-        let [accepted, .., ring, even, powers] = verdicts;
+        let [accepted, .., ring, even, powers, early] = counts;
         println!(
-            "{words} words of {width} bits: {accepted} accepted, all of full length; {ring}, {even} and {powers} refused by 7, 8 and 9, none of full length"
+            "{words} words of {width} bits: {accepted} accepted, all of full length, {early} with words that repeat early; {ring}, {even} and {powers} refused by 7, 8 and 9, none of full length"
         );
+        early_ones += early;
         if [accepted, ring, even, powers].contains(&0) {
             println!("a verdict never came up");
             exit(1);
         }
+    }
+    if early_ones == 0 {
+        println!("no card repeated its words early");
+        exit(1);
     }
 }
 
