@@ -1,5 +1,6 @@
 """Draws layers.svg, the crates and which rests on which, from crates.txt; and orbit.svg, the sixteen states of the program's card (document 01)
-in the order in which the step brings them up, beside the same card with an even constant. `make pictures`."""
+in the order in which the step brings them up, beside the same card with an even constant; and halves.svg, the words of two cards of 64 states
+in their order, of which one repeats them. `make pictures`."""
 
 import math
 import pathlib
@@ -164,19 +165,19 @@ def layers():
     return svg(width, height, body)
 
 
-# ---- The orbit. The step by document 002 (12) and (13), for two words of two bits, powers 1 and 2, and the sum term.
+# ---- The orbit. The step by document 002 (12) and (13), for two words, powers 1 and 2, and the sum term.
 
 TABLE = [1, 2, 3, 0]
 
 
-def step(state, constant):
+def step(state, constant, table=TABLE, width=2):
     p, s = state[0] & state[1], sum(state)
-    selector = ((p + constant) ^ p ^ 2 * s) & 3
+    selector = (p + constant) ^ p ^ 2 * s
     after = [0, 0]
-    for i in range(2):
+    for i in range(width):
         column = (state[0] >> i & 1) + 2 * (state[1] >> i & 1)
         for _ in range(1 if selector >> i & 1 else 2):
-            column = TABLE[column]
+            column = table[column]
         after[0] |= (column & 1) << i
         after[1] |= (column >> 1) << i
     return tuple(after)
@@ -227,6 +228,49 @@ def orbit():
     return svg(920, 490, body)
 
 
+# ---- Halves of an orbit, for two words of three bits and constant 1: filter 1 turns neither word, so that a word is their sum.
+
+SHADES = ["#ffffff", "#f7e1a8", "#bfe3c4", "#a9d3f0", "#e5c1e8", "#f4b8a9", "#c9c9c9", "#8fc7b5"]
+
+
+def words(table):
+    """The words of the 64 states, from that of zeros on."""
+    state, found = (0, 0), []
+    for _ in range(64):
+        found.append(sum(state) % 8)
+        state = step(state, 1, table, 3)
+    return found
+
+
+def dial(row, x, y, radius):
+    """The words as a ring of dots, from the top on clockwise; a line joins those that differ from the word half the orbit on."""
+    body = []
+    at = [(x + radius * math.sin(2 * math.pi * i / 64), y - radius * math.cos(2 * math.pi * i / 64)) for i in range(64)]
+    for i in range(32):
+        if row[i] != row[i + 32]:
+            (u, v), (w, z) = at[i], at[i + 32]
+            body.append(f'<path d="M{u:.1f},{v:.1f} L{w:.1f},{z:.1f}" stroke="#c0564a" stroke-width="0.6"/>')
+    for (u, v), word in zip(at, row):
+        body.append(f'<circle cx="{u:.1f}" cy="{v:.1f}" r="9" fill="{SHADES[word]}" stroke="{INK}" stroke-width="1"/>')
+        body.append(text(u, v + 4, word, 11))
+    return body
+
+
+def halves():
+    body = []
+    for i, (table, head, below) in enumerate(
+        [
+            ([1, 3, 0, 2], "table 1, 3, 0, 2: the words repeat after 32", "no state differs from the one half the orbit on"),
+            ([2, 3, 1, 0], "table 2, 3, 1, 0: after 64, and not before", "lines join states half the orbit apart whose words differ"),
+        ]
+    ):
+        x = 230 + 450 * i
+        body.append(text(x, 30, head, 15, more='font-weight="bold"'))
+        body.append(text(x, 50, below, 12, FAINT))
+        body += dial(words(table), x, 275, 190)
+    return svg(910, 490, body)
+
+
 if __name__ == "__main__":
-    save(layers)
-    save(orbit)
+    for draw in (layers, orbit, halves):
+        save(draw)
