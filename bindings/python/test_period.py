@@ -38,11 +38,12 @@ class Walked(unittest.TestCase):
     def test_half_a_walk_on(self):
         chance = random.Random(8)
         for words, width in ((2, 2), (2, 5), (3, 3), (4, 2), (5, 2)):
-            card = tiedraw.read(new_card(words, width, seed=f"{words} {width}"))
-            state = start = tuple(chance.getrandbits(width) for _ in range(words))
-            for _ in range(2 ** (words * width - 1)):
-                state = stepped(card, state)
-            self.assertEqual(state, opposite(card, start))
+            for seed in range(3):
+                card = tiedraw.read(new_card(words, width, seed=f"{words} {width} {seed}"))
+                state = start = tuple(chance.getrandbits(width) for _ in range(words))
+                for _ in range(2 ** (words * width - 1)):
+                    state = stepped(card, state)
+                self.assertEqual(state, opposite(card, start))
 
     def test_an_accepted_card_whose_words_repeat_early(self):
         card = tiedraw.read(EARLY)
@@ -54,7 +55,7 @@ class Walked(unittest.TestCase):
             self.assertNotEqual(words[:16], words[16:32])
 
     def test_columns_repeat(self):
-        """Bit i of each word of the state after 2^(m (i + 1)) steps, and not after half of that: P1's lowest bits after 16, the next ones after 256."""
+        """The bits at place i of all words, as one number, after 2^(m (i + 1)) steps, and not after half of that: with P1 16, 256, 4096."""
         desk = Generator(TSC1, [1, 2, 3, 4])
         states = [desk.state]
         for _ in range(3 * 4096):
@@ -67,7 +68,7 @@ class Walked(unittest.TestCase):
 
 
 class Wide(unittest.TestCase):
-    def test_every_card_of_32_bits(self):
+    def test_cards_of_32_bits_by_chance(self):
         chance = random.Random(9)
         for _ in range(200):
             card = tiedraw.read(any_card(chance))

@@ -3,7 +3,7 @@
 //! N is 2^(m n), the number of states. Document 002 (5.2, Period) argues by columns; `opposite` is
 //! that argument for half a walk.
 
-use crate::{column, put_column, step, word, Card};
+use crate::{column, put_column, Card};
 
 /// The least d from 1 up to the length of `round` by which the endless sequence that repeats
 /// `round` can be shifted and stay the same. A round has at least one entry.
@@ -12,29 +12,6 @@ pub fn least_period<T: PartialEq>(round: &[T]) -> usize {
     let stays = |d: usize| (0..length).all(|k| round[k] == round[(k + d) % length]);
     let mut shifts = 1..=length;
     shifts.find(|&d| stays(d)).expect("no empty round")
-}
-
-/// N, for a small card.
-fn count_of_states(card: &Card) -> usize {
-    let bits = u32::from(card.words) * u32::from(card.width);
-    1usize.checked_shl(bits).expect("a small card")
-}
-
-/// The N states that come after `start`, the last of which is `start` for an accepted card.
-fn states_of_walk(card: &Card, start: &[u32]) -> Vec<Vec<u32>> {
-    let mut states = Vec::new();
-    let mut state = start.to_vec();
-    for _ in 0..count_of_states(card) {
-        state = step(card, &state);
-        states.push(state.clone());
-    }
-    states
-}
-
-/// The N words drawn one after the other from `start`, for a small card. A draw steps first.
-pub fn words_of_walk(card: &Card, start: &[u32]) -> Vec<u32> {
-    let states = states_of_walk(card, start);
-    states.iter().map(|state| word(card, state)).collect()
 }
 
 /// The state N/2 steps after `state`, for an accepted card, without walking. The columns below the
@@ -56,7 +33,7 @@ pub fn opposite(card: &Card, state: &[u32]) -> Vec<u32> {
 mod tests {
     use super::*;
     use crate::cases::random_card;
-    use crate::{accept, mask, next, TSC2_TABLE};
+    use crate::{accept, mask, next, step, word, TSC2_TABLE};
 
     /// Words and width of small cards, with 16 to 4096 states.
     const SIZES: [(u8, u8); 11] = [
@@ -89,6 +66,29 @@ mod tests {
             }
         }
         cards
+    }
+
+    /// N, for a small card.
+    fn count_of_states(card: &Card) -> usize {
+        let bits = u32::from(card.words) * u32::from(card.width);
+        1usize.checked_shl(bits).expect("a small card")
+    }
+
+    /// The N states that come after `start`, the last of which is `start` for an accepted card.
+    fn states_of_walk(card: &Card, start: &[u32]) -> Vec<Vec<u32>> {
+        let mut states = Vec::new();
+        let mut state = start.to_vec();
+        for _ in 0..count_of_states(card) {
+            state = step(card, &state);
+            states.push(state.clone());
+        }
+        states
+    }
+
+    /// The N words drawn one after the other from `start`, for a small card. A draw steps first.
+    fn words_of_walk(card: &Card, start: &[u32]) -> Vec<u32> {
+        let states = states_of_walk(card, start);
+        states.iter().map(|state| word(card, state)).collect()
     }
 
     fn random_state(card: &Card, x: &mut u32) -> Vec<u32> {
@@ -176,11 +176,12 @@ mod tests {
         })
     }
 
-    /// Where opposites agree, the words repeat after N/2, if not before; elsewhere after N.
+    /// Where opposites agree, the words repeat after N/2, and on some cards before; elsewhere
+    /// after N.
     #[test]
     fn words_repeat_early_where_opposites_agree() {
         let mut x = 9;
-        let (mut early, mut full) = (0, 0);
+        let (mut early, mut earlier, mut full) = (0, 0, 0);
         for card in small_cards(1000, &mut x) {
             let agree = opposites_agree(&card);
             for _ in 0..2 {
@@ -191,11 +192,12 @@ mod tests {
                 assert_eq!(first == second, agree, "{card:?} {start:?}");
                 assert_eq!(period <= first.len(), agree, "{card:?} {start:?}");
                 assert_eq!(period < round.len(), agree, "{card:?} {start:?}");
+                earlier += usize::from(period < first.len());
             }
             early += usize::from(agree);
             full += usize::from(!agree);
         }
-        assert!(early >= 100 && full >= 1000, "{early} {full}");
+        assert!(early >= 100 && earlier > 0 && full >= 1000);
     }
 
     /// Document 002, the proof of Theorem 2; so column n - 1 alone has the period N.
@@ -231,7 +233,8 @@ mod tests {
         }
     }
 
-    /// Document 02, Six: the words of zeros and of its opposite, with cards P1 and P2.
+    /// The words of zeros and of its opposite, with cards P1 and P2: by the table's eighth power
+    /// the top column is 4 and 6.
     #[test]
     fn opposites_of_zeros() {
         let tsc2 = [&[0x74], &TSC2_TABLE[..], &[0, 1, 0, 0, 0, 2]].concat();

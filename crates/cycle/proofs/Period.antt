@@ -1,5 +1,5 @@
--- Periods of a sequence. Multiples and remainders of periods are periods, so one that a power of two is not the least of has half of that power as well.
---   period-half        a period shorter than 2^e makes half of 2^e one: the greatest common divisor of both is a period, and divides that half
+-- Periods of a sequence: a multiple of a period is one, and so is the remainder of one period by another.
+--   period-half        a period shorter than 2^e makes half of 2^e one: modulo 2^e some multiple of it is that half
 --   least-period       2^e is the least exactly where the sequence somewhere differs from itself half of that on
 use mathlib.Core.Path.{_≡_, sym, ap, _∙_, subst}
 use mathlib.Core.Logic.{_↔_, _≢_}
@@ -65,4 +65,4 @@ least-period f (suc e) pos n = (forth, back)
             absurd (least .least (N / 2) (omega (arith, half, pow-pos e)) (omega (arith, half, pow-suc 2 e, pow-pos e)) p)
 
     back : (t : ℕ) × (f t ≢ f (t + N / 2)) → LeastPeriod f N
-    back (t, ne) = record { period = n; least = λ d dpos l p. ne (sym (period-half f (suc e) d n dpos l p t)) }
+    back (t, ne) = record { positive = pow-pos (suc e); period = n; least = λ d dpos l p. ne (sym (period-half f (suc e) d n dpos l p t)) }

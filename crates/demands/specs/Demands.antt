@@ -231,7 +231,7 @@ pub record NoEarlyRepeat : Type 0 where
   -- but not of every accepted card: this one has 64 states, and its words repeat after 32
   pub early : (verdict repeating ≡ 0) × (states (cardOf repeating) ≡ 64)
       × ((xs : List ℕ) → IsState (cardOf repeating) xs → Period (wordAt (cardOf repeating) xs) 32)
-  -- and bits of the state's words repeat early on every card: column i after 2^(m (i + 1)) steps, and no sooner
+  -- and every column of the state but the top one repeats early: column i after 2^(m (i + 1)) steps, and no sooner
   pub columns : (bytes xs : List ℕ) → Ready bytes xs → let card = cardOf bytes in
       (i : ℕ) → i < card .width → LeastPeriod (λ t. column i (orbit card xs t)) (2 ^ (card .words * suc i))
 

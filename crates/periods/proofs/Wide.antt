@@ -1,12 +1,13 @@
--- EVERY ACCEPTED CARD OF 32-BIT WORDS, from any start: its words don't repeat before all states have passed. For the opposite of the all-zero state has a top column that is
--- not 0, and 0 in every other; the words of all such states are computed, for each number of words and both filters, and none is that of the all-zero state.
---   opposite-of-none    the opposite of the all-zero state
+-- EVERY ACCEPTED CARD OF 32-BIT WORDS, from any start: its words don't repeat before all states have passed. The opposite of the all-zero state has a top
+-- column that is not 0, and 0 in every other. The words of all such states are computed, for each number of words and both filters, and none is that of the
+-- all-zero state.
+--   opposite-of-zeros   the opposite of the all-zero state
 --   wide-period         the theorem
 use mathlib.Core.Path.{_≡_, refl, sym, ap, _∙_, subst}
 use mathlib.Core.Logic.{_≢_}
 use mathlib.Core.Bool.{Bool, true, false, cond, not, _&&_, and-eq-true-iff}
 use mathlib.Core.List.{List}
-use Prim.Native.Nat.{ℕ, suc, _-_, _/_, _^_, _<_}
+use Prim.Native.Nat.{ℕ, suc, _-_, _^_, _<_}
 use native.Mathlib.Omega.{arith}
 use borrow.Author.Tests.{eqb-false, not-true}
 use lib.Dec.{eqb}
@@ -23,32 +24,20 @@ use Rattle.tsc.specs.Step.{entry}
 use Rattle.tsc.specs.Word.{_⊞_, _⋘_, filter1, filter2, further, word, wordAt}
 use Rattle.tsc.specs.Coverage.{IsState, states}
 use Rattle.tsc.specs.Opposite.{opposite, Differs}
-use Rattle.tsc.proofs.Columns.{column-fromColumns, fromColumns-in-range, columns-ext}
-use Rattle.tsc.proofs.Step.{orbit-in-range}
-use Rattle.tsc.proofs.ColumnPeriod.{turns, half-moves, column-opposite}
+use Rattle.tsc.proofs.Columns.{column-fromColumns, fromColumns-in-range}
+use Rattle.tsc.proofs.ColumnPeriod.{half-moves, moves, opposite-by}
 use Rattle.tsc.proofs.WordPeriod.{word-period}
 use Rattle.card_format.specs.Verdict.{Accepted}
 
--- ---- states with no column but the top one
+-- ---- the words of states with a top column and nothing else
 
--- m words of n bits: column n - 1 is c, and all others are 0
-only : ℕ → ℕ → ℕ → List ℕ
-only m n c = fromColumns m n (λ i. cond (eqb (suc i) n) c 0)
+-- m words of n bits, all 0
+zeros : ℕ → ℕ → List ℕ
+zeros m n = fromColumns m n (λ i. 0)
 
-column-only : (m n c : ℕ) → c < 2 ^ m → (i : ℕ) → i < n → column i (only m n c) ≡ cond (eqb (suc i) n) c 0
-unfolding only
-column-only m n c l i li = column-fromColumns m n (λ i. cond (eqb (suc i) n) c 0) i li (below (eqb (suc i) n))
-  where
-    below : (b : Bool) → cond b c 0 < 2 ^ m
-    below true = l
-    below false = pow-pos m
-
-turned : (g : ℕ → ℕ) (h : ℕ) (b : Bool) → iterate g (cond b h 0) (cond b 0 0) ≡ cond b (iterate g h 0) 0
-unfolding iterate
-turned g h true = refl
-turned g h false = refl
-
--- ---- their words
+-- and such whose columns are 0 but the top one, which is c
+topOnly : ℕ → ℕ → ℕ → List ℕ
+topOnly m n c = fromColumns m n (λ i. cond (eqb (suc i) n) c 0)
 
 -- the word of a state of n-bit words, by filter 2 or else by filter 1
 wordBy : ℕ → Bool → List ℕ → ℕ
@@ -60,20 +49,21 @@ word-by : (card : Card) (xs : List ℕ) → word card xs ≡ wordBy (card .width
 unfolding word wordBy
 word-by card xs = refl
 
--- whether the word is another than that of the all-zero state, for every top column but 0
+-- whether for every top column but 0 the word is another than that of zeros
 differing : ℕ → Bool → ℕ → Bool
-differing n second m = every (2 ^ m - 1) (λ c. not (eqb (wordBy n second (only m n 0)) (wordBy n second (only m n (suc c)))))
+differing n second m = every (2 ^ m - 1) (λ c. not (eqb (wordBy n second (zeros m n)) (wordBy n second (topOnly m n (suc c)))))
 
+-- it is, for up to 8 words (accepted cards have 2 and more)
 computed : every (suc mostWords) (λ m. differing 32 true m && differing 32 false m) ≡ true
-unfolding sum every tabulate fromColumns _⊞_ _⋘_ filter1 filter2 further only wordBy differing
+unfolding sum every tabulate fromColumns _⊞_ _⋘_ filter1 filter2 further zeros topOnly wordBy differing
 computed = refl
 
-words-differ : (m : ℕ) → m < suc mostWords → (second : Bool) (c : ℕ) → c < 2 ^ m → c ≢ 0 → wordBy 32 second (only m 32 0) ≢ wordBy 32 second (only m 32 c)
+words-differ : (m : ℕ) → m < suc mostWords → (second : Bool) (c : ℕ) → c < 2 ^ m → c ≢ 0 → wordBy 32 second (zeros m 32) ≢ wordBy 32 second (topOnly m 32 c)
 unfolding differing
 words-differ m l second c lc ne =
     let both = and-eq-true-iff (differing 32 true m) (differing 32 false m) .0 (every-at (suc mostWords) _ computed m l) in
     let e : suc (c - 1) ≡ c = omega (arith, ne) in
-    subst (λ (c : ℕ). wordBy 32 second (only m 32 0) ≢ wordBy 32 second (only m 32 c)) e
+    subst (λ (c : ℕ). wordBy 32 second (zeros m 32) ≢ wordBy 32 second (topOnly m 32 c)) e
     (eqb-false _ _ (not-true _ (every-at (2 ^ m - 1) _ (go second (both .0) (both .1)) (c - 1) (omega (arith, ne)))))
   where
     go : (b : Bool) → differing 32 true m ≡ true → differing 32 false m ≡ true → differing 32 b m ≡ true
@@ -89,12 +79,13 @@ module _ (card : Card) (a : Accepted card) where
   abbrev n : ℕ
   n = card .width
 
-  none : List ℕ
-  none = only m n 0
+  zeros-in-range : IsState card (zeros m n)
+  unfolding zeros
+  zeros-in-range = fromColumns-in-range m n (λ i. 0)
 
-  none-in-range : IsState card none
-  unfolding none only
-  none-in-range = fromColumns-in-range m n (λ i. cond (eqb (suc i) n) 0 0)
+  column-zeros : (i : ℕ) → i < n → column i (zeros m n) ≡ 0
+  unfolding zeros
+  column-zeros i l = column-fromColumns m n (λ i. 0) i l (pow-pos m)
 
   -- the top column of the opposite
   moved : ℕ
@@ -104,25 +95,25 @@ module _ (card : Card) (a : Accepted card) where
   unfolding moved
   moved-below = iterate-below (2 ^ m) (entry card) (a .formed .entries) (2 ^ (m - 1)) 0 (pow-pos m)
 
-  opposite-of-none : opposite card none ≡ only m n moved
-  unfolding none only moved
-  opposite-of-none =
-      columns-ext m n (opposite card none) (only m n moved) (orbit-in-range card none none-in-range (states card / 2))
-      (fromColumns-in-range m n (λ i. cond (eqb (suc i) n) moved 0))
-      (λ i l.
-      column-opposite card (a .formed) (a .period) none none-in-range i l
-      ∙ ap (iterate (entry card) (turns card i)) (column-only m n 0 (pow-pos m) i l) ∙ turned (entry card) (2 ^ (m - 1)) (eqb (suc i) n)
-      ∙ sym (column-only m n moved moved-below i l))
+  opposite-of-zeros : opposite card (zeros m n) ≡ topOnly m n moved
+  unfolding topOnly moved iterate
+  opposite-of-zeros =
+      opposite-by card (a .formed) (a .period) (zeros m n) zeros-in-range (λ i. cond (eqb (suc i) n) moved 0) (λ i l.
+      ap (iterate (entry card) (moves card i)) (column-zeros i l) ∙ go (eqb (suc i) n))
+    where
+      go : (b : Bool) → iterate (entry card) (cond b (2 ^ (m - 1)) 0) 0 ≡ cond b moved 0
+      go true = refl
+      go false = refl
 
-  none-differs : n ≡ 32 → Differs card none
-  unfolding none moved
-  none-differs wide e =
-      subst (λ (n : ℕ). wordBy n second (only m n 0) ≢ wordBy n second (only m n moved)) (sym wide)
+  zeros-differ : n ≡ 32 → Differs card (zeros m n)
+  unfolding moved
+  zeros-differ wide e =
+      subst (λ (n : ℕ). wordBy n second (zeros m n) ≢ wordBy n second (topOnly m n moved)) (sym wide)
       (words-differ m (omega (arith, a .few)) second moved moved-below (half-moves card (a .formed) (a .period) 0 (pow-pos m)))
-      (sym (word-by card none) ∙ e ∙ ap (word card) opposite-of-none ∙ word-by card (only m n moved))
+      (sym (word-by card (zeros m n)) ∙ e ∙ ap (word card) opposite-of-zeros ∙ word-by card (topOnly m n moved))
     where
       second : Bool
       second = eqb (card .filter) 2
 
   pub wide-period : n ≡ 32 → (start : List ℕ) → LeastPeriod (wordAt card start) (states card)
-  wide-period wide start = word-period card (a .formed) (a .period) start .1 (none, none-in-range, none-differs wide)
+  wide-period wide start = word-period card (a .formed) (a .period) start .1 (zeros m n, zeros-in-range, zeros-differ wide)

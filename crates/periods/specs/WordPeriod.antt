@@ -10,7 +10,7 @@ use Rattle.card_format.specs.Reading.{cardOf}
 abbrev pub WordPeriod : List ℕ → ℕ → Type 0
 WordPeriod bytes N = (start : List ℕ) → IsState (cardOf bytes) start → LeastPeriod (wordAt (cardOf bytes) start) N
 
--- two words of 3 bits. The square of the table flips both bits of a column, so that half the orbit on the top bits of x0 and x1 have flipped; filter 1 turns neither word within
--- 3 bits, and their sum is the word. All 64 states come up, and the words repeat after 32
+-- two words of 3 bits. Half the orbit on the top bits of x0 and x1 have flipped, since the square of the table flips both bits of a column; filter 1 turns
+-- neither word within 3 bits, and their sum is the word. All 64 states come up, and the words repeat after 32
 abbrev pub repeating : List ℕ
 repeating = 0x27 ∷ 0x02 ∷ 0x03 ∷ 0x01 ∷ 0x03 ∷ 0x00 ∷ 0x02 ∷ 0x01 ∷ 0x00 ∷ 0x00 ∷ 0x00 ∷ []

@@ -1,9 +1,11 @@
 -- THE COLUMNS' PERIODS. Where the premises of coverage hold, the least period of column i, from any state, is 2^(m (i + 1)) steps. Half of that on, the columns
 -- below it are as they were, and the table has moved it 2^(m - 1) times. General in m and n.
+--   half-moves                  half of the table's cycle leads elsewhere
 --   column-half, lower-half     half of the period on
 --   column-period               the least period
---   half-orbit                  half the orbit on only the top column has moved
-use mathlib.Core.Path.{_≡_, sym, ap, ap₂, _∙_, subst}
+--   opposite-top, -lower, -by   half the orbit on only the top column has moved: column by column, and the state by its columns
+--   half-orbit                  the opposite of a state as it can be computed
+use mathlib.Core.Path.{_≡_, refl, sym, ap, ap₂, _∙_, subst}
 use mathlib.Core.Bool.{cond}
 use mathlib.Core.List.{List}
 use Prim.Native.Nat.{ℕ, suc, _+_, _-_, _*_, _/_, _%_, _^_, _<_}
@@ -47,7 +49,6 @@ module _ (card : Card) (wf : WellFormed card) (ok : FullPeriod card) where
   table-half : SingleCycle (half * 2) (entry card) 0
   table-half = subst (λ (a : ℕ). SingleCycle a (entry card) 0) (half-size card wf) (ok .cycle)
 
-  -- it leads elsewhere
   pub half-moves : (y : ℕ) → y < 2 ^ m → iterate (entry card) half y ≡ y → ⊥
   unfolding iterate
   half-moves y l e =
@@ -81,12 +82,12 @@ module _ (card : Card) (wf : WellFormed card) (ok : FullPeriod card) where
           half (cycles card wf ok i) table-half (powers-odd card wf ok i) (column i xs) (number m i xs)
           (subst (λ (a : ℕ). column i xs < a) (half-size card wf) (columns m xs (sx .0) n i l)) (number-lt m xs (sx .0) i)
 
-      pub column-half : column i there ≡ iterate (entry card) half (column i xs)
+      column-half : column i there ≡ iterate (entry card) half (column i xs)
       column-half =
           sym (number-div m there sized i) ∙ ap (λ (a : ℕ). a / size card i) half-number
           ∙ digits-div (iterate (entry card) half (column i xs)) (number-lt m xs (sx .0) i)
 
-      pub lower-half : (j : ℕ) → j < i → column j there ≡ column j xs
+      lower-half : (j : ℕ) → j < i → column j there ≡ column j xs
       lower-half =
           number-columns m i there xs sized (sx .0)
           (sym (number-mod m there sized i) ∙ ap (λ (a : ℕ). a % size card i) half-number
@@ -115,7 +116,7 @@ module _ (card : Card) (wf : WellFormed card) (ok : FullPeriod card) where
         ap (column i) (ap (orbit card xs) (add-comm t N) ∙ iterate-add (step card) N t xs)
         ∙ column-returns (orbit card xs t) (orbit-in-range card xs sx t) i l
 
-    -- a shorter period would make half of it one
+    -- half of it is no period, and so no shorter one is
     no-half : Period at (2 ^ (m * suc i) / 2) → ⊥
     unfolding at iterate
     no-half p =
@@ -124,7 +125,7 @@ module _ (card : Card) (wf : WellFormed card) (ok : FullPeriod card) where
 
     pub column-period : LeastPeriod (λ t. column i (orbit card xs t)) (2 ^ (m * suc i))
     unfolding at
-    column-period = record { period = column-repeats; least = λ d pos lt p. no-half (period-half at (m * suc i) d column-repeats pos lt p) }
+    column-period = record { positive = pow-pos (m * suc i); period = column-repeats; least = λ d pos lt p. no-half (period-half at (m * suc i) d column-repeats pos lt p) }
 
   -- ---- half the orbit on
 
@@ -139,33 +140,35 @@ module _ (card : Card) (wf : WellFormed card) (ok : FullPeriod card) where
     pub opposite-lower : (i : ℕ) → i < top → column i (opposite card xs) ≡ column i xs
     opposite-lower i l = ap (column i) (sym opposite-is) ∙ lower-half xs sx top (omega arith) i l
 
--- how often the table has then moved column i, but for whole rounds of it
-abbrev pub turns : Card → ℕ → ℕ
-turns card i = cond (eqb (suc i) (card .width)) (2 ^ (card .words - 1)) 0
+-- how often the table moves column i on half the orbit, but for whole rounds of it
+abbrev pub moves : Card → ℕ → ℕ
+moves card i = cond (eqb (suc i) (card .width)) (2 ^ (card .words - 1)) 0
 
 -- the opposite of a state, to compute with
 unfoldable pub topMoved : Card → List ℕ → List ℕ
-topMoved card xs = fromColumns (card .words) (card .width) (λ i. iterate (entry card) (turns card i) (column i xs))
+topMoved card xs = fromColumns (card .words) (card .width) (λ i. iterate (entry card) (moves card i) (column i xs))
 
 module _ (card : Card) (wf : WellFormed card) (ok : FullPeriod card) (xs : List ℕ) (sx : IsState card xs) where
-  column-moved : (i : ℕ) → i < card .width → column i (topMoved card xs) ≡ iterate (entry card) (turns card i) (column i xs)
-  unfolding topMoved
-  column-moved i l =
-      column-fromColumns (card .words) (card .width) (λ i. iterate (entry card) (turns card i) (column i xs)) i l
-      (iterate-below (2 ^ card .words) (entry card) (wf .entries) (turns card i) (column i xs) (columns (card .words) xs (sx .0) (card .width) i l))
-
-  pub column-opposite : (i : ℕ) → i < card .width → column i (opposite card xs) ≡ iterate (entry card) (turns card i) (column i xs)
+  column-opposite : (i : ℕ) → i < card .width → column i (opposite card xs) ≡ iterate (entry card) (moves card i) (column i xs)
   unfolding iterate
   column-opposite i l = go (ℕ-discrete (suc i) (card .width))
     where
-      go : Dec (suc i ≡ card .width) → column i (opposite card xs) ≡ iterate (entry card) (turns card i) (column i xs)
+      go : Dec (suc i ≡ card .width) → column i (opposite card xs) ≡ iterate (entry card) (moves card i) (column i xs)
       go (yes e) = opposite-top card wf ok xs sx i e ∙ simp (eq-eqb (suc i) (card .width) e)
       go (no ne) =
           opposite-lower card wf ok xs sx (card .width - 1) (omega (arith, wf .width)) i (omega (arith, ne)) ∙ simp (ne-eqb (suc i) (card .width) ne)
 
+  pub opposite-by : (c : ℕ → ℕ) → ((i : ℕ) → i < card .width → iterate (entry card) (moves card i) (column i xs) ≡ c i)
+      → opposite card xs ≡ fromColumns (card .words) (card .width) c
+  opposite-by c h =
+      columns-ext (card .words) (card .width) (opposite card xs) (fromColumns (card .words) (card .width) c) (orbit-in-range card xs sx (states card / 2))
+      (fromColumns-in-range (card .words) (card .width) c)
+      (λ i l. column-opposite i l ∙ h i l ∙ sym (column-fromColumns (card .words) (card .width) c i l (subst (λ (a : ℕ). a < 2 ^ card .words) (h i l) (below i l))))
+    where
+      below : (i : ℕ) → i < card .width → iterate (entry card) (moves card i) (column i xs) < 2 ^ card .words
+      below i l =
+          iterate-below (2 ^ card .words) (entry card) (wf .entries) (moves card i) (column i xs) (columns (card .words) xs (sx .0) (card .width) i l)
+
   pub half-orbit : opposite card xs ≡ topMoved card xs
   unfolding topMoved
-  half-orbit =
-      columns-ext (card .words) (card .width) (opposite card xs) (topMoved card xs) (orbit-in-range card xs sx (states card / 2))
-      (fromColumns-in-range (card .words) (card .width) (λ i. iterate (entry card) (turns card i) (column i xs)))
-      (λ i l. column-opposite i l ∙ sym (column-moved i l))
+  half-orbit = opposite-by (λ i. iterate (entry card) (moves card i) (column i xs)) (λ i l. refl)

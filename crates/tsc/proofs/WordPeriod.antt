@@ -1,5 +1,5 @@
--- THE WORDS' PERIOD. Where the premises of coverage hold, from any start: the words repeat after as many draws as there are states; where they do so earlier, they repeat
--- after half as many; and they don't exactly where some state has another word than its opposite, since every state comes up. General in m and n.
+-- THE WORDS' PERIOD. Where the premises of coverage hold, from any start: the words repeat after as many draws as there are states; where they do so earlier,
+-- they repeat after half as many; and the first is the least period exactly where some state has another word than its opposite. General in m and n.
 -- Document 002 (Period) compares the words of 2^m states, each a round of the columns below the top one after the last; two are enough.
 --   words-return      the count of states is a period
 --   words-halved      half of it is one where a shorter one is
@@ -60,7 +60,8 @@ module _ (card : Card) (wf : WellFormed card) (ok : FullPeriod card) (start : Li
     λ (t, ne). (orbit card start (suc t), step-in-range card (orbit card start t), λ e. ne (e ∙ sym (word-later card start t (states card / 2)))),
     λ (xs, sx, ne).
         let r = drawn xs sx in
-        (r .0, λ e. ne (ap (word card) (sym (r .1)) ∙ e ∙ word-later card start (r .0) (states card / 2) ∙ ap (λ (ys : List ℕ). word card (opposite card ys)) (r .1))),
+        let later = word-later card start (r .0) (states card / 2) ∙ ap (λ (ys : List ℕ). word card (opposite card ys)) (r .1) in
+        (r .0, λ e. ne (ap (word card) (sym (r .1)) ∙ e ∙ later)),
   )
 
   pub word-period : LeastPeriod (wordAt card start) (states card) ↔ ((xs : List ℕ) × IsState card xs × Differs card xs)

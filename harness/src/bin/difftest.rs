@@ -256,13 +256,15 @@ fn walk(card: &reference::Card, start: &[u32]) -> Result<u8, String> {
 }
 
 /// Whether the words of an accepted card repeat before all N states have passed, counted out on N words that the library fills
-/// in. By document 02, Six, they do exactly where each state has the word of its opposite, the state N/2 steps on.
+/// in. They must do so exactly where each state has the word of its opposite, the state N/2 steps on: what is proved for document
+/// 02, Six.
 fn repeats_early(card: &reference::Card, start: &[u32]) -> Result<bool, String> {
     let bytes = reference::encode(card);
     let bits = u32::from(card.width) * u32::from(card.words);
     let mut words = vec![0; 1 << bits];
     let mut state = start.to_vec();
     tiedraw::fill(&bytes, &mut state, &mut words, 0, 1 << bits).expect("an accepted card");
+    assert_eq!(state, start, "N draws lead back");
     let early = least_period(&words) < words.len();
     let word_of = |number: u32, k: u8| number >> (k * card.width) & reference::mask(card.width);
     let alike = (0..1 << bits).all(|number| {
@@ -276,37 +278,45 @@ fn repeats_early(card: &reference::Card, start: &[u32]) -> Result<bool, String> 
     (early == alike).then_some(early).ok_or_else(differs)
 }
 
-/// How often each verdict was told on some cards of one size, each walked from a random start; then how many of the accepted
-/// ones repeat their words early.
-fn walk_block(seed: u64, block: usize, words: u8, width: u8) -> Result<[usize; 11], String> {
+/// How often each verdict was told on some cards of one size, each walked from a random start; and how many of the accepted ones
+/// repeat their words early.
+fn walk_block(
+    seed: u64,
+    block: usize,
+    words: u8,
+    width: u8,
+) -> Result<([usize; 10], usize), String> {
     let mut random = Random::new(
         seed ^ u64::from(words) << 40 ^ u64::from(width) << 48,
         block as u64,
     );
-    let mut counts = [0; 11];
+    let mut verdicts = [0; 10];
+    let mut early = 0;
     for _ in 0..OF_WALKS {
         let card = sound_form(words, width, &mut random);
         let start: Vec<u32> = (0..words)
             .map(|_| random.word() as u32 & reference::mask(width))
             .collect();
         let verdict = walk(&card, &start)?;
-        counts[usize::from(verdict)] += 1;
-        counts[10] += usize::from(verdict == 0 && repeats_early(&card, &start)?);
+        verdicts[usize::from(verdict)] += 1;
+        early += usize::from(verdict == 0 && repeats_early(&card, &start)?);
     }
-    Ok(counts)
+    Ok((verdicts, early))
 }
 
 fn count_out_walks(seed: u64) {
     println!("walks of cards of sound form counted out:");
     let mut early_ones = 0;
     for (words, width, cards) in WALKS {
-        let mut counts = [0; 11];
-        for some in run_blocks(cards / OF_WALKS, |block| {
+        let mut verdicts = [0; 10];
+        let mut early = 0;
+        for (some, some_early) in run_blocks(cards / OF_WALKS, |block| {
             walk_block(seed, block, words, width)
         }) {
-            add_up(&mut counts, &some);
+            add_up(&mut verdicts, &some);
+            early += some_early;
         }
-        let [accepted, .., ring, even, powers, early] = counts;
+        let [accepted, .., ring, even, powers] = verdicts;
         println!(
             "{words} words of {width} bits: {accepted} accepted, all of full length, {early} with words that repeat early; {ring}, {even} and {powers} refused by 7, 8 and 9, none of full length"
         );
