@@ -3,7 +3,7 @@ use mathlib.Core.Path.{_≡_, refl}
 use mathlib.Core.List.{List, [], _∷_, _++_}
 use Prim.Native.Nat.{ℕ, suc}
 use lib.ListN.{length}
-use Rattle.cycle.specs.Notation.{sum, tabulate, Each, iterate}
+use Rattle.cycle.specs.Notation.{sum, tabulate, All, iterate}
 use Rattle.cycle.specs.Cycle.{returnFrom, firstReturn}
 use Rattle.tsc.specs.Constants.{mostWords}
 use Rattle.tsc.specs.Columns.{column, fromColumns}
@@ -16,7 +16,7 @@ use Rattle.card_format.specs.Reading.{offset, valuesAt, wordsOf, cardOf,
 use Rattle.card_format.specs.Verdict.{periodChecks, verdict}
 use Rattle.card_format.specs.Examples.{rows, Holds}
 
-pub rows-hold : Each Holds rows
+pub rows-hold : All Holds rows
 unfolding sum tabulate iterate returnFrom firstReturn column fromColumns andWords sumWords selector step _⊞_ _⋘_ filter1 filter2 further word firstOf fields field numbers allowed same offset valuesAt wordsOf cardOf partChecks fieldChecks checksTo formChecks periodChecks verdict rows
 rows-hold = ((refl, (refl, refl)), ((refl, (refl, refl)), ((refl, tt), ((refl, tt), ((refl, tt), ((refl, (refl, refl)), ((refl, tt), ((refl, tt), ((refl, tt), ((refl, tt), ((refl, (refl, refl)), ((refl, (refl, refl)), tt))))))))))))
 

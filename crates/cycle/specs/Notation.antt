@@ -37,9 +37,9 @@ abbrev pub zeroFilled : ℕ → List ℕ → List ℕ
 zeroFilled n xs = xs ++ replicate (n - length xs) 0
 
 -- P of each entry
-abbrev pub Each : {A : Type 0} → (A → Type 0) → List A → Type 0
-Each P [] = Unit {0}
-Each P (x ∷ xs) = P x × Each P xs
+abbrev pub All : {A : Type 0} → (A → Type 0) → List A → Type 0
+All P [] = Unit {0}
+All P (x ∷ xs) = P x × All P xs
 
 -- f applied k times
 unfoldable pub iterate : {A : Type 0} → (A → A) → ℕ → A → A

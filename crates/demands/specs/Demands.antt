@@ -8,7 +8,7 @@ use Prim.Native.Nat.{ℕ, suc, _+_, _-_, _*_, _/_, _%_, _^_, _≤_, _<_}
 use lib.Dec.{eqb}
 use lib.ListN.{length, getD, take, drop}
 use Rattle.refusals.specs.Refusals.{noSuchChange, Check, firstOf, NoneApplies}
-use Rattle.cycle.specs.Notation.{count, Each, iterate, bit}
+use Rattle.cycle.specs.Notation.{count, All, iterate, bit}
 use Rattle.cycle.specs.Period.{Period, LeastPeriod}
 use Rattle.cycle.specs.Fair.{givesRank}
 use Rattle.tsc.specs.declared.Card.{Card}
@@ -213,7 +213,7 @@ pub record UpToEightWords : Type 0 where
 -- With what it rests on, for every accepted card, and with what does not hold
 
 pub record NoEarlyRepeat : Type 0 where
-  pub published : Each (λ bytes. WordPeriod bytes (2 ^ 128)) (p1 ∷ p2 ∷ [])
+  pub published : All (λ bytes. WordPeriod bytes (2 ^ 128)) (p1 ∷ p2 ∷ [])
   -- the words of every accepted card repeat after N draws, from every state, and where they do so earlier, after N / 2
   pub repeats : (bytes xs : List ℕ) → Ready bytes xs → Period (wordAt (cardOf bytes) xs) (states (cardOf bytes))
   pub halved : (bytes xs : List ℕ) → Ready bytes xs → let card = cardOf bytes in

@@ -9,7 +9,7 @@ use Rattle.cycle.specs.Notation.{iterate}
 use Rattle.cycle.proofs.Iterate.{iterate-undone, iterate-fixed}
 use Rattle.tsc.specs.Coverage.{stepBack, ListsStates}
 use Rattle.tsc.specs.Step.{step, orbit}
-use Rattle.tsc.specs.Word.{word}
+use Rattle.tsc.specs.Word.{wordAt}
 use Rattle.tsc.proofs.Step.{step-in-range, orbit-in-range}
 use Rattle.tsc.proofs.StepBack.{back-of-step}
 use Rattle.tsc.proofs.Coverage.{coverage}
@@ -44,7 +44,7 @@ module _ (bytes start : List ℕ) (z : refusalFor bytes start ≡ 0) where
       ap (stepped bytes) (draws-state t)
       ∙ sym (unless-passed bytes (orbit (cardOf bytes) start t) (orbit (cardOf bytes) start (suc t)) (never-refused t))
 
-  pub draws-word : (t : ℕ) → drawing bytes (iterate (stepped bytes) t start) ≡ Word (word (cardOf bytes) (orbit (cardOf bytes) start (suc t)))
+  pub draws-word : (t : ℕ) → drawing bytes (iterate (stepped bytes) t start) ≡ Word (wordAt (cardOf bytes) start t)
   unfolding iterate
   draws-word t =
       ap (drawing bytes) (draws-state t) ∙ sym (drawing-word bytes (orbit (cardOf bytes) start t) _ refl (never-refused t))

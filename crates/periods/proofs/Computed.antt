@@ -7,7 +7,7 @@ use mathlib.Core.List.{List, [], _∷_}
 use Prim.Native.Nat.{ℕ, _/_, _^_}
 use borrow.Author.Tests.{eqb-true, eqb-false}
 use lib.Dec.{eqb}
-use Rattle.cycle.specs.Notation.{sum, every, tabulate, Each, iterate}
+use Rattle.cycle.specs.Notation.{sum, every, tabulate, All, iterate}
 use Rattle.cycle.specs.Cycle.{returnFrom, firstReturn}
 use Rattle.cycle.specs.Period.{Period}
 use Rattle.cycle.proofs.Every.{every-at}
@@ -58,7 +58,7 @@ module _ (bytes : List ℕ) (v : verdict bytes ≡ 0) where
       subst (λ (ys : List ℕ). word card ys ≡ word card (topMoved card ys)) (r .2) (eqb-true _ _ (every-at (states card) alike h (r .0) (r .1))) in
       w ∙ sym (opposite-word xs sx))
 
-pub published-periods : Each (λ bytes. WordPeriod bytes (2 ^ 128)) (p1 ∷ p2 ∷ [])
+pub published-periods : All (λ bytes. WordPeriod bytes (2 ^ 128)) (p1 ∷ p2 ∷ [])
 unfolding sum tabulate iterate column fromColumns _⊞_ _⋘_ filter1 filter2 further word stateOf topMoved fields field numbers offset valuesAt wordsOf cardOf rows
 published-periods = (period-by p1 (rows-hold .0 .0) 0 refl, (period-by p2 (rows-hold .1 .0 .0) 0 refl, tt))
 

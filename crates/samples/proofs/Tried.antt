@@ -16,7 +16,7 @@ use Rattle.cycle.proofs.Every.{extend}
 use Rattle.cycle.proofs.First.{first-le, first-at, before-first, first-is, first-none}
 use Rattle.tsc.specs.declared.Card.{Card}
 use Rattle.tsc.specs.Step.{orbit}
-use Rattle.tsc.specs.Word.{word}
+use Rattle.tsc.specs.Word.{word, wordAt}
 use Rattle.samples.specs.Samples.{mostTaken, limit, tried, taken, drawnRank, drawnState}
 
 -- as words are tried, p saying of each whether it is below L: the first t are passed over
@@ -45,7 +45,7 @@ module _ (p : ℕ → Bool) where
 module _ (card : Card) (xs : List ℕ) (k : ℕ) where
   -- whether word number t + 1 is below L
   abbrev pub kept : ℕ → Bool
-  kept t = ltb (word card (orbit card xs (suc t))) (limit card k)
+  kept t = ltb (wordAt card xs t) (limit card k)
 
   -- 1 to 16 words are tried
   tried-some : 1 ≤ tried card xs k
@@ -57,9 +57,9 @@ module _ (card : Card) (xs : List ℕ) (k : ℕ) where
   tried-few = omega (arith, first-le (mostTaken - 1) kept)
 
   -- all but the last of them are passed over
-  passed-over : (t : ℕ) → suc t < tried card xs k → limit card k ≤ word card (orbit card xs (suc t))
+  passed-over : (t : ℕ) → suc t < tried card xs k → limit card k ≤ wordAt card xs t
   unfolding tried
-  passed-over t l = ltb-false (word card (orbit card xs (suc t))) (limit card k) (before-first (mostTaken - 1) kept t (omega arith))
+  passed-over t l = ltb-false (wordAt card xs t) (limit card k) (before-first (mostTaken - 1) kept t (omega arith))
 
   -- and that one is below L, or the sixteenth
   decided : tried card xs k < mostTaken → word card (orbit card xs (tried card xs k)) < limit card k
@@ -102,10 +102,10 @@ module _ (card : Card) (xs : List ℕ) (k : ℕ) where
       go (no n) = omega (arith, taken-tried n, tried-few)
 
   -- which words they are
-  pub taken-over : (t : ℕ) → suc t < taken card xs k → limit card k ≤ word card (orbit card xs (suc t))
+  pub taken-over : (t : ℕ) → suc t < taken card xs k → limit card k ≤ wordAt card xs t
   taken-over t l = go (ℕ-discrete k 1)
     where
-      go : Dec (k ≡ 1) → limit card k ≤ word card (orbit card xs (suc t))
+      go : Dec (k ≡ 1) → limit card k ≤ wordAt card xs t
       go (yes e) = absurd (omega (arith, taken-none e))
       go (no n) = passed-over t (omega (arith, taken-tried n))
 

@@ -15,7 +15,7 @@ use Rattle.cycle.specs.Fair.{largestMultiple}
 use Rattle.cycle.proofs.First.{first-le}
 use Rattle.tsc.specs.declared.Card.{Card}
 use Rattle.tsc.specs.Step.{orbit}
-use Rattle.tsc.specs.Word.{word, orbitWords}
+use Rattle.tsc.specs.Word.{word, wordAt, orbitWords}
 use Rattle.tsc.proofs.Word.{orbitWords-at}
 use Rattle.samples.specs.Samples.{mostTaken, tried, taken, drawnRank}
 use Rattle.samples.proofs.Tried.{Over, over-all, taken-none, taken-tried, alone}
@@ -60,7 +60,7 @@ module _ (card : Card) (xs : List ℕ) (k : ℕ) where
   unfolding over tried first tabulate orbitWords
   row-tried = refl
 
-  row-word : getD row passed 0 ≡ word card (orbit card xs (suc passed))
+  row-word : getD row passed 0 ≡ wordAt card xs passed
   unfolding over
   row-word = orbitWords-at card xs mostTaken passed (omega (arith, first-le (mostTaken - 1) (keptAt (card .width) row k)))
 

@@ -11,27 +11,24 @@ use Rattle.tsc.specs.declared.Card.{Card}
 use Rattle.tsc.specs.Step.{step, orbit}
 use Rattle.tsc.specs.Coverage.{IsState, states, stepBack, Covers, WellFormed, FullPeriod}
 use Rattle.tsc.proofs.Step.{step-in-range, orbit-in-range}
-use Rattle.tsc.proofs.Coverage.{coverage}
+use Rattle.tsc.proofs.Coverage.{period-covers}
 
 pub step-back-in-range : (card : Card) (xs : List ℕ) → IsState card xs → IsState card (stepBack card xs)
 unfolding stepBack
 step-back-in-range card xs sx = orbit-in-range card xs sx (states card - 1)
 
 module _ (card : Card) (wf : WellFormed card) (ok : FullPeriod card) where
-  covers : (xs : List ℕ) → IsState card xs → Covers card xs
-  covers xs sx = coverage card wf xs sx .1 ok
-
   last : suc (states card - 1) ≡ states card
   last = omega (arith, pow-pos (card .words * card .width))
 
   pub step-of-back : (xs : List ℕ) → IsState card xs → step card (stepBack card xs) ≡ xs
   unfolding iterate stepBack
-  step-of-back xs sx = ap (orbit card xs) last ∙ covers xs sx .returns
+  step-of-back xs sx = ap (orbit card xs) last ∙ period-covers card wf ok xs sx .returns
 
   pub back-only : (xs ys : List ℕ) → IsState card xs → IsState card ys → step card xs ≡ ys → xs ≡ stepBack card ys
   unfolding iterate stepBack
   back-only xs ys sx sy e =
-      let c = covers ys sy in
+      let c = period-covers card wf ok ys sy in
       let r = c .once xs sx in
       go c (r .0) (r .1) (r .2) (decLt (suc (r .0)) (states card))
     where

@@ -3,7 +3,7 @@
 use mathlib.Core.Path.{_≡_, refl, sym, ap, ap₂, _∙_, subst, fun-ext}
 use mathlib.Core.Bool.{Bool, true, false, cond}
 use mathlib.Core.List.{List}
-use Prim.Native.Nat.{ℕ, suc, _+_, _-_, _*_, _/_, _%_, _^_, _≤_, _<_}
+use Prim.Native.Nat.{ℕ, _+_, _-_, _*_, _/_, _%_, _^_, _≤_, _<_}
 use native.Mathlib.Nat.{add-comm, add-zero, zero-add, zero-mul, mul-mod-left, mod-lt, zero-mod, zero-div, mod-eq-of-lt, add-mod-mod, add-mod-right}
 use native.Mathlib.Numerals.{add-one}
 use native.Mathlib.Decide.{decLt}
@@ -18,8 +18,7 @@ use Rattle.cycle.proofs.Digits.{length-tabulate, getD-tabulate}
 use Rattle.cycle.proofs.Sum.{sum-ext, sum-zero, sum-split}
 use Rattle.tsc.specs.declared.Card.{Card}
 use Rattle.tsc.specs.Constants.{filterWords}
-use Rattle.tsc.specs.Step.{orbit}
-use Rattle.tsc.specs.Word.{_⊞_, _⋘_, filter1, filter2, further, filtered, word, orbitWords}
+use Rattle.tsc.specs.Word.{_⊞_, _⋘_, filter1, filter2, further, filtered, word, wordAt, orbitWords}
 
 module _ (n x k : ℕ) (pos : 0 < n) (lx : x < 2 ^ n) where
   -- r places to the left, d places to the right
@@ -148,6 +147,6 @@ module _ (card : Card) (xs : List ℕ) (count : ℕ) where
   unfolding orbitWords
   length-orbitWords = length-tabulate count _
 
-  pub orbitWords-at : (t : ℕ) → t < count → getD (orbitWords card xs count) t 0 ≡ word card (orbit card xs (suc t))
+  pub orbitWords-at : (t : ℕ) → t < count → getD (orbitWords card xs count) t 0 ≡ wordAt card xs t
   unfolding orbitWords
   orbitWords-at t l = getD-tabulate count _ t l
