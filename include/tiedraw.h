@@ -113,7 +113,8 @@ uint8_t tiedraw_step(const uint8_t *card, size_t card_len, uint32_t *state, size
 /* One step back, to the one state whose step the given state is: 0, or refusal 1 to 11. */
 uint8_t tiedraw_step_back(const uint8_t *card, size_t card_len, uint32_t *state, size_t words);
 
-/* One step, and the word of the state that it comes to; or refusal 1 to 11. */
+/* One step, and the word of the state that it comes to; or refusal 1 to 11. Proved: with words of 32 bits the words
+   drawn one after the other, from any state, begin anew after 2^(m n) draws and no sooner. */
 tiedraw_word tiedraw_draw(const uint8_t *card, size_t card_len, uint32_t *state, size_t words);
 
 /* Writes `count` words into the strip from `place` on, as so many draws would give them, and moves the state as they
