@@ -48,7 +48,7 @@ pub length-bytesOf : (f : Field) (xs : List ℕ) → length (bytesOf f xs) ≡ e
 unfolding bytesOf
 length-bytesOf f xs = length-tabulate (extent f) _
 
-numbers-bytesOf : (f : Field) (xs rest : List ℕ) → length xs ≡ f .count → ((i : ℕ) → i < length xs → getD xs i 0 < 256 ^ f .size)
+pub numbers-bytesOf : (f : Field) (xs rest : List ℕ) → length xs ≡ f .count → ((i : ℕ) → i < length xs → getD xs i 0 < 256 ^ f .size)
     → numbers f (bytesOf f xs ++ rest) ≡ xs
 unfolding numbers bytesOf
 numbers-bytesOf f xs rest c h =
@@ -65,7 +65,7 @@ numbers-bytesOf f xs rest c h =
         fromDigits-ext 256 (f .size) _ (λ i. getD xs j 0 / 256 ^ i % 256) (λ i li. byte j i lj li)
         ∙ fromDigits-of 256 (f .size) (getD xs j 0) (lit< tt) ∙ mod-eq-of-lt (h j (omega arith))
 
-bytesOf-numbers : (f : Field) (part : List ℕ) → ((i : ℕ) → getD part i 0 < 256) → extent f ≤ length part
+pub bytesOf-numbers : (f : Field) (part : List ℕ) → ((i : ℕ) → getD part i 0 < 256) → extent f ≤ length part
     → bytesOf f (numbers f part) ≡ take (extent f) part
 unfolding numbers bytesOf
 bytesOf-numbers f part b l = tabulate-ext (extent f) _ (λ p. getD part p 0) byte ∙ tabulate-getD (extent f) part l
@@ -111,7 +111,7 @@ written-read f part xs rest cs fit room none = go (same xs (f .absent)) refl
 
 -- ---- the map: the number with these bits
 
-flag : (t : Bool) (x : ℕ) → (cond t x 0 ≡ cond t 1 0 * x) × (cond t 1 0 < 2) × (eqb (cond t 1 0) 1 ≡ t)
+pub flag : (t : Bool) (x : ℕ) → (cond t x 0 ≡ cond t 1 0 * x) × (cond t 1 0 < 2) × (eqb (cond t 1 0) 1 ≡ t)
 flag true x = (sym (one-mul x), lit< tt, refl)
 flag false x = (sym (zero-mul x), lit< tt, refl)
 

@@ -70,6 +70,12 @@ tooManyTies = numbered 18 tt  -- too many equals
 abbrev pub noSuchChange : Refusal
 noSuchChange = numbered 19 tt  -- firm
 
+abbrev pub malformedRecord : Refusal
+malformedRecord = numbered 20 tt  -- torn
+
+abbrev pub truckMismatch : Refusal
+truckMismatch = numbered 21 tt  -- other truck
+
 -- a refusal and whether its condition holds
 pub record Check : Type 0 where
   pub refusal : Refusal

@@ -38,3 +38,7 @@ pub const SPAN_OUT_OF_BOUNDS: u8 = 17;
 pub const TOO_MANY_TIES: u8 = 18;
 // firm
 pub const NO_SUCH_CHANGE: u8 = 19;
+// torn
+pub const MALFORMED_RECORD: u8 = 20;
+// other truck
+pub const TRUCK_MISMATCH: u8 = 21;

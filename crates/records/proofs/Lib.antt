@@ -1,0 +1,5 @@
+-- What is proved of records.
+pub mod Fields
+pub mod Reading
+pub mod Writing
+pub mod Orders
