@@ -13,7 +13,7 @@ use Rattle.card_format.specs.Fields.{Field, field, fieldCount, tableBit, extent
 use Rattle.card_format.specs.Writing.{numbersOf, isWritten, fieldBytes}
 use Rattle.card_format.proofs.Fields.{count-one}
 use Rattle.card_format.proofs.Writing.{byteAt}
-use Rattle.card_encode.specs.LowBytes.{lowBytes}
+use Rattle.card_fields.specs.LowBytes.{lowBytes}
 
 -- a number's bytes are its digits
 bytesOf-one : (f : Field) (x : ℕ) → f .count ≡ 1 → bytesOf f (x ∷ []) ≡ lowBytes x (extent f)

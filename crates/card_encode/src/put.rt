@@ -8,9 +8,10 @@ ghost use lib.ListN.{length, take, drop};
 ghost use Rattle.tsc.specs.Constants.{mostWords};
 ghost use Rattle.card_format.specs.Fields.{fieldCount, mostCardBytes};
 ghost use Rattle.card_format.specs.Writing.{isWritten, fieldBytes, mapTo, written, inRange};
-ghost use Rattle.card_encode.specs.LowBytes.{lowBytes};
+ghost use Rattle.card_fields.specs.LowBytes.{lowBytes};
 use super::values::number_of;
 use card_fields::field;
+use card_fields::number;
 use card_table::table;
 use tsc::Card;
 use tsc::TABLE_SIZE;
@@ -61,20 +62,6 @@ pub fn outline_of(card: Card) -> Outline
     o
 }
 
-// A number of `size` bytes, low byte first, at the start of the part.
-fn put_number(x: u32, size: usize, part: &mut [u8])
-    requires { ⌜ size ≤ length (now part) ⌝ }
-    ensures { λ _. ⌜ now (part .exit) ≡ lowBytes x size ++ drop size (now (part .entry)) ⌝ }
-{
-    let mut rest = x;
-    let mut i = 0;
-    while i < size {
-        part[i] = (rest % 256) as u8;
-        rest = rest / 256;
-        i += 1;
-    }
-}
-
 // The first `size` entries of a table, at the start of the part.
 fn put_table(table: &[u8; TABLE_SIZE], size: usize, part: &mut [u8])
     requires { ⌜ (size ≤ 2 ^ mostWords) × (length (now table) ≡ 2 ^ mostWords) × (size ≤ length (now part)) ⌝ }
@@ -102,7 +89,7 @@ fn put_field(card: Card, k: usize, part: &mut [u8]) -> usize
         put_table(&card.table, size, part);
         return size;
     }
-    put_number(number_of(card, k), size, part);
+    number::put_number(number_of(card, k), size, part);
     size
 }
 

@@ -1,2 +1,3 @@
 -- What inner functions answer.
+pub mod LowBytes
 pub mod Number

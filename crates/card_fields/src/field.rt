@@ -9,6 +9,7 @@ ghost use Rattle.tsc.specs.Constants.{mostWords};
 ghost use Rattle.card_format.specs.Fields.{field, fieldCount, tableBit, extent, allowed, same};
 use card_table::table::entries;
 use tsc::DEFAULT_WORDS;
+use tsc::FEWEST_WORDS;
 use tsc::MOST_WORDS;
 
 pub const FIELDS: usize = 8;
@@ -31,7 +32,7 @@ pub const SUM_TERM: usize = 7;
 
 const SIZE: [usize; FIELDS] = [1, 1, 0, 1, 1, 4, 1, 1];
 
-const LEAST: [u32; FIELDS] = [2, 2, 0, 0, 0, 0, 1, 0];
+const LEAST: [u32; FIELDS] = [FEWEST_WORDS, 2, 0, 0, 0, 0, 1, 0];
 
 const MOST: [u32; FIELDS] = [MOST_WORDS as u32, 32, 0, 255, 255, 0xffff_ffff, 2, 1];
 

@@ -2,4 +2,5 @@
 pub mod Fields
 pub mod Reading
 pub mod Writing
+pub mod Full
 pub mod Orders

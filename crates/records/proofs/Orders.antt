@@ -1,9 +1,10 @@
 -- THE CAB LEARNS NOTHING ELSE: what it is told depends on whether the record is whole, its truck and its shovel, and on nothing else; and on all of these.
 use mathlib.Core.Path.{_≡_, refl, sym, ap, _∙_}
+use mathlib.Core.Logic.{_≢_}
 use mathlib.Core.Bool.{Bool, true, false, cond, not, true≢false}
 use mathlib.Core.List.{List}
 use Prim.Native.Nat.{ℕ}
-use borrow.Author.Tests.{eqb-true, eq-eqb}
+use borrow.Author.Tests.{eqb-true, eq-eqb, ne-eqb}
 use lib.Dec.{eqb}
 use Rattle.refusals.specs.Refusals.{firstOf, malformedRecord, truckMismatch}
 use Rattle.records.specs.declared.Order.{Order}
@@ -24,6 +25,17 @@ order-heard cab bytes = go (isWhole bytes) (eqb cab (recordOf bytes .truck))
     go false true = refl
     go false false = refl
 
+-- by case
+pub order-torn : (cab : ℕ) (bytes : List ℕ) → isWhole bytes ≡ false → orderFor cab bytes ≡ Refused 20
+order-torn cab bytes t = order-heard cab bytes ∙ rw t refl
+
+pub order-other : (cab : ℕ) (bytes : List ℕ) → Whole bytes → cab ≢ recordOf bytes .truck → orderFor cab bytes ≡ Refused 21
+order-other cab bytes w ne = order-heard cab bytes ∙ rw (w, ne-eqb cab _ ne) refl
+
+pub order-own : (cab : ℕ) (bytes : List ℕ) → Whole bytes → cab ≡ recordOf bytes .truck → orderFor cab bytes ≡ Shovel (recordOf bytes .shovel)
+order-own cab bytes w e = order-heard cab bytes ∙ rw (w, eq-eqb cab _ e) refl
+
+-- two whole records with the same truck and shovel: every cab hears the same
 pub cabs-alike : (a b : List ℕ) → SameOrder a b → (cab : ℕ) → orderFor cab a ≡ orderFor cab b
 cabs-alike a b h cab =
     order-heard cab a

@@ -10,12 +10,13 @@ use lib.Seq.{getD-drop, take-all, take-suc, take-add}
 use Rattle.cycle.specs.Notation.{sum, zeroFilled}
 use Rattle.cycle.proofs.Sum.{sum-ext}
 use Rattle.tsc.specs.Constants.{mostWords}
+use Rattle.refusals.specs.Refusals.{firstOf}
 use Rattle.card_format.specs.Fields.{Bytes, extent, numbers, bytesOf, same}
 use Rattle.card_format.specs.Reading.{present}
 use Rattle.card_format.proofs.Lists.{take-filled}
 use Rattle.card_format.proofs.Bytes.{length-one, byte-lt, bytesOf-numbers, map-bit}
 use Rattle.records.specs.Fields.{recordFields, recordField, recordFieldCount, bitCount, bitOf, startOf, numbersAt, wordCountOf, recordNumbers}
-use Rattle.records.specs.Reading.{Whole, optional, recordOf}
+use Rattle.records.specs.Reading.{isWhole, Whole, optional, recordOf, noRecord, readingRecord}
 use Rattle.records.specs.Writing.{given, wordCount, stateOf, numbersOf, isGiven, fieldBytes, encodedTo, encoded}
 use Rattle.records.proofs.Fields.{each-field, bit-below, start-suc, start-before, length-numbersAt, Form, whole-form, always, count-number}
 
@@ -91,8 +92,13 @@ module _ (bytes : List ℕ) (f : Form bytes) where
           → cond here (bytesOf (recordField c k) (recordNumbers bytes k)) [] ≡ take (cond here (extent (recordField c k)) 0) (drop (startOf c bytes k) bytes)
       go true e =
           let room : startOf c bytes k + extent (recordField c k) ≤ length bytes =
-          omega (arith, f .ends, start-before c bytes (suc k) recordFieldCount l, start-suc c bytes k,
-          ap (λ (h : Bool). cond h (extent (recordField c k)) 0) e) in
+          omega (
+            arith,
+            f .ends,
+            start-before c bytes (suc k) recordFieldCount l,
+            start-suc c bytes k,
+            ap (λ (h : Bool). cond h (extent (recordField c k)) 0) e,
+          ) in
           rw e (bytesOf-numbers (recordField c k) _ (λ i. rw getD-drop (byte-lt bytes b _)) (omega (arith, length-drop (startOf c bytes k) bytes)))
       go false e = refl
 
@@ -116,3 +122,12 @@ whole-encoded bytes b w =
 -- two whole records with the same fields, given and lacking, are the same bytes
 pub whole-unique : (a b : List ℕ) → Bytes a → Bytes b → Whole a → Whole b → recordOf a ≡ recordOf b → a ≡ b
 whole-unique a b ha hb wa wb e = sym (whole-encoded a ha wa) ∙ ap encoded e ∙ whole-encoded b hb wb
+
+-- what the desk is answered
+pub reading-torn : (bytes : List ℕ) → isWhole bytes ≡ false → readingRecord bytes ≡ record { refusal = 20; values = noRecord }
+unfolding readingRecord firstOf
+reading-torn bytes t = rw t refl
+
+pub reading-whole : (bytes : List ℕ) → Whole bytes → readingRecord bytes ≡ record { refusal = 0; values = recordOf bytes }
+unfolding readingRecord firstOf
+reading-whole bytes w = rw w refl

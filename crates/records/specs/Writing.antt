@@ -3,7 +3,7 @@ use mathlib.Core.Path.{_≡_}
 use mathlib.Core.Bool.{Bool, true, cond, not}
 use mathlib.Core.List.{List, [], _∷_, _++_}
 use Prim.Native.Nat.{ℕ, zero, suc, _^_}
-use lib.ListN.{getD, take}
+use lib.ListN.{length, getD, take}
 use Rattle.cycle.specs.Notation.{sum, every}
 use Rattle.card_format.specs.Fields.{bytesOf, allowed, same}
 use Rattle.records.specs.declared.Optional.{Optional}
@@ -48,3 +48,15 @@ encoded r = encodedTo r recordFieldCount
 pub record Fits (r : Record) : Type 0 where
   pub room : every recordFieldCount (λ k. allowed (recordField (wordCount r) k) (numbersOf r k)) ≡ true
   pub state : r .state ≡ heldState (stateOf r)
+
+-- the fields of a record that lacks none
+abbrev pub fullRecord : ℕ → ℕ → ℕ → ℕ → List ℕ → Record
+fullRecord truck shovel ties taken xs =
+    record {
+      truck = truck;
+      shovel = shovel;
+      ties = Value ties;
+      taken = Value taken;
+      words = Value (length xs);
+      state = heldState xs;
+    }

@@ -1,5 +1,8 @@
 // The types that a generator is made of. What they mean is in specs/, and what holds of them in proofs/.
 
+// The fewest words of a state.
+pub const FEWEST_WORDS: u32 = 2;
+
 // The most words of a state, and the entries of a table for that many.
 pub const MOST_WORDS: usize = 8;
 

@@ -10,7 +10,7 @@ use Rattle.tsc.specs.Constants.{mostWords}
 use Rattle.tsc.specs.declared.Card.{Card}
 use Rattle.card_format.specs.Fields.{field, fields, tableBit, extent}
 use Rattle.card_format.specs.Writing.{isWritten, fieldBytes, inRange}
-use Rattle.card_encode.specs.LowBytes.{lowBytes}
+use Rattle.card_fields.specs.LowBytes.{lowBytes}
 use Rattle.card_format.proofs.Writing.{range-words, length-fieldBytes, extent-few, fieldBytes-none, fieldBytes-table}
 use Rattle.card_encode.proofs.FieldBytes.{fieldBytes-one}
 use borrow.Author.Needs.{needs}

@@ -7,10 +7,10 @@ use native.Mathlib.Omega.{arith}
 use lib.ListN.{length, getD, set, drop}
 use lib.Seq.{take-all}
 use Rattle.cycle.proofs.Digits.{length-tabulate, getD-tabulate}
-use Rattle.card_encode.specs.LowBytes.{lowBytes}
+use Rattle.card_fields.specs.LowBytes.{lowBytes}
 use Rattle.card_format.proofs.Lists.{over, over-suc, length-over}
-use Rattle.card_encode.proofs.put.put_number.Statement.{statement}
-use Rattle.card_encode.proofs.put.put_number.Tie as tie
+use Rattle.card_fields.proofs.number.put_number.Statement.{statement}
+use Rattle.card_fields.proofs.number.put_number.Tie as tie
 
 size-low : (x size : ℕ) → length (lowBytes x size) ≡ size
 unfolding lowBytes

@@ -1,4 +1,4 @@
--- What inner functions of the writer answer. Only their contracts cite it; the public contract does without.
+-- A number as bytes, low byte first. Only the contracts of inner functions cite it; the public ones do without.
 use mathlib.Core.List.{List}
 use Prim.Native.Nat.{ℕ, _/_, _%_, _^_}
 use Rattle.cycle.specs.Notation.{tabulate}

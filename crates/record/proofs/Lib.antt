@@ -1,0 +1,3 @@
+-- Laws for reading and writing records.
+pub mod Places
+pub mod Words
