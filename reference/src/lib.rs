@@ -12,6 +12,7 @@ mod large_tests;
 pub mod margin;
 pub mod period;
 pub mod pick;
+pub mod record;
 pub mod replay;
 
 /// The table of TSC-1, document 002 (14).

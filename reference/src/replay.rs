@@ -15,17 +15,22 @@
 //! | `pick CARD STATE SHOVELS TIMES` | `shovel S ties K taken T state w,..` |
 //! | `margin CARD STATE SHOVELS TIMES` | `change S lowered D shovel X ties K taken T`, or `raised` |
 //! | `write m n T a b C filter sum PAGELEN` | `length L page HEX` |
+//! | `recpick CARD STATE SHOVELS TIMES TRUCK PAGELEN` | `shovel S ties K taken T page HEX state w,..` |
+//! | `desk RECORD` | `truck N shovel S ties K taken T state w,..`, `absent` for one that lacks |
+//! | `cab TRUCK RECORD` | `shovel S` |
 //!
 //! All but `check` may answer `refused V` instead, with ` CHANGED` behind it if the lent state,
 //! strip or page isn't as it was. A page is lent with every byte a5 and shown whole. A margin is
 //! lent the state to read only; S is the shovel whose time is changed by D, X that of the pick.
 //!
-//! CARD is pairs of hex digits, at most 600 of them. Lists have commas: STATE and STRIP are words
-//! of 32 bits in hex; SHOVELS, TIMES and T decimal numbers of 16, of 32 and of 8 bits. A list has
-//! at most 600 numbers, T at most the writer's 256; entries that are not given are 0. `-` is an
-//! empty string or list. C has 32 bits, in decimal or in hex after `0x`; PLACE and COUNT of `strip`
-//! have 32 bits; COUNT of `words` is at most 1024, PAGELEN at most 600; all other single numbers
-//! have 8 bits. Hex digits may have either case, numbers leading zeros.
+//! CARD and RECORD are pairs of hex digits, at most 600 of them. Lists have commas: STATE and STRIP
+//! are words of 32 bits in hex; SHOVELS, TIMES and T decimal numbers of 16, of 32 and of 8 bits. A
+//! list has at most 600 numbers, T at most the writer's 256; entries that are not given are 0. `-`
+//! is an empty string or list. C has 32 bits, in decimal or in hex after `0x`; PLACE and COUNT of
+//! `strip` have 32 bits, TRUCK has 16; COUNT of `words` is at most 1024, PAGELEN at most 600; all
+//! other single numbers have 8 bits. Hex digits may have either case, numbers leading zeros.
+
+mod records;
 
 use crate::fill::call_fill;
 use crate::margin::call_margin;
@@ -33,11 +38,12 @@ use crate::pick::{call_pick, Picked};
 use crate::{
     accept_call, call_draw, call_step, call_step_back, call_write, check, read, Card, TABLE_ENTRIES,
 };
+use records::{cab_answer, desk_answer, recorded_answer};
 use std::fmt::Display;
 
 /// The most bytes of an input.
 pub const MOST_INPUT: usize = 4 << 20;
-/// The most bytes of a card or a page, and the most numbers of a list.
+/// The most bytes of a card, a record or a page, and the most numbers of a list.
 const MOST_LISTED: usize = 600;
 /// The most words of one case.
 const MOST_WORDS: usize = 1024;
@@ -99,15 +105,27 @@ fn replay(line: &[u8]) -> Option<String> {
             };
             write_answer(&values, limited(page, MOST_LISTED)?)
         }
+        [b"recpick", c, s, shovels, times, truck, page] => {
+            let (truck, page) = (number(truck, 10)?, limited(page, MOST_LISTED)?);
+            let call = |card: &[u8], state: &[u32], shovels: &[u16], times: &[u32]| {
+                recorded_answer(card, state, shovels, times, truck, page)
+            };
+            on_lists(call, c, s, shovels, times)?
+        }
+        [b"desk", record] => desk_answer(&card(record)?),
+        [b"cab", truck, record] => cab_answer(number(truck, 10)?, &card(record)?),
         _ => return None,
     })
 }
 
-/// The answer of a call with a card, a state, shovels and times.
-type OnLists = fn(&[u8], &[u32], &[u16], &[u32]) -> String;
-
-/// The answer to a case with these fields.
-fn on_lists(call: OnLists, c: &[u8], s: &[u8], shovels: &[u8], times: &[u8]) -> Option<String> {
+/// The answer to a case with these fields, by a call with a card, a state, shovels and times.
+fn on_lists(
+    call: impl Fn(&[u8], &[u32], &[u16], &[u32]) -> String,
+    c: &[u8],
+    s: &[u8],
+    shovels: &[u8],
+    times: &[u8],
+) -> Option<String> {
     let (card, state) = (card(c)?, state(s)?);
     let shovels: Vec<u16> = list(shovels, 10, MOST_LISTED)?;
     let times: Vec<u32> = list(times, 10, MOST_LISTED)?;
@@ -169,7 +187,7 @@ fn table(field: &[u8]) -> Option<Vec<u8>> {
     Some(entries)
 }
 
-/// The bytes of a card: pairs of hex digits, or `-`.
+/// The bytes of a card or a record: pairs of hex digits, or `-`.
 pub(crate) fn card(field: &[u8]) -> Option<Vec<u8>> {
     if field == b"-" {
         return Some(Vec::new());
@@ -305,8 +323,13 @@ fn write_answer(values: &Card, page_length: usize) -> String {
     let mut page = vec![LENT; page_length];
     match call_write(values, &mut page) {
         Ok(length) => format!("length {length} page {}", hex(&page)),
-        Err(refusal) => refused(refusal, page.iter().all(|&byte| byte == LENT)),
+        Err(refusal) => refused(refusal, is_as_lent(&page)),
     }
+}
+
+/// True when a page is as it was lent.
+fn is_as_lent(page: &[u8]) -> bool {
+    page.iter().all(|&byte| byte == LENT)
 }
 
 #[cfg(test)]
@@ -318,7 +341,7 @@ mod tests {
     }
 
     /// Rows of a line and its answer.
-    fn assert_answers(rows: &str) {
+    pub(super) fn assert_answers(rows: &str) {
         for row in rows.lines() {
             let (line, answer) = row.split_once(" = ").unwrap();
             assert_eq!(text(line), answer, "{line}");
@@ -501,6 +524,8 @@ write 2 2 1,2,3,0 1 2 1 1 1 10 = refused 16",
             Check 00|checks 00|00|check\t00|read|step 00|step 00 0 0|words 00 0,0,0,0|\
             strip 00 0,0,0,0 - 0|strip 00 0,0,0,0 - 0 0 0|strip 00 0,0,0,0  0 0|\
             pick 00 0,0,0,0 1|pick 00 0,0,0,0 1 1 1|write 2 2 1,2,3,0 1 2 1 1 1|\
+            recpick|recpick 00 0,0,0,0 1 1 1|recpick 00 0,0,0,0 1 1 1 24 0|recpick 00 0,0,0,0 1 1  24|\
+            desk|desk |desk 03 03|desk  03|Desk 03|cab|cab 1|cab 03|cab 1 03 03|cab 1  03|cab  03|\
             margin|margin 00 0,0,0,0 1|margin 00 0,0,0,0 1 1 1|margin 00 0,0,0,0  1|Margin 00 0 1 1|\
             write 2 2 1,2,3,0 1 2 1 1 1 12 0|chéck 00|check 00#";
         for line in lines.split('|') {
@@ -517,7 +542,7 @@ write 2 2 1,2,3,0 1 2 1 1 1 10 = refused 16",
     }
 
     /// Each decimal field, the largest number it takes, and whether it is a list.
-    const DECIMALS: [(&str, u64, bool); 16] = [
+    const DECIMALS: [(&str, u64, bool); 21] = [
         ("words 00 0,0,0,0 @", 1024, false),
         ("strip 00 0,0,0,0 1 @ 1", 4294967295, false),
         ("strip 00 0,0,0,0 1 0 @", 4294967295, false),
@@ -534,6 +559,11 @@ write 2 2 1,2,3,0 1 2 1 1 1 10 = refused 16",
         ("write 2 2 0 1 2 1 @ 1 12", 255, false),
         ("write 2 2 0 1 2 1 1 @ 12", 255, false),
         ("write 2 2 0 1 2 1 1 1 @", 600, false),
+        ("recpick 00 0,0,0,0 @ 1 1 24", 65535, true),
+        ("recpick 00 0,0,0,0 1 @ 1 24", 4294967295, true),
+        ("recpick 00 0,0,0,0 1 1 @ 24", 65535, false),
+        ("recpick 00 0,0,0,0 1 1 1 @", 600, false),
+        ("cab @ 0301020304", 65535, false),
     ];
 
     #[test]
@@ -557,9 +587,16 @@ write 2 2 1,2,3,0 1 2 1 1 1 10 = refused 16",
 
     #[test]
     fn syntax_of_hex() {
-        assert_syntax("check @", "- 00 aB Ab 0123456789abcdefABCDEF", false);
-        assert_syntax("check @", "0 000 0x00 0g -- 00, 00,00 +0 00- é", true);
-        for line in ["draw 00 @", "strip 00 0,0,0,0 @ 0 0", "margin 00 @ 1 1"] {
+        for line in ["check @", "desk @", "cab 1 @", "recpick @ - - - 1 24"] {
+            assert_syntax(line, "- 00 aB Ab 0123456789abcdefABCDEF", false);
+            assert_syntax(line, "0 000 0x00 0g -- 00, 00,00 +0 00- é", true);
+        }
+        for line in [
+            "draw 00 @",
+            "strip 00 0,0,0,0 @ 0 0",
+            "margin 00 @ 1 1",
+            "recpick 00 @ 1 1 1 24",
+        ] {
             assert_syntax(
                 line,
                 "- 0 f,F,00 FFFFFFFF,ffffffff,0000000000000ffffffff",
@@ -615,6 +652,12 @@ write 2 2 1,2,3,0 1 2 1 1 1 10 = refused 16",
                 format!("margin 00 0,0,0,0 {list} {list}"),
                 format!("margin 00 0,0,0,0 {list} -"),
                 format!("margin 00 0,0,0,0 - {list}"),
+                format!("recpick {card} 0,0,0,0 1 1 1 24"),
+                format!("recpick 00 {list} 1 1 1 24"),
+                format!("recpick 00 0,0,0,0 {list} - 1 24"),
+                format!("recpick 00 0,0,0,0 - {list} 1 24"),
+                format!("desk {card}"),
+                format!("cab 1 {card}"),
             ] {
                 assert_eq!(text(&line) == "syntax", syntax, "{line}");
             }
