@@ -2,15 +2,16 @@
 //!
 //! The walks (`step`, `back`, `draw`, `words`), the picks, the cards (`check`, `read`), the writer
 //! (`write`), the form of a line, the strips (`strip`), the fair ranks of picks, the margins
-//! (`margin`) and the cards of five to eight words have a module each, in the order in which they
-//! came, so that earlier cases stay as they are. States that go on from case to case come from this
-//! crate's own calls.
+//! (`margin`), the cards of five to eight words and the records (`recpick`, `desk`, `cab`) have a
+//! module each, in the order in which they came, so that earlier cases stay as they are. States
+//! that go on from case to case come from this crate's own calls.
 
 mod cards;
 mod large;
 mod margins;
 mod picks;
 mod ranks;
+mod records;
 mod strips;
 mod syntax;
 mod walks;
@@ -132,6 +133,7 @@ pub fn cases() -> Vec<u8> {
     ranks::make(&mut maker);
     margins::make(&mut maker);
     large::make(&mut maker);
+    records::make(&mut maker);
     maker.lines
 }
 
@@ -160,6 +162,7 @@ mod tests {
         rows.iter().filter(legal).collect()
     }
 
+    /// The refusals of the calls that the module `large` has for each number of words.
     pub fn refusals_of_calls() -> [(&'static str, Vec<u8>); 10] {
         let state: Vec<u8> = (1..=11).collect();
         [
@@ -176,10 +179,19 @@ mod tests {
         ]
     }
 
+    /// Those of recorded picks, desk and cab.
+    fn refusals_of_records() -> [(&'static str, Vec<u8>); 3] {
+        [
+            ("recpick", (1..=16).chain([18]).collect()),
+            ("desk", vec![20]),
+            ("cab", vec![20, 21]),
+        ]
+    }
+
     #[test]
     fn every_refusal_of_every_call() {
         let rows = answered();
-        for (call, refusals) in refusals_of_calls() {
+        for (call, refusals) in refusals_of_calls().into_iter().chain(refusals_of_records()) {
             let word = if call == "check" {
                 "verdict"
             } else {
@@ -197,8 +209,8 @@ mod tests {
         assert!(rows.iter().all(|(_, answer)| !answer.contains("CHANGED")));
     }
 
-    /// As many as the programs had that these cases replace, and more picks; strips and margins are
-    /// new.
+    /// As many as the programs had that these cases replace, and more picks; strips, margins and
+    /// records are new.
     #[test]
     fn enough_of_each() {
         let rows = answered();
@@ -228,6 +240,10 @@ mod tests {
         assert!(of_call(&rows, "pick").len() >= 5_400);
         assert!(count("strip", "strip") >= 300 && count("strip", "refused 17") >= 100);
         assert!(count("margin", "change") >= 600 && count("margin", "refused 19") >= 30);
+        assert!(count("recpick", "shovel") >= 500 && count("recpick", "") >= 1_000);
+        assert!(count("desk", "truck") >= 120 && count("desk", "") >= 600);
+        assert!(count("cab", "shovel") >= 120 && count("cab", "refused 21") >= 120);
+        assert!(count("cab", "") >= 600);
         assert!(rows.iter().filter(|row| row.1 == "syntax").count() >= 1_000);
         assert!(cases().len() < 4_000_000);
     }

@@ -20,7 +20,7 @@ const CARDS: [&str; 9] = [
 ];
 
 /// Lists of shovels and times for the refusals, most of them short.
-const SHORT: [(&str, &str); 14] = [
+pub(super) const SHORT: [(&str, &str); 14] = [
     ("7,4", "300,300"),
     ("5,5", "1,1"),
     ("7", "-"),
@@ -59,7 +59,7 @@ const LONG: [(usize, usize, usize, u16, u32); 16] = [
 ];
 
 /// Cards and states for all the lists: accepted, too large a word, wrong counts of words.
-const CALLS: [(&str, &str); 7] = [
+pub(super) const CALLS: [(&str, &str); 7] = [
     (PROGRAM, "0,0"),
     (PROGRAM, "2,3"),
     (PROGRAM, "0,4"),

@@ -70,7 +70,12 @@ fn every_run(maker: &mut Maker) {
 /// A card with this filter and sum term, a state from which so many words are passed over, and the
 /// number of equals, one more than half of 2^n: L is the same, and almost half of the words are
 /// passed over. The powers are small, so that the search is quick.
-fn find(maker: &mut Maker, filter: u8, sum_term: u8, passed: usize) -> (Card, Vec<u32>, usize) {
+pub(super) fn find(
+    maker: &mut Maker,
+    filter: u8,
+    sum_term: u8,
+    passed: usize,
+) -> (Card, Vec<u32>, usize) {
     loop {
         let (words, width) = (2 + maker.below(3) as u8, 2 + maker.below(5) as u8);
         let mut card = maker.card(words, width);
@@ -171,12 +176,17 @@ fn too_many(maker: &mut Maker) {
 }
 
 pub(super) fn pick_list(maker: &mut Maker, card: &str, state: &str, list: &List) {
+    let (shovels, times) = shovels_and_times(list);
+    pick(maker, card, state, &shovels, &times);
+}
+
+pub(super) fn shovels_and_times(list: &List) -> (Vec<u16>, Vec<u32>) {
     let &(shovel_count, time_count, ties, last) = list;
     let mut shovels: Vec<u16> = (1..=shovel_count as u16).collect();
     shovels[shovel_count - 1] = last as u16;
     let mut times = vec![61; time_count];
     times[..ties].fill(60);
-    pick(maker, card, state, &shovels, &times);
+    (shovels, times)
 }
 
 #[cfg(test)]

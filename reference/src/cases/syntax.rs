@@ -196,13 +196,17 @@ pub fn blanks_and_counts(maker: &mut Maker, sample: &str) {
 
 /// The sample with each form in place of each field.
 pub fn forms(maker: &mut Maker, sample: &str) {
-    let fields: Vec<&[u8]> = sample.split(' ').map(str::as_bytes).collect();
-    for place in 1..fields.len() {
-        for form in FORMS {
-            let mut changed = fields.clone();
-            changed[place] = form;
-            maker.line(changed.join(&b' '));
-        }
+    for place in 1..sample.split(' ').count() {
+        forms_at(maker, sample, place);
+    }
+}
+
+/// The sample with each form in place of one field.
+pub fn forms_at(maker: &mut Maker, sample: &str, place: usize) {
+    let mut fields: Vec<&[u8]> = sample.split(' ').map(str::as_bytes).collect();
+    for form in FORMS {
+        fields[place] = form;
+        maker.line(fields.join(&b' '));
     }
 }
 
