@@ -59,7 +59,7 @@ module _ (truck shovel ties taken : ℕ) (xs : List ℕ) where
 
     pub length-full : length (encoded (fullRecord truck shovel ties taken xs)) ≡ recordBytes (length xs)
     length-full =
-        ap length encoded-full ∙ length-append (31 ∷ truck % 256 ∷ truck / 256 ∷ shovel % 256 ∷ shovel / 256 ∷ ties ∷ taken ∷ length xs ∷ []) _
+        ap length encoded-full ∙ length-append (31 ∷ truck % 256 ∷ truck / 256 ∷ shovel % 256 ∷ shovel / 256 ∷ ties ∷ taken ∷ length xs ∷ []) (bytesOf (wordField (length xs)) xs)
         ∙ ap (λ (n : ℕ). 8 + n) (length-bytesOf (wordField (length xs)) xs ∙ mul-comm (length xs) 4)
 
     -- they fit where the state has as many words as a card may ask for, each of 32 bits

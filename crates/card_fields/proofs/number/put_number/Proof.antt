@@ -6,22 +6,19 @@ use native.Mathlib.Numerals.{add-one}
 use native.Mathlib.Omega.{arith}
 use lib.ListN.{length, getD, set, drop}
 use lib.Seq.{take-all}
-use Rattle.cycle.proofs.Digits.{length-tabulate, getD-tabulate}
+use Rattle.cycle.proofs.Digits.{getD-tabulate}
 use Rattle.card_fields.specs.LowBytes.{lowBytes}
+use Rattle.card_fields.proofs.LowBytes.{length-lowBytes}
 use Rattle.card_format.proofs.Lists.{over, over-suc, length-over}
 use Rattle.card_fields.proofs.number.put_number.Statement.{statement}
 use Rattle.card_fields.proofs.number.put_number.Tie as tie
-
-size-low : (x size : ℕ) → length (lowBytes x size) ≡ size
-unfolding lowBytes
-size-low x size = length-tabulate size _
 
 byte : (x size i : ℕ) → i < size → getD (lowBytes x size) i 0 ≡ x / 256 ^ i % 256
 unfolding lowBytes
 byte x size i l = getD-tabulate size _ i l
 
 kept : (x size : ℕ) (part : List ℕ) (i : ℕ) → i ≤ size → i ≤ length part → length (over (lowBytes x size) part i) ≡ length part
-kept x size part i l h = length-over (lowBytes x size) part i (omega (arith, size-low x size)) h
+kept x size part i l h = length-over (lowBytes x size) part i (omega (arith, length-lowBytes x size)) h
 
 next : (x i : ℕ) → x / 256 ^ i / 256 ≡ x / 256 ^ (i + 1)
 next x i = div-div-eq-div-mul x (256 ^ i) 256 ∙ ap (λ (d : ℕ). x / d) (sym (ap (λ (k : ℕ). 256 ^ k) (add-one i) ∙ pow-suc 256 i))
@@ -58,7 +55,7 @@ loop-again c =
       omega arith,
       ap (λ (r : ℕ). r / 256) (l .inv .2) ∙ next (a .x) (l .i),
       ap₂ (λ (p : List ℕ) (b : ℕ). set p (l .i) b) (l .inv .3) (ap (λ (r : ℕ). r % 256) (l .inv .2) ∙ sym (byte (a .x) (a .size) (l .i) (omega arith)))
-          ∙ over-suc (lowBytes (a .x) (a .size)) (a .part .now) (l .i) (omega (arith, size-low (a .x) (a .size))) (omega arith),
+          ∙ over-suc (lowBytes (a .x) (a .size)) (a .part .now) (l .i) (omega (arith, length-lowBytes (a .x) (a .size))) (omega arith),
     )
 
 same-length : tie.Need-same-length Inv-loop μ-loop
@@ -73,7 +70,7 @@ returns c =
     let a = c .before .before .args in
     let e : l .i ≡ a .size = omega arith in
     l .inv .3 ∙ ap (over (lowBytes (a .x) (a .size)) (a .part .now)) e
-    ∙ ap (λ (p : List ℕ). p ++ drop (a .size) (a .part .now)) (take-all (a .size) (lowBytes (a .x) (a .size)) (omega (arith, size-low (a .x) (a .size))))
+    ∙ ap (λ (p : List ℕ). p ++ drop (a .size) (a .part .now)) (take-all (a .size) (lowBytes (a .x) (a .size)) (omega (arith, length-lowBytes (a .x) (a .size))))
 
 pub put-number-spec : {M : Type 1} → statement M
 put-number-spec =

@@ -1,67 +1,97 @@
+use mathlib.Core.Path.{_≡_, refl, sym, ap, _∙_}
+use mathlib.Core.Bool.{cond}
+use mathlib.Core.List.{List, [], _∷_}
 use borrow.Author.Needs.{needs}
+use borrow.Author.Tests.{not-true, not-false}
+use Prim.Native.Nat.{ℕ, zero, suc, _+_, _*_, _≤_, _<_}
+use native.Mathlib.Nat.{le-of-eq}
+use native.Mathlib.Omega.{arith}
+use lib.Dec.{lit<}
+use lib.ListN.{length, getD, drop}
+use Rattle.cycle.specs.Notation.{bit}
+use Rattle.cycle.proofs.Bits.{bit-lt}
+use Rattle.card_format.specs.Fields.{numbers}
+use Rattle.card_format.specs.Reading.{present}
+use Rattle.records.specs.declared.Optional.{Optional}
+use Rattle.records.specs.Reading.{Whole, optional, heldState, recordOf}
+use Rattle.records.proofs.Reading.{reading-torn, reading-whole}
+use Rattle.records.proofs.Full.{wordField}
+use Rattle.record.proofs.Places.{stateAt, Known, known, truck-bytes, shovel-bytes, ties-byte, taken-byte, words-byte, words-bytes}
 use Rattle.record.proofs.read.read_record.Statement.{statement}
 use Rattle.record.proofs.read.read_record.Tie as tie
-use Rattle.record.proofs.read.read_record.Reads as reads
-use Rattle.record.proofs.read.read_record.Lts as lts
-use Rattle.record.proofs.form.half_at.Reads as half-at-reads
-use Rattle.record.proofs.form.is_whole.Reads as is-whole-reads
-use Rattle.record.proofs.form.state_at.Reads as state-at-reads
-use Rattle.record.proofs.form.taken_at.Reads as taken-at-reads
-use Rattle.record.proofs.read.optional_at.Reads as optional-at-reads
-use Rattle.record.proofs.read.state_of.Reads as state-of-reads
-use Rattle.record.proofs.read.torn.Reads as torn-reads
 
--- src/read.rt:86:9
+whole : (c : tie.Else1) → Whole (c .before .before .before .args .bytes .now)
+whole c = sym (c .before .is-whole .ensures) ∙ not-false _ (c .if1 .left)
+
+facts : (c : tie.Else1) → Known (c .before .before .before .args .bytes .now)
+facts c = known _ (whole c)
+
+-- the state's field ends within the record
+within : (bytes : List ℕ) (at : ℕ) → Known bytes → at ≡ stateAt bytes → at < length bytes → at + 1 + 4 * getD bytes at 0 ≤ length bytes
+within bytes at k e l = rw e (go (bit 4 (getD bytes 0 0)) refl (bit-lt 4 (getD bytes 0 0)))
+  where
+    go : (d : ℕ) → bit 4 (getD bytes 0 0) ≡ d → d < 2 → stateAt bytes + 1 + 4 * getD bytes (stateAt bytes) 0 ≤ length bytes
+    go zero z h = absurd (omega (arith, k .none z))
+    go (suc zero) o h = le-of-eq (k .ends o)
+    go (suc (suc d)) x h = absurd (omega arith)
+
 is-whole-requires : tie.Need-is-whole-requires
 is-whole-requires c κs = search needs
 
--- src/read.rt:87:9
 torn-requires : tie.Need-torn-requires
 torn-requires c κs = search needs
 
--- src/read.rt:87:9
 returns : tie.Need-returns
-returns c = ?
+returns c = c .torn .ensures ∙ sym (reading-torn _ (sym (c .before .before .is-whole .ensures) ∙ not-true _ (c .before .if1 .taken)))
 
--- src/read.rt:89:15
 shared-slice-read-map : tie.Need-shared-slice-read-map
-shared-slice-read-map c = ?
+shared-slice-read-map c = omega (arith, facts (c .before) .long)
 
--- src/read.rt:90:9
 state-at-requires : tie.Need-state-at-requires
 state-at-requires c κs = search needs
 
--- src/read.rt:91:9
 state-of-requires : tie.Need-state-of-requires
-state-of-requires c κs = ?
+state-of-requires c κs =
+    let k = facts (c .before .before) in
+    let b = c .before .before .before .before .before .args .bytes .now in
+    let e = c .state-at .ensures in
+    (rw e (k .few), within b _ k e)
 
--- src/read.rt:93:16
 half-at-requires : tie.Need-half-at-requires
-half-at-requires c κs = ?
+half-at-requires c κs = omega (arith, facts (c .before .before .before) .long)
 
--- src/read.rt:94:17
 half-at-requires-2 : tie.Need-half-at-requires-2
-half-at-requires-2 c κs = ?
+half-at-requires-2 c κs = omega (arith, facts (c .before .before .before .before) .long)
 
--- src/read.rt:95:15
 optional-at-requires : tie.Need-optional-at-requires
-optional-at-requires c κs = ?
+optional-at-requires c κs = (lit< tt, λ o. omega (arith, facts (c .before .before .before .before .before) .long))
 
--- src/read.rt:96:53
 taken-at-requires : tie.Need-taken-at-requires
 taken-at-requires c κs = search needs
 
--- src/read.rt:96:16
 optional-at-requires-2 : tie.Need-optional-at-requires-2
-optional-at-requires-2 c κs = ?
+optional-at-requires-2 c κs = (lit< tt, λ o. omega (arith, facts (c .before .before .before .before .before .before .before) .long, c .taken-at .ensures))
 
--- src/read.rt:97:16
 optional-at-requires-3 : tie.Need-optional-at-requires-3
-optional-at-requires-3 c κs = ?
+optional-at-requires-3 c κs = (lit< tt, λ o. omega (arith, facts (c .before .before .before .before .before .before .before .before) .ends o, c .before .before .before .before .before .before .state-at .ensures))
 
--- src/read.rt:83:1
 returns-2 : tie.Need-returns-2
-returns-2 c = ?
+unfolding recordOf
+returns-2 c =
+    let o = c .before .before .before .before .before .before .before .before .before in
+    let k = facts o in
+    let low = k .low in
+    let b = c .before .before .before .before .before .before .before .before .before .before .before .before .args .bytes .now in
+    let at = c .before .before .before .before .before .before .before .state-at .ensures in
+    let optionalAt : ℕ → ℕ → Optional = λ j at. optional (cond (present b j) (getD b at 0 ∷ []) []) in
+    let truck = c .before .before .before .before .before .half-at .ensures ∙ sym (truck-bytes b low) in
+    let shovel = c .before .before .before .before .half-at2 .ensures ∙ sym (shovel-bytes b low) in
+    let ties = c .before .before .before .optional-at .ensures ∙ ap optional (sym (ties-byte b low)) in
+    let taken = c .before .optional-at2 .ensures ∙ ap (optionalAt 3) (c .before .before .taken-at .ensures) ∙ ap optional (sym (taken-byte b low)) in
+    let words = c .optional-at3 .ensures ∙ ap (optionalAt 4) at ∙ ap optional (sym (words-byte b low)) in
+    let state = c .before .before .before .before .before .before .state-of .ensures ∙ ap (λ (i : ℕ). heldState (numbers (wordField (getD b i 0)) (drop (i + 1) b))) at ∙ ap heldState (sym (words-bytes b k)) in
+    (λ i. record { refusal = 0; values = record { truck = truck i; shovel = shovel i; ties = ties i; taken = taken i; words = words i; state = state i } })
+    ∙ sym (reading-whole b (whole o))
 
 pub read-record-spec : {M : Type 1} → statement M
 read-record-spec =

@@ -1,45 +1,55 @@
+use mathlib.Core.Path.{_≡_, refl, ap, _∙_}
+use mathlib.Core.List.{List, _++_}
+use Prim.Native.Nat.{ℕ, _-_, _≤_}
+use native.Mathlib.Omega.{arith}
+use lib.ListN.{length, getD, set, drop}
+use lib.Seq.{take-all}
+use Rattle.card_format.proofs.Lists.{over, over-suc, length-over}
 use Rattle.record.proofs.write.put_bytes.Statement.{statement}
 use Rattle.record.proofs.write.put_bytes.Tie as tie
-use Rattle.record.proofs.write.put_bytes.Reads as reads
-use Rattle.record.proofs.write.put_bytes.Lts as lts
 
 abbrev Inv-loop : tie.InvT-loop
-Inv-loop bytes page₀ i₀ page i = ?
+Inv-loop bytes page₀ i₀ page i = (i ≤ length bytes) × (length bytes ≤ length page₀) × (page ≡ over bytes page₀ i)
 
 abbrev μ-loop : tie.MeasureT-loop
-μ-loop bytes page₀ i₀ page i = ?
+μ-loop bytes page₀ i₀ page i = length bytes - i
 
--- src/write.rt:21:5
+-- the page keeps its length
+kept : (bytes page₀ page : List ℕ) (i : ℕ) → (i ≤ length bytes) × (length bytes ≤ length page₀) × (page ≡ over bytes page₀ i) → length page ≡ length page₀
+kept bytes page₀ page i inv = ap (λ (p : List ℕ). length p) (inv .2) ∙ length-over bytes page₀ i (inv .0) (omega arith)
+
 loop-holds : tie.Need-loop-holds Inv-loop μ-loop
-loop-holds c = ?
+loop-holds c = (omega arith, omega arith, refl)
 
--- src/write.rt:22:19
 shared-slice-read-page : tie.Need-shared-slice-read-page Inv-loop μ-loop
-shared-slice-read-page c = ?
+shared-slice-read-page c = omega arith
 
--- src/write.rt:22:9
 slice-write-page : tie.Need-slice-write-page Inv-loop μ-loop
-slice-write-page c = ?
+slice-write-page c = omega (arith, kept _ _ _ _ (c .before .before .loop .inv))
 
--- src/write.rt:23:9
 add-i : tie.Need-add-i Inv-loop μ-loop
-add-i c = ?
+add-i c = omega arith
 
--- src/write.rt:21:5
 loop-less : tie.Need-loop-less Inv-loop μ-loop
-loop-less c = ?
+loop-less c = omega arith
 
--- src/write.rt:21:5
 loop-again : tie.Need-loop-again Inv-loop μ-loop
-loop-again c = ?
+loop-again c =
+    let l = c .before .before .loop in
+    let a = c .before .before .before .args in
+    let bytes = a .bytes .now in
+    (omega arith, omega arith, ap (λ (p : List ℕ). set p (l .i) (getD bytes (l .i) 0)) (l .inv .2) ∙ over-suc bytes (a .page .now) (l .i) (omega arith) (omega arith))
 
--- src/write.rt:16:1
 same-length : tie.Need-same-length Inv-loop μ-loop
-same-length c = ?
+same-length c = kept _ _ _ _ (c .before .loop .inv)
 
--- src/write.rt:16:1
 returns : tie.Need-returns Inv-loop μ-loop
-returns c = ?
+returns c =
+    let l = c .before .loop in
+    let a = c .before .before .args in
+    let bytes = a .bytes .now in
+    let e : l .i ≡ length bytes = omega arith in
+    l .inv .2 ∙ ap (over bytes (a .page .now)) e ∙ ap (λ (w : List ℕ). w ++ drop (length bytes) (a .page .now)) (take-all (length bytes) bytes (omega arith))
 
 pub put-bytes-spec : {M : Type 1} → statement M
 put-bytes-spec =

@@ -1,62 +1,68 @@
+use mathlib.Core.Path.{_≡_, refl, sym, ap, ap₂, _∙_}
+use mathlib.Core.List.{List, [], _∷_, _++_}
+use Prim.Native.Nat.{ℕ, _+_, _-_, _/_, _%_}
 use borrow.Author.Needs.{needs}
+use native.Mathlib.Omega.{arith}
+use lib.ListN.{length, take, drop}
+use Rattle.card_format.specs.Fields.{bytesOf}
+use Rattle.card_format.proofs.Lists.{put-next}
+use Rattle.records.proofs.Full.{wordField, encoded-full, length-full}
+use Rattle.record.proofs.Words.{length-bytes}
 use Rattle.record.proofs.write.put_record.Statement.{statement}
 use Rattle.record.proofs.write.put_record.Tie as tie
-use Rattle.record.proofs.write.put_record.Reads as reads
-use Rattle.record.proofs.write.put_record.Lts as lts
-use Rattle.record.proofs.write.put_bytes.Reads as put-bytes-reads
-use Rattle.record.proofs.write.put_words.Reads as put-words-reads
 
--- src/write.rt:46:9
 cast-t9 : tie.Need-cast-t9
 cast-t9 c = search needs
 
--- src/write.rt:47:9
 cast-t11 : tie.Need-cast-t11
 cast-t11 c = search needs
 
--- src/write.rt:48:9
 cast-t13 : tie.Need-cast-t13
 cast-t13 c = search needs
 
--- src/write.rt:49:9
 cast-t15 : tie.Need-cast-t15
 cast-t15 c = search needs
 
--- src/write.rt:52:9
 cast-t17 : tie.Need-cast-t17
 cast-t17 c = search needs
 
--- src/write.rt:54:15
 slice-aggregate-put-bytes : tie.Need-slice-aggregate-put-bytes
 slice-aggregate-put-bytes c = search needs
 
--- src/write.rt:54:5
 put-bytes-requires : tie.Need-put-bytes-requires
 put-bytes-requires c κs = search needs
 
--- src/write.rt:55:22
 sub-put-words : tie.Need-sub-put-words
 sub-put-words c = search needs
 
--- src/write.rt:55:22
 part-put-words-start : tie.Need-part-put-words-start
 part-put-words-start c = search needs
 
--- src/write.rt:55:22
 part-put-words-end : tie.Need-part-put-words-end
 part-put-words-end c = search needs
 
--- src/write.rt:55:5
 put-words-requires : tie.Need-put-words-requires
 put-words-requires c κs = search needs
 
--- src/write.rt:40:1
 same-length : tie.Need-same-length
 same-length c = search needs
 
--- src/write.rt:40:1
 returns : tie.Need-returns
-returns c = ?
+returns c =
+    let a = c .before .before .before .before .before .before .before .before .before .before .before .args in
+    let xs = a .state .now in
+    let b = bytesOf (wordField (length xs)) xs in
+    let head : List ℕ = 31 ∷ a .truck % 256 ∷ a .truck / 256 ∷ a .shovel % 256 ∷ a .shovel / 256 ∷ a .ties ∷ a .taken ∷ length xs ∷ [] in
+    let d = a .page .now in
+    let p = c .before .before .before .before .before .before .put-bytes .last .1 .0 in
+    let begun = c .before .before .before .before .before .before .put-bytes .ensures in
+    let w = encoded-full (a .truck) (a .shovel) (a .ties) (a .taken) xs (omega arith) (omega arith) (omega arith) (omega arith) (omega arith) in
+    let n = length-full (a .truck) (a .shovel) (a .ties) (a .taken) xs (omega arith) (omega arith) (omega arith) (omega arith) (omega arith) in
+    ap (λ (v : List ℕ). take 8 p ++ (v ++ drop (length p - 8) (drop 8 p)))
+    (c .before .before .put-words .ensures ∙ ap (λ (n : ℕ). b ++ drop n (take (length p - 8) (drop 8 p))) (sym (length-bytes xs)))
+    ∙ ap (λ (p : List ℕ). take 8 p ++ ((b ++ drop (length b) (take (length p - 8) (drop 8 p))) ++ drop (length p - 8) (drop 8 p))) begun
+    ∙ put-next head d b 8 refl
+    ∙ ap₂ (λ (w : List ℕ) (n : ℕ). w ++ drop n d) (sym w) (ap (λ (n : ℕ). 8 + n) (length-bytes xs) ∙ sym n)
 
 pub put-record-spec : {M : Type 1} → statement M
 put-record-spec =
