@@ -12,7 +12,7 @@
  *
  * Given that, whatever bytes and numbers are handed over, a call returns with an answer, or with the refusal number
  * of the first check that applies. A card's fields are checked in turn, each by 1, 2, 3, and 4 at the table's place;
- * then come 5 to 19 in order. A refusal changes nothing: state, strip and page are as they were lent, and the other
+ * then come 5 to 21 in order, but that a recorded pick tells 16 after 18. A refusal changes nothing: state, strip and page are as they were lent, and the other
  * fields of the answer are 0.
  *
  * Calls keep nothing, allocate nothing and use no global data, so that any number of threads may call at once, each
@@ -33,15 +33,17 @@ extern "C" {
    tiedraw_version() / 1000 is TIEDRAW_VERSION_NUMBER / 1000; the shared library's name ends in those two numbers. */
 #define TIEDRAW_VERSION_MAJOR 0
 #define TIEDRAW_VERSION_MINOR 4
-#define TIEDRAW_VERSION_PATCH 0
+#define TIEDRAW_VERSION_PATCH 1
 #define TIEDRAW_VERSION_NUMBER (TIEDRAW_VERSION_MAJOR * 1000000 + TIEDRAW_VERSION_MINOR * 1000 + TIEDRAW_VERSION_PATCH)
 
-/* The most words of a state, entries of a table, bytes of an accepted card, shovels of a pick, and words taken for it. */
+/* The most words of a state, entries of a table, bytes of an accepted card, shovels of a pick, words taken for it, and
+   bytes of a record. */
 #define TIEDRAW_MOST_WORDS 8
 #define TIEDRAW_TABLE_SIZE (1 << TIEDRAW_MOST_WORDS)
 #define TIEDRAW_MOST_CARD_BYTES 267
 #define TIEDRAW_MOST_SHOVELS 64
 #define TIEDRAW_MOST_TAKEN 16
+#define TIEDRAW_MOST_RECORD_BYTES (8 + 4 * TIEDRAW_MOST_WORDS)
 
 /*
  * A card is a map byte and then the fields whose bit is 1, from bit 0 up. m, n and C are the first, second and sixth.
@@ -55,6 +57,18 @@ extern "C" {
  *   5    constant C    4, low byte first   below 2^n (6), odd (8)            12488421 hex
  *   6    filter        1                   1 or 2                            1
  *   7    sum term      1                   0 or 1                            1
+ */
+
+/*
+ * A record is what a recorded pick leaves of a tie: a map byte and then the fields whose bit is 1, from bit 0 up.
+ *
+ *   bit  field                       bytes                                      stands
+ *   0    truck                       2, low byte first                          always
+ *   1    shovel                      2, low byte first                          always
+ *   2    ties                        1                                          in our picks' records
+ *   3    words taken                 1                                          in our picks' records
+ *   4    the state before the pick   a count, 2 to 8; then as many words of 4   in our picks' records
+ *                                    bytes, low byte first
  */
 
 /* Refusals: the number, the trade word before the colon, and when it is told. */
@@ -74,10 +88,12 @@ enum tiedraw_refusal {
     TIEDRAW_NO_SHOVEL = 13,          /* no shovel: the list is empty */
     TIEDRAW_TOO_MANY_SHOVELS = 14,   /* crowd: more than 64 shovels */
     TIEDRAW_DUPLICATE_SHOVEL = 15,   /* twice: a shovel number stands twice */
-    TIEDRAW_BUFFER_TOO_SMALL = 16,   /* small page: the page has fewer bytes than the card needs */
+    TIEDRAW_BUFFER_TOO_SMALL = 16,   /* small page: the page has fewer bytes than the card or the record needs */
     TIEDRAW_SPAN_OUT_OF_BOUNDS = 17, /* span: the place is past the strip's end, or the count does not fit behind it */
     TIEDRAW_TOO_MANY_TIES = 18,      /* too many equals: more shovels have the least time than there are words, 2^n */
-    TIEDRAW_NO_SUCH_CHANGE = 19      /* firm: no change of one shovel's time sends the truck elsewhere */
+    TIEDRAW_NO_SUCH_CHANGE = 19,     /* firm: no change of one shovel's time sends the truck elsewhere */
+    TIEDRAW_MALFORMED_RECORD = 20,   /* torn: a record's map, state count or length is not of the form above */
+    TIEDRAW_TRUCK_MISMATCH = 21      /* other truck: a cab asks for a record of another truck */
 };
 
 /* The eight values of a card. Table entries past 2^words are 0. */
@@ -96,6 +112,17 @@ typedef struct {
     uint8_t raised, ties, taken, refusal;
 } tiedraw_margin_answer;
 typedef struct { size_t length; uint8_t refusal; } tiedraw_written;
+
+/* The fields of a record. A field may lack where it has a flag: that is 1 where it is given, and where it is 0 the
+   field's number says nothing. `state` has as many words as `words` says, and zeros past them. */
+typedef struct tiedraw_record {
+    uint32_t state[TIEDRAW_MOST_WORDS];
+    uint16_t truck, shovel;
+    uint8_t ties_given, ties, taken_given, taken, state_given, words;
+} tiedraw_record;
+
+typedef struct { tiedraw_record record; uint8_t refusal; } tiedraw_record_reading;
+typedef struct { uint16_t shovel; uint8_t refusal; } tiedraw_order_answer;
 
 /* The version of the library, as TIEDRAW_VERSION_NUMBER is of the header. */
 uint32_t tiedraw_version(void);
@@ -130,6 +157,24 @@ uint8_t tiedraw_fill(const uint8_t *card, size_t card_len, uint32_t *state, size
    the state is not moved. Or refusal 1 to 15 or 18. */
 tiedraw_choice tiedraw_pick(const uint8_t *card, size_t card_len, uint32_t *state, size_t words,
                             const uint16_t *shovels, size_t shovel_count, const uint32_t *times, size_t time_count);
+
+/* The same pick, for a truck. A tie leaves its record at the front of the page, with every field: 8 + 4 m bytes, as
+   the state was lent; bytes past it are untouched, and so is the page where one shovel was nearest. A page of
+   TIEDRAW_MOST_RECORD_BYTES is never too small. Or what tiedraw_pick refuses, 1 to 15 or 18; or 16 where the page has
+   fewer than 8 + 4 m bytes, tie or not. */
+tiedraw_choice tiedraw_pick_recorded(const uint8_t *card, size_t card_len, uint32_t *state, size_t words,
+                                     const uint16_t *shovels, size_t shovel_count, const uint32_t *times,
+                                     size_t time_count, uint16_t truck, uint8_t *page, size_t page_len);
+
+/* Every field of a record, for the desk; or refusal 20. `record_len` is the length of the record, not of the page that
+   it stands on. Proved: what tiedraw_pick_recorded wrote reads back as it was, and tiedraw_pick from that state, with
+   the same card and lists, chooses that shovel; two records with the same fields, given and lacking, are the same
+   bytes. */
+tiedraw_record_reading tiedraw_read_record(const uint8_t *record, size_t record_len);
+
+/* The shovel of a record, alone, for the cab of a truck; or refusal 20, or 21 where the record is of another truck.
+   Proved: from two records of the same truck and shovel every cab hears the same, whatever else they hold. */
+tiedraw_order_answer tiedraw_order(uint16_t truck, const uint8_t *record, size_t record_len);
 
 /* How near the pick was: the smallest change of one shovel's time that would send the truck elsewhere from this state,
    which is not moved. `changed` is the number of that shovel; `raised` is 1 where its time is raised, and 0 where it is
