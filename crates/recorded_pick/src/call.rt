@@ -12,14 +12,14 @@ use state_words::lent;
 use tsc::State;
 
 // The record that an answer leaves, on a page that has room for it: of a tie, with the first m words of the state before the pick.
-fn record_tie(picked: Pick, truck: u16, before: State, m: usize, page: &mut [u8])
+fn record_tie(picked: Pick, truck: u16, held: State, m: usize, page: &mut [u8])
     requires { ⌜ (m ≤ mostWords) × (recordBytes m ≤ length (now page)) ⌝ }
-    ensures { λ _. ⌜ now (page .exit) ≡ recordedOn (recordLeft truck (take m (before .words)) picked) (now (page .entry)) ⌝ }
+    ensures { λ _. ⌜ now (page .exit) ≡ recordedOn (recordLeft truck (take m (held .words)) picked) (now (page .entry)) ⌝ }
 {
     match picked {
         Pick::Shovel(shovel, ties, taken) => {
             if ties != 1 {
-                let words = before.words;
+                let words = held.words;
                 write::put_record(truck, shovel, ties, taken, &words[..m], page);
             }
         }
@@ -49,8 +49,8 @@ pub fn pick_recorded(
         }
         return Pick::Refused(refusals::BUFFER_TOO_SMALL);
     }
-    let before = lent::load(state);
+    let held = lent::load(state);
     let picked = pick::call::pick(card, state, shovels, times);
-    record_tie(picked, truck, before, m, page);
+    record_tie(picked, truck, held, m, page);
     picked
 }

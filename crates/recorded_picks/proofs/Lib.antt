@@ -1,1 +1,2 @@
 -- What is proved of recorded picks.
+pub mod Recorded

@@ -1,61 +1,74 @@
+use mathlib.Core.Path.{_≡_, refl, sym, ap, _∙_}
+use mathlib.Core.Bool.{true, false, _||_}
+use mathlib.Core.List.{List}
+use Prim.Native.Nat.{ℕ, _≤_, _<_}
 use borrow.Author.Needs.{needs}
+use native.Mathlib.Omega.{arith}
+use lib.Dec.{ltb}
+use lib.ListN.{length, take}
+use Rattle.tsc.specs.declared.State.{State}
+use Rattle.tsc.specs.Constants.{mostWords}
+use Rattle.card_format.proofs.Lists.{take-filled}
+use Rattle.records.specs.Fields.{recordBytes}
+use Rattle.recorded_picks.specs.Recorded.{recordLeft, recordedOn}
+use Rattle.recorded_picks.proofs.Recorded.{told-pick, told-small, word-few, call-refused, call-made}
+use Rattle.recorded_pick.proofs.Page.{has-room, no-room}
 use Rattle.recorded_pick.proofs.call.pick_recorded.Statement.{statement}
 use Rattle.recorded_pick.proofs.call.pick_recorded.Tie as tie
-use Rattle.recorded_pick.proofs.call.pick_recorded.Reads as reads
-use Rattle.recorded_pick.proofs.call.pick_recorded.Lts as lts
-use Rattle.pick.proofs.call.pick.Reads as pick-reads
-use Rattle.recorded_pick.proofs.call.record_tie.Reads as record-tie-reads
-use Rattle.recorded_pick.proofs.room.lacks_room.Reads as lacks-room-reads
-use Rattle.recorded_pick.proofs.room.pick_refusal.Reads as pick-refusal-reads
-use Rattle.state_words.proofs.lent.load.Reads as load-reads
 
--- src/call.rt:45:8
+-- past the first test the page has room
+roomy : (c : tie.Else1) → let a = c .before .before .before .before .before .before .before .args in (length (a .state .now) ≤ mostWords) × (recordBytes (length (a .state .now)) ≤ length (a .page .now))
+roomy c = has-room _ _ (sym (c .before .lacks-room .ensures) ∙ c .if1 .left)
+
 lacks-room-requires : tie.Need-lacks-room-requires
 lacks-room-requires c κs = search needs
 
--- src/call.rt:46:13
 pick-refusal-requires : tie.Need-pick-refusal-requires
 pick-refusal-requires c κs = search needs
 
--- src/call.rt:48:13
 same-length : tie.Need-same-length
 same-length c = search needs
 
--- src/call.rt:48:13
 returns : tie.Need-returns
-returns c = ?
+returns c =
+    let a = c .before .before .before .before .before .before .before .before .before .before .args in
+    let e = c .before .pick-refusal .ensures in
+    let ne = c .if2 .taken in
+    call-refused (a .card .now) (a .state .now) (a .shovels .now) (a .times .now) (a .truck) (a .page .now) _ ne (told-pick _ _ _ _ _ (λ z. ne (e ∙ z)) ∙ sym e)
 
--- src/call.rt:50:9
 same-length-2 : tie.Need-same-length-2
 same-length-2 c = search needs
 
--- src/call.rt:50:9
 returns-2 : tie.Need-returns-2
-returns-2 c = ?
+returns-2 c =
+    let a = c .before .before .before .before .before .before .before .before .before .before .args in
+    let z = sym (c .before .pick-refusal .ensures) ∙ c .if2 .left in
+    call-refused (a .card .now) (a .state .now) (a .shovels .now) (a .times .now) (a .truck) (a .page .now) 16 (λ e. absurd (omega arith))
+    (told-small _ _ _ _ _ z (no-room (length (a .state .now)) (length (a .page .now)) (word-few (a .card .now) (a .state .now) (a .shovels .now) (a .times .now) z) (sym (c .before .before .before .before .lacks-room .ensures) ∙ c .before .before .before .if1 .taken)))
 
--- src/call.rt:52:9
 load-requires : tie.Need-load-requires
-load-requires c κs = ?
+load-requires c κs = roomy (c .before) .0
 
--- src/call.rt:53:9
 pick-requires : tie.Need-pick-requires
 pick-requires c κs = search needs
 
--- src/call.rt:54:5
 record-tie-requires : tie.Need-record-tie-requires
-record-tie-requires c κs = ?
+record-tie-requires c κs = roomy (c .before .before .before .before .before .before .before)
 
--- src/call.rt:32:1
 same-length-3 : tie.Need-same-length-3
 same-length-3 c = search needs
 
--- src/call.rt:32:1
 same-length-4 : tie.Need-same-length-4
 same-length-4 c = search needs
 
--- src/call.rt:32:1
 returns-3 : tie.Need-returns-3
-returns-3 c = ?
+returns-3 c =
+    let a = c .before .before .before .before .before .before .before .before .before .before .before .before .before .before .before .before .before .args in
+    let xs = a .state .now in
+    let held = ap (λ (s : State). take (length xs) (s .words)) (c .before .before .before .before .before .before .before .before .load .ensures) ∙ take-filled mostWords (length xs) xs refl in
+    let p = c .before .before .before .before .before .before .pick in
+    call-made (a .card .now) xs (a .shovels .now) (a .times .now) (a .truck) (a .page .now) (roomy (c .before .before .before .before .before .before .before .before .before .before) .1) (p .ensures .0) (p .ensures .1)
+    (c .before .before .record-tie .ensures ∙ ap (λ (ws : List ℕ). recordedOn (recordLeft (a .truck) ws (p .result)) (a .page .now)) held)
 
 pub pick-recorded-spec : {M : Type 1} → statement M
 pick-recorded-spec =

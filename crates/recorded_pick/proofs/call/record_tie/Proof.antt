@@ -1,42 +1,48 @@
+use mathlib.Core.Path.{_≡_, sym}
 use borrow.Author.Needs.{needs}
+use native.Mathlib.Omega.{arith}
+use lib.ListN.{length, take}
+use lib.Seq.{length-take-le}
+use Rattle.tsc.specs.Constants.{mostWords}
+use Rattle.recorded_pick.proofs.Page.{left-tie, left-none}
 use Rattle.recorded_pick.proofs.call.record_tie.Statement.{statement}
 use Rattle.recorded_pick.proofs.call.record_tie.Tie as tie
-use Rattle.recorded_pick.proofs.call.record_tie.Reads as reads
-use Rattle.recorded_pick.proofs.call.record_tie.Lts as lts
-use Rattle.record.proofs.write.put_record.Reads as put-record-reads
 
--- src/call.rt:20:22
+-- the words that are recorded
+sized : (s : tie.Start) → length (s .args .held .words) ≡ mostWords
+sized s = search needs
+
+counted : (s : tie.Start) → length (take (s .args .m) (s .args .held .words)) ≡ s .args .m
+counted s = length-take-le (s .args .m) (s .args .held .words) (omega (arith, sized s, s .pre .0))
+
 enum-known-picked : tie.Need-enum-known-picked
 enum-known-picked c = search needs
 
--- src/call.rt:23:63
 array-share-prefix-words : tie.Need-array-share-prefix-words
-array-share-prefix-words c = ?
+array-share-prefix-words c = omega (arith, sized (c .before .before .before .before .before .before), c .before .before .before .before .before .before .pre .0)
 
--- src/call.rt:23:63
 slice-aggregate-put-record : tie.Need-slice-aggregate-put-record
-slice-aggregate-put-record c = ?
+slice-aggregate-put-record c = sym (counted (c .before .before .before .before .before .before .before))
 
--- src/call.rt:23:17
 put-record-requires : tie.Need-put-record-requires
-put-record-requires c κs = ?
+put-record-requires c κs = let s = c .before .before .before .before .before .before .before .before in (omega (arith, counted s, s .pre .0), omega (arith, counted s, s .pre .1))
 
 enum-told : tie.Need-enum-told
 enum-told c = search needs
 
--- src/call.rt:15:1
 same-length : tie.Need-same-length
 same-length c = search needs
 
--- src/call.rt:15:1
 returns : tie.Need-returns
-returns c = ?
+returns c =
+    let a = c .before .before .before .before .before .before .before .before .before .before .before .args in
+    left-tie (a .truck) (take (a .m) (a .held .words)) (a .page .now) (c .before .before .before .before .before .before .before .before .picked .given .1) (c .before .before .before .before .before .before .if1 .taken) (c .before .before .put-record .ensures)
 
--- src/call.rt:15:1
 returns-2 : tie.Need-returns-2
-returns-2 c = ?
+returns-2 c =
+    let a = c .before .before .before .before .before .args in
+    left-none (a .truck) (take (a .m) (a .held .words)) (a .page .now) (c .before .before .picked .given .1) (c .if1 .left)
 
--- src/call.rt:15:1
 returns-3 : tie.Need-returns-3
 returns-3 c = search needs
 

@@ -1,24 +1,24 @@
+use mathlib.Core.Path.{sym, ap}
+use mathlib.Core.Bool.{Bool, _||_}
 use borrow.Author.Needs.{needs}
+use borrow.Author.Tests.{lt-ltb, le-ltb}
+use lib.Dec.{ltb}
+use Rattle.tsc.specs.Constants.{mostWords}
+use Rattle.records.specs.Fields.{recordBytes}
 use Rattle.recorded_pick.proofs.room.lacks_room.Statement.{statement}
 use Rattle.recorded_pick.proofs.room.lacks_room.Tie as tie
-use Rattle.recorded_pick.proofs.room.lacks_room.Reads as reads
-use Rattle.recorded_pick.proofs.room.lacks_room.Lts as lts
 
--- src/room.rt:19:9
 returns : tie.Need-returns
-returns c = ?
+returns c = let a = c .before .args in ap (λ (b : Bool). b || ltb (a .room) (recordBytes (a .m))) (sym (lt-ltb mostWords (a .m) (c .if1 .taken)))
 
--- src/room.rt:21:16
 mul-result : tie.Need-mul-result
 mul-result c = search needs
 
--- src/room.rt:21:12
 add-result : tie.Need-add-result
 add-result c = search needs
 
--- src/room.rt:15:1
 returns-2 : tie.Need-returns-2
-returns-2 c = ?
+returns-2 c = let a = c .before .args in ap (λ (b : Bool). b || ltb (a .room) (recordBytes (a .m))) (sym (le-ltb mostWords (a .m) (c .if1 .left)))
 
 pub lacks-room-spec : {M : Type 1} → statement M
 lacks-room-spec = tie.close (tie.spec returns mul-result add-result returns-2)

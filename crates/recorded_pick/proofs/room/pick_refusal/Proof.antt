@@ -1,35 +1,36 @@
+use mathlib.Core.Path.{_≡_, refl, sym, _∙_}
 use borrow.Author.Needs.{needs}
+use Rattle.draws.specs.Calls.{refusalFor}
+use Rattle.draws.proofs.Opening.{Clear, told, clear}
+use Rattle.draws.proofs.Called.{accepted}
+use Rattle.picks.proofs.Picking.{told-call, told-later}
 use Rattle.recorded_pick.proofs.room.pick_refusal.Statement.{statement}
 use Rattle.recorded_pick.proofs.room.pick_refusal.Tie as tie
-use Rattle.recorded_pick.proofs.room.pick_refusal.Reads as reads
-use Rattle.recorded_pick.proofs.room.pick_refusal.Lts as lts
-use Rattle.card.proofs.check.accept.Reads as accept-reads
-use Rattle.generator.proofs.call.call_refusal.Reads as call-refusal-reads
-use Rattle.pick.proofs.listing.list_ties.Reads as list-ties-reads
 
--- src/room.rt:28:9
+-- what is told of the card and the state; past the test they are not refused
+refusal : (c : tie.After-call-refusal) → let a = c .before .before .before .before .before .before .args in c .call-refusal .result ≡ refusalFor (a .card .now) (a .state .now)
+refusal c = told _ _ (c .before .accept .result) (c .before .accept .ensures) (c .call-refusal .ensures)
+
+passing : (c : tie.Else1) → let a = c .before .before .before .before .before .before .before .args in Clear (a .card .now) (a .state .now) (c .before .before .accept .result .card)
+passing c = clear _ _ (c .before .before .accept .result) (c .before .before .accept .ensures) (sym (refusal (c .before)) ∙ c .if1 .left)
+
 accept-requires : tie.Need-accept-requires
 accept-requires c κs = search needs
 
--- src/room.rt:29:9
 call-refusal-requires : tie.Need-call-refusal-requires
 call-refusal-requires c κs = search needs
 
--- src/room.rt:36:9
 returns : tie.Need-returns
-returns c = ?
+returns c = told-call _ _ _ _ _ (refusal (c .before)) (c .if1 .taken)
 
--- src/room.rt:38:36
 cast-list-ties : tie.Need-cast-list-ties
 cast-list-ties c = search needs
 
--- src/room.rt:38:9
 list-ties-requires : tie.Need-list-ties-requires
-list-ties-requires c κs = ?
+list-ties-requires c κs = accepted (passing (c .before)) .narrow
 
--- src/room.rt:25:1
 returns-2 : tie.Need-returns-2
-returns-2 c = ?
+returns-2 c = told-later _ _ _ _ (passing (c .before .before)) refl (c .list-ties .ensures .0)
 
 pub pick-refusal-spec : {M : Type 1} → statement M
 pick-refusal-spec =

@@ -1,0 +1,2 @@
+-- Laws for recorded picks.
+pub mod Page
