@@ -1,4 +1,5 @@
 // The calls' answers as C has them (include/tiedraw.h). What they are is in specs/, and what a refusal leaves in proofs/.
+use tsc::MOST_WORDS;
 use tsc::TABLE_SIZE;
 
 // What a draw answers, tiedraw_word: 0 and the word, or the refusal and 0.
@@ -53,5 +54,33 @@ pub struct CardValues {
 #[repr(C)]
 pub struct CardReading {
     pub card: CardValues,
+    pub refusal: u8,
+}
+
+// The fields of a record, tiedraw_record: beside each that may lack a flag, 1 where it is given; else the flag and the number are 0.
+#[repr(C)]
+pub struct RecordValues {
+    pub state: [u32; MOST_WORDS],
+    pub truck: u16,
+    pub shovel: u16,
+    pub ties_given: u8,
+    pub ties: u8,
+    pub taken_given: u8,
+    pub taken: u8,
+    pub state_given: u8,
+    pub words: u8,
+}
+
+// What the desk is answered, tiedraw_record_reading: 0 and the fields, or the refusal and zeros.
+#[repr(C)]
+pub struct RecordAnswer {
+    pub values: RecordValues,
+    pub refusal: u8,
+}
+
+// What a cab is answered, tiedraw_order_answer: 0 and the shovel, or the refusal and 0.
+#[repr(C)]
+pub struct OrderAnswer {
+    pub shovel: u16,
     pub refusal: u8,
 }

@@ -9,19 +9,25 @@ ghost use Rattle.draws.specs.Calls.{refusalFor, stepped, steppedBack, drawing, 
 ghost use Rattle.fills.specs.Fills.{fillRefusal, filled, filledState};
 ghost use Rattle.picks.specs.Picks.{picking, picked};
 ghost use Rattle.c_answers.specs.Answers.{drawn, choice, IsMarginAnswer, readCard, given, writtenFrom, pageFrom};
+ghost use Rattle.c_answers.specs.Records.{readRecord, toldTo};
+ghost use Rattle.recorded_picks.specs.Recorded.{recordedPicking, recordedState, recordedPage};
 ghost use Rattle.version.specs.Version.{versionNumber};
 use c_answers::CardReading;
 use c_answers::Choice;
 use c_answers::DrawnWord;
 use c_answers::MarginAnswer;
+use c_answers::OrderAnswer;
+use c_answers::RecordAnswer;
 use c_answers::WrittenLength;
 use c_structs::answer;
 use c_structs::nearest;
+use c_structs::recorded;
 use card::check;
 use card_read::read;
 use card_table::table;
 use card_write::write;
 use generator::call;
+use record::order;
 use tsc::Card;
 use tsc::TABLE_SIZE;
 
@@ -108,6 +114,39 @@ pub extern "C" fn tiedraw_pick(
     ensures after { λ r. ⌜ now (state .exit) ≡ picked (now (card .entry)) (now (state .entry)) (now (shovels .entry)) (now (times .entry)) ⌝ }
 {
     answer::choice_of(pick::call::pick(card, state, shovels, times))
+}
+
+// The same, for a truck, with the record of a tie at the front of the page; or refusal 1 to 15, 18 or 16.
+#[no_mangle]
+pub extern "C" fn tiedraw_pick_recorded(
+    card: &[u8],
+    state: &mut [u32],
+    shovels: &[u16],
+    times: &[u32],
+    truck: u16,
+    page: &mut [u8],
+) -> Choice
+    ensures answer { λ r. ⌜ r ≡ choice (recordedPicking (now (card .entry)) (now (state .entry)) (now (shovels .entry)) (now (times .entry)) (length (now (page .entry)))) ⌝ }
+    ensures after { λ r. ⌜ now (state .exit) ≡ recordedState (now (card .entry)) (now (state .entry)) (now (shovels .entry)) (now (times .entry)) (length (now (page .entry))) ⌝ }
+    ensures page { λ r. ⌜ now (page .exit) ≡ recordedPage (now (card .entry)) (now (state .entry)) (now (shovels .entry)) (now (times .entry)) truck (now (page .entry)) ⌝ }
+{
+    answer::choice_of(recorded_pick::call::pick_recorded(card, state, shovels, times, truck, page))
+}
+
+// Every field of a record, for the desk, or refusal 20 and zeros.
+#[no_mangle]
+pub extern "C" fn tiedraw_read_record(bytes: &[u8]) -> RecordAnswer
+    ensures { λ r. ⌜ r ≡ readRecord (now (bytes .entry)) ⌝ }
+{
+    recorded::record_of(record::read::read_record(bytes))
+}
+
+// The shovel of a record, for the cab of a truck, or refusal 20 or 21.
+#[no_mangle]
+pub extern "C" fn tiedraw_order(truck: u16, bytes: &[u8]) -> OrderAnswer
+    ensures { λ r. ⌜ r ≡ toldTo truck (now (bytes .entry)) ⌝ }
+{
+    recorded::order_of(order::order_for(truck, bytes))
 }
 
 // The least change of one time that sends the truck elsewhere, and the changed pick; or refusal 1 to 15, 18 or 19.

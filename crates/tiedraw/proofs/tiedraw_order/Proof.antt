@@ -1,0 +1,17 @@
+use mathlib.Core.Path.{ap, _∙_}
+use Rattle.c_answers.specs.Records.{orderAnswer}
+use borrow.Author.Needs.{needs}
+use Rattle.tiedraw.proofs.tiedraw_order.Statement.{statement}
+use Rattle.tiedraw.proofs.tiedraw_order.Tie as tie
+
+order-for-requires : tie.Need-order-for-requires
+order-for-requires c κs = search needs
+
+order-of-requires : tie.Need-order-of-requires
+order-of-requires c κs = search needs
+
+returns : tie.Need-returns
+returns c = c .order-of .ensures ∙ ap orderAnswer (c .before .order-for .ensures .0)
+
+pub tiedraw-order-spec : {M : Type 1} → statement M
+tiedraw-order-spec = tie.close (tie.spec order-for-requires order-of-requires returns)
