@@ -1,2 +1,4 @@
 -- What is proved of recorded picks.
 pub mod Recorded
+pub mod Order
+pub mod Desk

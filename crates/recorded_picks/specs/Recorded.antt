@@ -1,9 +1,9 @@
 -- What a recorded pick answers, and what the lent state words and the page are after it (document 02, Seven), for any bytes, words, lists, truck and page.
 use mathlib.Core.Bool.{cond}
 use mathlib.Core.List.{List, [], _∷_, _++_}
-use Prim.Native.Nat.{ℕ}
+use Prim.Native.Nat.{ℕ, _<_}
 use lib.Dec.{eqb, ltb}
-use lib.ListN.{length, drop}
+use lib.ListN.{length, getD, drop}
 use Rattle.refusals.specs.Refusals.{Check, check, firstOf, bufferTooSmall}
 use Rattle.card_format.specs.Reading.{cardOf}
 use Rattle.records.specs.Fields.{recordBytes}
@@ -11,6 +11,10 @@ use Rattle.records.specs.Writing.{encoded, fullRecord}
 use Rattle.picks.specs.declared.Pick.{Pick}
 use Rattle.picks.specs.declared.Pick.the-variants.{Shovel, Refused}
 use Rattle.picks.specs.Picks.{pickChecks, picking, picked}
+
+-- numbers of 16 bits
+abbrev pub Halves : List ℕ → Type 0
+Halves xs = (i : ℕ) → i < length xs → getD xs i 0 < 65536
 
 module _ (bytes xs shovels times : List ℕ) (room : ℕ) where
   -- what it looks at: what a pick does, then 16, tie or not

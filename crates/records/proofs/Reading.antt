@@ -8,14 +8,15 @@ use native.Mathlib.Omega.{arith}
 use lib.ListN.{length, getD, take, drop, length-drop}
 use lib.Seq.{getD-drop, take-all, take-suc, take-add}
 use Rattle.cycle.specs.Notation.{sum, zeroFilled}
-use Rattle.cycle.proofs.Sum.{sum-ext}
+use Rattle.cycle.proofs.Sum.{sum-ext, sum-mono}
 use Rattle.tsc.specs.Constants.{mostWords}
 use Rattle.refusals.specs.Refusals.{firstOf}
-use Rattle.card_format.specs.Fields.{Bytes, extent, numbers, bytesOf, same}
+use Rattle.card_format.specs.Fields.{Bytes, extent, numbers, bytesOf, allowed, same}
+use Rattle.card_format.proofs.Fields.{allowed-at}
 use Rattle.card_format.specs.Reading.{present}
 use Rattle.card_format.proofs.Lists.{take-filled}
-use Rattle.card_format.proofs.Bytes.{length-one, byte-lt, bytesOf-numbers, map-bit}
-use Rattle.records.specs.Fields.{recordFields, recordField, recordFieldCount, bitCount, bitOf, startOf, numbersAt, wordCountOf, recordNumbers}
+use Rattle.card_format.proofs.Bytes.{cond-le, length-one, byte-lt, bytesOf-numbers, map-bit}
+use Rattle.records.specs.Fields.{recordFields, recordField, recordFieldCount, bitCount, bitOf, startOf, numbersAt, wordCountOf, recordNumbers, recordBytes}
 use Rattle.records.specs.Reading.{isWhole, Whole, optional, recordOf, noRecord, readingRecord}
 use Rattle.records.specs.Writing.{given, wordCount, stateOf, numbersOf, isGiven, fieldBytes, encodedTo, encoded}
 use Rattle.records.proofs.Fields.{each-field, bit-below, start-suc, start-before, length-numbersAt, Form, whole-form, always, count-number}
@@ -131,3 +132,22 @@ reading-torn bytes t = rw t refl
 pub reading-whole : (bytes : List ℕ) → Whole bytes → readingRecord bytes ≡ record { refusal = 0; values = recordOf bytes }
 unfolding readingRecord firstOf
 reading-whole bytes w = rw w refl
+
+-- ---- no whole record is longer than a full one of most words
+
+count-few : (bytes : List ℕ) → Form bytes → wordCountOf bytes ≤ mostWords
+unfolding recordField recordFields
+count-few bytes f = rw (sym (count-number bytes)) (go (recordNumbers bytes 4) (f .counted))
+  where
+    go : (xs : List ℕ) → allowed (recordField (wordCountOf bytes) 4) xs ≡ true → getD xs 0 0 ≤ mostWords
+    go [] h = omega arith
+    go (x ∷ xs) h = allowed-at (recordField (wordCountOf bytes) 4) (x ∷ xs) h 0 (omega arith) .1
+
+pub whole-short : (bytes : List ℕ) → Whole bytes → length bytes ≤ recordBytes mostWords
+unfolding startOf sum recordField recordFields
+whole-short bytes w =
+    let f = whole-form bytes w in
+    let c = wordCountOf bytes in
+    let longest = sum-mono recordFieldCount (λ j. cond (present bytes (bitOf j)) (extent (recordField c j)) 0) (λ j. extent (recordField c j))
+    (λ j l. cond-le (present bytes (bitOf j)) (extent (recordField c j))) in
+    omega (arith, f .ends, longest, count-few bytes f)
