@@ -43,7 +43,19 @@ use Rattle.picks.proofs.Fair.{picks-fair}
 use Rattle.margins.proofs.Answers.{margin-refused, margin-one}
 use Rattle.margins.proofs.Alike.{margin-order}
 use Rattle.margins.proofs.Firm.{counts-unrefused, told-counts, told-least, firm-exactly, alone-firm}
-use Rattle.demands.specs.Demands.{ByTable, nothing, AnsweredOrRefused, Ready, Published, Undone, SameBytes, SameLots, AcceptedIffCovers, FilledAsDrawn, FairRanks, NearestChange, UpToEightWords, NoEarlyRepeat, Demands}
+use Rattle.picks.specs.declared.Pick.{Pick}
+use Rattle.picks.specs.declared.Pick.the-variants.{Refused}
+use Rattle.records.specs.declared.Order.the-variants as Order
+use Rattle.records.specs.Reading.{recordOf, noRecord, readingRecord}
+use Rattle.records.specs.Orders.{orderFor}
+use Rattle.records.proofs.Reading.{whole-unique, whole-short}
+use Rattle.records.proofs.Writing.{encoded-whole, encoded-back}
+use Rattle.records.proofs.Full.{longest-record}
+use Rattle.records.proofs.Orders.{order-heard, cabs-alike, cab-tells}
+use Rattle.recorded_picks.specs.Recorded.{recordedRefusal, recordedPicking, recordedState, recordLeft, recordedOn, recordedPage}
+use Rattle.recorded_picks.proofs.Order.{recorded-order, page-order, standby-records}
+use Rattle.recorded_picks.proofs.Desk.{page-left, page-kept, record-read, record-replayed}
+use Rattle.demands.specs.Demands.{ByTable, nothing, AnsweredOrRefused, Ready, Published, Undone, SameBytes, SameLots, AcceptedIffCovers, FilledAsDrawn, FairRanks, NearestChange, UpToEightWords, NoEarlyRepeat, CabAndDesk, Demands}
 
 -- ---- demand 1
 
@@ -63,7 +75,7 @@ by-table : {A : Type 0} {refused : ℕ → A} {checks : List Check} {lent : List
 by-table {refused} {lent} {good} = by-first (λ b r. (cond b (good .0) (refused r), cond b (good .1) lent)) (λ r. refl)
 
 pub answered-or-refused : AnsweredOrRefused
-unfolding verdict reading writing pageAfter rewriting pageRewritten refusalFor stepped steppedBack drawing fillRefusal filled filledState pickRefusal picking picked
+unfolding verdict reading writing pageAfter rewriting pageRewritten refusalFor stepped steppedBack drawing fillRefusal filled filledState pickRefusal picking picked recordedRefusal recordedPicking recordedState recordedPage readingRecord orderFor
 answered-or-refused =
     record {
       ofCheck = λ bytes. by-first (λ b r. (r, nothing)) (λ r. refl);
@@ -77,6 +89,10 @@ answered-or-refused =
           let row = take place strip ++ orbitWords card xs count ++ drop (place + count) strip in
           by-first (λ b r. (r, (cond b row strip, cond b (orbit card xs count) xs))) (λ r. refl);
       ofPick = λ bytes xs shovels times. by-table;
+      ofRecordedPick = λ bytes xs shovels times truck page. let answer : Bool → ℕ → Pick = λ b r. cond b (picking bytes xs shovels times) (Refused r) in
+          by-first (λ b r. (answer b r, (cond b (picked bytes xs shovels times) xs, recordedOn (recordLeft truck xs (answer b r)) page))) (λ r. refl);
+      ofReadRecord = λ bytes. by-first (λ b r. (record { refusal = r; values = cond b (recordOf bytes) noRecord }, nothing)) (λ r. refl);
+      ofOrder = λ truck bytes. by-first (λ b r. (cond b (Order.Shovel (recordOf bytes .shovel)) (Order.Refused r), nothing)) (λ r. refl);
       ofMargin = λ bytes xs shovels times m h n. margin-refused bytes xs shovels times n m .0 h;
     }
 
@@ -221,6 +237,32 @@ no-early-repeat =
       columns = λ bytes xs h. let a = ok bytes xs h in column-period (cardOf bytes) (a .formed) (a .period) xs (h .state);
     }
 
+-- ---- document 02, Seven
+
+pub cab-and-desk : CabAndDesk
+cab-and-desk =
+    record {
+      readBack = λ bytes xs shovels times page truck s k t lt h answer tie.
+          let l = page-left bytes xs shovels times (length page) s k t answer truck lt h tie page refl in
+          (ap readingRecord (l .0) ∙ record-read bytes xs shovels times (length page) s k t answer truck lt h tie, l .1);
+      replayed = λ bytes xs shovels times page truck s k t lt h answer tie.
+          let l = page-left bytes xs shovels times (length page) s k t answer truck lt h tie page refl in
+          let e = ap readingRecord (l .0) ∙ record-read bytes xs shovels times (length page) s k t answer truck lt h tie in
+          record-replayed bytes xs shovels times (length page) s k t answer truck lt h tie _ e;
+      noTie = λ bytes xs shovels times page truck s t. page-kept bytes xs shovels times truck page s t;
+      hearsTheSame = cabs-alike;
+      dependsOn = order-heard;
+      tells = cab-tells;
+      order = λ bytes xs shovels times shovels₂ times₂ h truck page.
+          let o = recorded-order bytes xs shovels times shovels₂ times₂ h (length page) in
+          (o .0, o .1, page-order bytes xs shovels times shovels₂ times₂ h truck page);
+      shift = standby-records;
+      short = whole-short;
+      reached = longest-record;
+      unique = whole-unique;
+      written = λ r f. (encoded-whole r f, encoded-back r f);
+    }
+
 -- ---- the whole
 
 pub demands : Demands
@@ -237,4 +279,5 @@ demands =
       requestFour = nearest-change;
       requestFive = up-to-eight-words;
       requestSix = no-early-repeat;
+      requestSeven = cab-and-desk;
     }

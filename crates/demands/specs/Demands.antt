@@ -42,6 +42,14 @@ use Rattle.margins.specs.declared.Margin.the-variants as Margin
 use Rattle.margins.specs.Margins.{Elsewhere, Tells, IsMargin}
 use Rattle.picks.specs.Shift.{Request, answers, stateAfter, Alike}
 use Rattle.picks.specs.Fair.{sentByFirst}
+use Rattle.records.specs.declared.Record.{Record}
+use Rattle.records.specs.declared.Order.the-variants as Order
+use Rattle.records.specs.Fields.{recordBytes}
+use Rattle.records.specs.Reading.{isWhole, Whole, recordChecks, recordOf, noRecord, readingRecord}
+use Rattle.records.specs.Writing.{stateOf, encoded, Fits, fullRecord}
+use Rattle.records.specs.Orders.{orderChecks, orderFor, heard, SameOrder}
+use Rattle.recorded_picks.specs.Recorded.{Halves, recordedChecks, recordedPicking, recordedState, recordLeft, recordedOn, recordedPage}
+use Rattle.recorded_picks.specs.Shift.{Dispatch, outcomes, endState, AlikeDispatches}
 
 -- ---- demand 1: whatever card, state, page or shovel list is handed over, the call ends with an answer or the paper's refusal number, and a refusal leaves
 -- state and page as lent. (That every call ends is part of its proof.)
@@ -76,6 +84,15 @@ pub record AnsweredOrRefused : Type 0 where
       ByTable Pick.Refused (pickChecks bytes xs shovels times) xs
       (Pick.Shovel (chosen shovels times (drawnRank card xs k)) k (taken card xs k), drawnState card xs k)
       (picking bytes xs shovels times, picked bytes xs shovels times)
+  -- with room on the page a recorded pick is the pick, and its record is put there
+  pub ofRecordedPick : (bytes xs shovels times : List ℕ) (truck : ℕ) (page : List ℕ) → let room = length page in let p = picking bytes xs shovels times in
+      ByTable {L = List ℕ × List ℕ} Pick.Refused (recordedChecks bytes xs shovels times room) (xs, page)
+      (p, (picked bytes xs shovels times, recordedOn (recordLeft truck xs p) page))
+      (recordedPicking bytes xs shovels times room, (recordedState bytes xs shovels times room, recordedPage bytes xs shovels times truck page))
+  pub ofReadRecord : (bytes : List ℕ) → ByTable (λ r. record { refusal = r; values = noRecord }) (recordChecks bytes) nothing
+      (record { refusal = 0; values = recordOf bytes }, nothing) (readingRecord bytes, nothing)
+  pub ofOrder : (truck : ℕ) (bytes : List ℕ) →
+      ByTable Order.Refused (orderChecks truck bytes) nothing (Order.Shovel (recordOf bytes .shovel), nothing) (orderFor truck bytes, nothing)
   -- a margin is refused as the pick is; where it is not, document 02, Four, below
   pub ofMargin : (bytes xs shovels times : List ℕ) (m : Margin) → IsMargin bytes xs shovels times m → let r = firstOf (pickChecks bytes xs shovels times) in
       r ≢ 0 → m ≡ Margin.Refused r
@@ -235,6 +252,40 @@ pub record NoEarlyRepeat : Type 0 where
   pub columns : (bytes xs : List ℕ) → Ready bytes xs → let card = cardOf bytes in
       (i : ℕ) → i < card .width → LeastPeriod (λ t. column i (orbit card xs t)) (2 ^ (card .words * suc i))
 
+-- ---- document 02, Seven: a tie in a recorded pick leaves a record at the front of the page, and bytes past it are untouched; a pick without a tie leaves the
+-- page untouched. The desk reads every field, and a lacking one is told as absent. A cab gives its truck number and sees the shovel, alone
+
+pub record CabAndDesk : Type 0 where
+  -- of a tie, the first 8 + 4m bytes of the page are a record: the desk reads truck, shovel, ties, words taken and the state as lent
+  pub readBack : (bytes xs shovels times page : List ℕ) (truck s k t : ℕ) → truck < 65536 → Halves shovels
+      → recordedPicking bytes xs shovels times (length page) ≡ Pick.Shovel s k t → k ≢ 1
+      → let n = recordBytes (cardOf bytes .words) in let after = recordedPage bytes xs shovels times truck page in
+      (readingRecord (take n after) ≡ record { refusal = 0; values = fullRecord truck s k t xs }) × (drop n after ≡ drop n page)
+  -- and a pick from that state, with the same lists, gives this answer and leaves this state
+  pub replayed : (bytes xs shovels times page : List ℕ) (truck s k t : ℕ) → truck < 65536 → Halves shovels
+      → recordedPicking bytes xs shovels times (length page) ≡ Pick.Shovel s k t → k ≢ 1
+      → let w = take (recordBytes (cardOf bytes .words)) (recordedPage bytes xs shovels times truck page) in let ys = stateOf (readingRecord w .values) in
+      (picking bytes ys shovels times ≡ Pick.Shovel s k t) × (picked bytes ys shovels times ≡ recordedState bytes xs shovels times (length page))
+  pub noTie : (bytes xs shovels times page : List ℕ) (truck s t : ℕ) → recordedPicking bytes xs shovels times (length page) ≡ Pick.Shovel s 1 t
+      → recordedPage bytes xs shovels times truck page ≡ page
+  -- the cab learns nothing else: two whole records with the same truck and shovel sound the same to every cab
+  pub hearsTheSame : (a b : List ℕ) → SameOrder a b → (cab : ℕ) → orderFor cab a ≡ orderFor cab b
+  -- what it hears depends on nothing but whether the record is whole, its truck and its shovel; and on all of these, since its own cab tells them apart
+  pub dependsOn : (cab : ℕ) (bytes : List ℕ) → orderFor cab bytes ≡ heard cab (isWhole bytes) (recordOf bytes .truck) (recordOf bytes .shovel)
+  pub tells : (a b : List ℕ) → Whole a → let cab = recordOf a .truck in orderFor cab a ≡ orderFor cab b → SameOrder a b
+  -- the order of the list makes no difference to answer, state and page; over a shift the standby's records and pages are the server's
+  pub order : (bytes xs shovels times shovels₂ times₂ : List ℕ) → SameShovels shovels times shovels₂ times₂ → (truck : ℕ) (page : List ℕ) → let room = length page in
+      (recordedPicking bytes xs shovels₂ times₂ room ≡ recordedPicking bytes xs shovels times room)
+      × (recordedState bytes xs shovels₂ times₂ room ≡ recordedState bytes xs shovels times room)
+      × (recordedPage bytes xs shovels₂ times₂ truck page ≡ recordedPage bytes xs shovels times truck page)
+  pub shift : (bytes xs : List ℕ) (dispatches dispatches₂ : List Dispatch) → AlikeDispatches dispatches dispatches₂
+      → (outcomes bytes xs dispatches₂ ≡ outcomes bytes xs dispatches) × (endState bytes xs dispatches₂ ≡ endState bytes xs dispatches)
+  -- no record is longer than 40 bytes, and one is as long; the same fields, given and lacking, are the same bytes; and all fields that fit have a record
+  pub short : (bytes : List ℕ) → Whole bytes → length bytes ≤ 40
+  pub reached : (bytes : List ℕ) × Whole bytes × (length bytes ≡ 40)
+  pub unique : (a b : List ℕ) → Bytes a → Bytes b → Whole a → Whole b → recordOf a ≡ recordOf b → a ≡ b
+  pub written : (r : Record) → Fits r → Whole (encoded r) × (recordOf (encoded r) ≡ r)
+
 -- ---- the whole
 
 pub record Demands : Type 0 where
@@ -249,3 +300,4 @@ pub record Demands : Type 0 where
   pub requestFour : NearestChange
   pub requestFive : UpToEightWords
   pub requestSix : NoEarlyRepeat
+  pub requestSeven : CabAndDesk

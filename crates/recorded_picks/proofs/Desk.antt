@@ -2,7 +2,7 @@
 use mathlib.Core.Path.{_≡_, refl, sym, ap, _∙_, subst}
 use mathlib.Core.Logic.{_≢_}
 use mathlib.Core.Bool.{Bool, true, false, cond, true≢false}
-use mathlib.Core.List.{List, [], _∷_, _++_}
+use mathlib.Core.List.{List, []}
 use Prim.Native.Nat.{ℕ, _^_, _≤_, _<_}
 use native.Mathlib.Decide.{ℕ-discrete}
 use native.Mathlib.Nat.{lt-of-lt-of-le}
@@ -10,13 +10,12 @@ use native.Mathlib.Omega.{arith}
 use borrow.Author.Tests.{ne-eqb}
 use lib.ListN.{length, getD, take, drop}
 use lib.Pow.{pow-mono}
-use lib.Seq.{take-append-seam}
+use lib.Seq.{take-at, drop-at}
 use Rattle.tsc.specs.Constants.{fewestWords, mostWords}
 use Rattle.card_format.specs.Reading.{cardOf}
 use Rattle.card_format.proofs.Verdict.{accepted-card}
 use Rattle.draws.proofs.Opening.{passed}
 use Rattle.ties.specs.Ties.{ties}
-use Rattle.samples.specs.Samples.{taken, mostTaken}
 use Rattle.samples.proofs.Tried.{taken-few}
 use Rattle.picks.specs.declared.Pick.{Pick}
 use Rattle.picks.specs.declared.Pick.the-variants.{Shovel, Refused}
@@ -24,11 +23,14 @@ use Rattle.picks.specs.Picks.{pickRefusal, picking, wordsTaken, picked}
 use Rattle.picks.proofs.Picking.{pick-passed, ties-few}
 use Rattle.picks.proofs.Choice.{pick-chooses}
 use Rattle.records.specs.Fields.{recordBytes}
-use Rattle.records.specs.Reading.{Whole, recordOf}
+use Rattle.records.specs.declared.Record.{Record}
+use Rattle.records.specs.declared.RecordReading.{RecordReading}
+use Rattle.records.specs.Reading.{Whole, recordOf, readingRecord}
 use Rattle.records.specs.Writing.{stateOf, encoded, Fits, fullRecord}
 use Rattle.records.proofs.Full.{state-full, length-full, full-fits}
+use Rattle.records.proofs.Reading.{reading-whole}
 use Rattle.records.proofs.Writing.{encoded-whole, encoded-back}
-use Rattle.recorded_picks.specs.Recorded.{Halves, recordedRefusal, recordedPicking, recordedState, recordLeft, recordedPage}
+use Rattle.recorded_picks.specs.Recorded.{Halves, recordedRefusal, recordedPicking, recordedState, recordLeft, recordedOn, recordedPage}
 use Rattle.recorded_picks.proofs.Recorded.{not-refused, word-size, recorded-passed, recorded-refused}
 
 -- what an answer tells
@@ -56,7 +58,7 @@ module _ (bytes xs shovels times : List ℕ) (room s k t : ℕ) (answer : record
   unrefused = not-refused bytes xs shovels times room none
 
   -- the pick answers the same
-  pub as-picked : (picking bytes xs shovels times ≡ Shovel s k t) × (recordedState bytes xs shovels times room ≡ picked bytes xs shovels times)
+  as-picked : (picking bytes xs shovels times ≡ Shovel s k t) × (recordedState bytes xs shovels times room ≡ picked bytes xs shovels times)
   as-picked = let p = recorded-passed bytes xs shovels times room none in (sym (p .0) ∙ answer, p .1)
 
   -- what it answers fits the fields
@@ -95,19 +97,34 @@ module _ (bytes xs shovels times : List ℕ) (room s k t : ℕ) (answer : record
         let z = state-fits in
         full-fits truck s k t xs lt (f .0) (f .1) (f .2) (omega (arith, z .1)) (z .0) (z .1) (z .2)
 
-    pub record-whole : Whole left
+    record-whole : Whole left
     record-whole = rw left-is (encoded-whole _ fits)
 
-    pub record-back : recordOf left ≡ fullRecord truck s k t xs
+    record-back : recordOf left ≡ fullRecord truck s k t xs
     record-back = ap recordOf left-is ∙ encoded-back _ fits
 
-    pub record-length : length left ≡ recordBytes (cardOf bytes .words)
+    record-length : length left ≡ recordBytes (cardOf bytes .words)
     record-length =
         let f = fields-fit h in
         let z = state-fits in
         ap length left-is ∙ length-full truck s k t xs lt (f .0) (f .1) (f .2) (omega (arith, z .1)) ∙ ap recordBytes (word-size bytes xs shovels times unrefused)
 
+    pub record-read : readingRecord left ≡ record { refusal = 0; values = fullRecord truck s k t xs }
+    record-read = reading-whole left record-whole ∙ ap {B = RecordReading} (λ (r : Record). record { refusal = 0; values = r }) record-back
+
+    -- it stands at the front of the page
+    pub page-left : (page : List ℕ) → length page ≡ room → let n = recordBytes (cardOf bytes .words) in let after = recordedPage bytes xs shovels times truck page in
+        (take n after ≡ left) × (drop n after ≡ drop n page)
+    unfolding recordedPage
+    page-left page e = rw e (take-at left _ _ record-length, drop-at left _ _ record-length ∙ ap (λ (n : ℕ). drop n page) record-length)
+
     -- a pick from the state that is read
-    pub record-replayed : let ys = stateOf (recordOf left) in
+    pub record-replayed : (r : RecordReading) → r ≡ record { refusal = 0; values = fullRecord truck s k t xs } → let ys = stateOf (r .values) in
         (picking bytes ys shovels times ≡ Shovel s k t) × (picked bytes ys shovels times ≡ recordedState bytes xs shovels times room)
-    record-replayed = rw (ap stateOf record-back ∙ state-full truck s k t xs) (as-picked .0, sym (as-picked .1))
+    record-replayed r e = rw (ap (λ (r : RecordReading). stateOf (r .values)) e ∙ state-full truck s k t xs) (as-picked .0, sym (as-picked .1))
+
+-- without a tie the page is as it was
+pub page-kept : (bytes xs shovels times : List ℕ) (truck : ℕ) (page : List ℕ) (s t : ℕ) → recordedPicking bytes xs shovels times (length page) ≡ Shovel s 1 t
+    → recordedPage bytes xs shovels times truck page ≡ page
+unfolding recordedPage
+page-kept bytes xs shovels times truck page s t e = ap (λ (p : Pick). recordedOn (recordLeft truck xs p) page) e

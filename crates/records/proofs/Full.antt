@@ -6,16 +6,16 @@ use Prim.Native.Nat.{ℕ, _+_, _*_, _/_, _%_, _^_, _≤_, _<_}
 use native.Mathlib.Nat.{mul-comm}
 use native.Mathlib.Omega.{arith}
 use borrow.Author.Tests.{le-leb}
-use lib.ListN.{length, getD, length-append}
+use lib.ListN.{length, getD, replicate, length-append}
 use Rattle.cycle.specs.Notation.{sum, tabulate}
 use Rattle.cycle.proofs.Every.{every-of}
 use Rattle.tsc.specs.Constants.{fewestWords, mostWords}
-use Rattle.card_format.specs.Fields.{Field, row, bytesOf, allowed, same}
+use Rattle.card_format.specs.Fields.{Field, row, numbers, bytesOf, allowed, same}
 use Rattle.card_format.proofs.Fields.{allowed-all}
 use Rattle.card_format.proofs.Lists.{take-filled}
 use Rattle.card_format.proofs.Bytes.{length-bytesOf}
-use Rattle.records.specs.Fields.{recordFields, recordField, recordFieldCount, recordBytes}
-use Rattle.records.specs.Reading.{heldState}
+use Rattle.records.specs.Fields.{recordFields, recordField, recordFieldCount, startOf, numbersAt, wordCountOf, recordBytes}
+use Rattle.records.specs.Reading.{isWhole, Whole, heldState}
 use Rattle.records.specs.Writing.{stateOf, numbersOf, fieldBytes, encodedTo, encoded, Fits, fullRecord}
 use Rattle.records.proofs.Fields.{each-field}
 
@@ -73,3 +73,11 @@ module _ (truck shovel ties taken : ℕ) (xs : List ℕ) where
           (rw state-full (allowed-all (wordField (length xs)) xs (λ i l. (omega arith, omega (arith, narrow i l))))));
       state = ap heldState (sym state-full);
     }
+
+-- the longest record: eight words
+longest : List ℕ
+longest = 31 ∷ 0 ∷ 0 ∷ 0 ∷ 0 ∷ 0 ∷ 0 ∷ 8 ∷ replicate 32 0
+
+pub longest-record : (bytes : List ℕ) × Whole bytes × (length bytes ≡ 40)
+unfolding longest isWhole wordCountOf numbersAt startOf recordField recordFields numbers allowed tabulate sum
+longest-record = (longest, refl, refl)
