@@ -4,13 +4,20 @@ ghost use Prim.Native.Nat.{_^_, _≤_};
 ghost use Rattle.tsc.specs.Constants.{mostWords};
 ghost use Rattle.card_format.specs.Fields.{same};
 ghost use Rattle.case_fields.specs.Lists.{room};
-ghost use Rattle.case_answers.specs.Page.{mostPage};
+ghost use Rattle.case_answers.specs.Page.{mostPage, untouchedPage};
 use case_fields::list::Numbers;
 use case_fields::list::ROOM;
 use tsc::TABLE_SIZE;
 
 // The most bytes of a page.
 pub const PAGE: usize = 600;
+
+// A page as it is lent.
+pub fn untouched() -> [u8; PAGE]
+    ensures { λ r. ⌜ r ≡ untouchedPage ⌝ }
+{
+    [0xa5; PAGE]
+}
 
 // The answer to a line that is no case.
 pub fn print_syntax() {
@@ -81,6 +88,16 @@ pub fn print_bytes(page: [u8; PAGE], size: usize)
 pub fn print_number(number: u8) {
     io::print_decimal(1, number as u64);
     io::write_all(1, b" ");
+}
+
+// A shovel, how many ties there were and how many words were taken.
+pub fn print_choice(shovel: u16, ties: u8, taken: u8) {
+    io::write_all(1, b"shovel ");
+    io::print_decimal(1, shovel as u64);
+    io::write_all(1, b" ties ");
+    print_number(ties);
+    io::write_all(1, b"taken ");
+    io::print_decimal(1, taken as u64);
 }
 
 // The answer to a refused call: the number, and CHANGED where state or page were not left as lent, which the contracts of the calls rule out.

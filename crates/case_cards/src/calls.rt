@@ -1,9 +1,8 @@
 // The calls on cards, each with its answer printed. That a page is not more than the most, the line's reader has seen. Which numbers are printed is in the
 // contracts of the calls; no contract can speak of what is printed, so the stored output of the program holds that.
-ghost use mathlib.Core.Path.{_≡_};
 ghost use Prim.Native.Nat.{_≤_};
 ghost use Rattle.tsc.specs.Constants.{mostWords};
-ghost use Rattle.case_answers.specs.Page.{mostPage, untouchedPage};
+ghost use Rattle.case_answers.specs.Page.{mostPage};
 use card_format::Written;
 use card_read::read;
 use card_table::table;
@@ -50,13 +49,6 @@ pub fn print_read(card: &[u8]) {
     io::write_all(1, b"\n");
 }
 
-// A page as it is lent.
-fn untouched() -> [u8; PAGE]
-    ensures { λ r. ⌜ r ≡ untouchedPage ⌝ }
-{
-    [0xa5; PAGE]
-}
-
 // A writer's answer, and the whole page after it.
 fn print_written(written: Written, page: [u8; PAGE], size: usize)
     requires { ⌜ size ≤ mostPage ⌝ }
@@ -70,7 +62,7 @@ fn print_written(written: Written, page: [u8; PAGE], size: usize)
             io::write_all(1, b"\n");
         }
         Written::Refused(number) => {
-            answer::print_refused(number, check::same(&page, &untouched()));
+            answer::print_refused(number, check::same(&page, &answer::untouched()));
         }
     }
 }
@@ -79,7 +71,7 @@ fn print_written(written: Written, page: [u8; PAGE], size: usize)
 pub fn print_write(card: Card, size: usize)
     requires { ⌜ size ≤ mostPage ⌝ }
 {
-    let mut page = untouched();
+    let mut page = answer::untouched();
     let written = write::write(card, &mut page[..size]);
     print_written(written, page, size);
 }

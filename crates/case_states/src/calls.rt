@@ -3,7 +3,6 @@
 // can speak of what is printed, so the stored output of the program holds that.
 ghost use Prim.Native.Nat.{_≤_};
 ghost use Rattle.case_fields.specs.Lists.{room};
-use card::check;
 use case_answers::answer;
 use case_fields::list::Numbers;
 use case_fields::list::ROOM;
@@ -65,7 +64,7 @@ pub fn print_run(card: &[u8], state: Numbers, count: usize)
 {
     let mut words = state.words;
     let m = state.count;
-    let found = check::accept(card);
+    let found = card::check::accept(card);
     let refusal = call::call_refusal(
         found.refusal,
         found.card.words,
@@ -87,12 +86,8 @@ fn print_picked(picked: Pick, lent: Numbers, words: [u32; ROOM])
 {
     match picked {
         Pick::Shovel(shovel, ties, taken) => {
-            io::write_all(1, b"shovel ");
-            io::print_decimal(1, shovel as u64);
-            io::write_all(1, b" ties ");
-            answer::print_number(ties);
-            io::write_all(1, b"taken ");
-            answer::print_number(taken);
+            answer::print_choice(shovel, ties, taken);
+            io::write_all(1, b" ");
             answer::print_state(0, lent, words);
         }
         Pick::Refused(number) => answer::print_state(number, lent, words),
@@ -119,12 +114,8 @@ fn print_nearest(n: Nearest) {
         io::write_all(1, b" lowered ");
     }
     io::print_decimal(1, n.seconds as u64);
-    io::write_all(1, b" shovel ");
-    io::print_decimal(1, n.shovel as u64);
-    io::write_all(1, b" ties ");
-    answer::print_number(n.ties);
-    io::write_all(1, b"taken ");
-    io::print_decimal(1, n.taken as u64);
+    io::write_all(1, b" ");
+    answer::print_choice(n.shovel, n.ties, n.taken);
     io::write_all(1, b"\n");
 }
 

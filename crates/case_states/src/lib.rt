@@ -1,5 +1,6 @@
-// Cases on a card and a state: step, back, draw, words, pick and margin, from the line to the answer.
+// Cases on a card and a state: step, back, draw, words, pick, margin and recpick, from the line to the answer.
 mod calls;
+mod recorded;
 pub mod states;
 
 // The calls that move the state by one.
@@ -13,4 +14,6 @@ pub enum Move {
 pub enum Ask {
     Pick,
     Margin,
+    // for a truck, with a page of so many bytes
+    Recorded(u16, usize),
 }

@@ -4,6 +4,7 @@ ghost use Rattle.case_fields.specs.Lists.{room};
 use super::Ask;
 use super::Move;
 use super::calls;
+use super::recorded;
 use case_answers::answer;
 use case_fields::line;
 use case_fields::list;
@@ -71,10 +72,13 @@ fn replay_parts(
     match ask {
         Ask::Pick => calls::print_pick(card, state, &shovels[0..s], &times[0..t]),
         Ask::Margin => calls::print_margin(card, state, &shovels[0..s], &times[0..t]),
+        Ask::Recorded(truck, size) => {
+            recorded::replay_page(card, state, &shovels[0..s], &times[0..t], truck, size)
+        }
     }
 }
 
-// The lists of a pick or a margin.
+// The lists of a pick, a margin or a recorded pick.
 fn replay_lists(line: &[u8], ask: Ask, card: &[u8], state: Numbers)
     requires { ⌜ state .count ≤ room ⌝ }
 {
@@ -103,4 +107,26 @@ pub fn replay_asked(line: &[u8], ask: Ask, card: &[u8]) {
         return answer::print_syntax();
     }
     replay_lists(line, ask, card, state);
+}
+
+// recpick CARD STATE SHOVELS TIMES TRUCK PAGELEN
+pub fn replay_recorded(line: &[u8], card: &[u8]) {
+    let state = list::numbers_of(line::field(line, 2), true, WORD);
+    let truck = number::number_of(line::field(line, 5), false);
+    let size = number::number_of(line::field(line, 6), false);
+    if line::fields(line) != 7 {
+        return answer::print_syntax();
+    }
+    if ROOM <= state.count {
+        return answer::print_syntax();
+    }
+    if (HALF as u64) < truck {
+        return answer::print_syntax();
+    }
+    replay_lists(
+        line,
+        Ask::Recorded(truck as u16, size as usize),
+        card,
+        state,
+    );
 }

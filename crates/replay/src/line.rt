@@ -3,12 +3,13 @@ use case_answers::answer;
 use case_cards::cards;
 use case_fields::line;
 use case_fields::list;
+use case_records::lines;
 use case_states::Ask;
 use case_states::Move;
 use case_states::states;
 use case_strips::strips;
 
-// The calls that take a card's bytes.
+// The calls that take the bytes of a card or a record.
 enum Call {
     Check,
     Read,
@@ -19,6 +20,9 @@ enum Call {
     Strip,
     Pick,
     Margin,
+    Recorded,
+    Desk,
+    Cab,
 }
 
 // A call on the first n bytes; a full array can't be read.
@@ -37,14 +41,36 @@ fn replay_bytes(line: &[u8], call: Call, bytes: &[u8], n: usize) {
         Call::Strip => strips::replay_strip(line, card),
         Call::Pick => states::replay_asked(line, Ask::Pick, card),
         Call::Margin => states::replay_asked(line, Ask::Margin, card),
+        Call::Recorded => states::replay_recorded(line, card),
+        Call::Desk => lines::replay_desk(line, card),
+        Call::Cab => lines::replay_cab(line, card),
     }
 }
 
-// A call on the card in field 1.
-fn replay_call(line: &[u8], call: Call) {
-    let card = list::bytes_of(line::field(line, 1));
+// A call on the bytes in field k.
+fn replay_on(line: &[u8], call: Call, k: usize) {
+    let card = list::bytes_of(line::field(line, k));
     let bytes = card.bytes;
     replay_bytes(line, call, &bytes, card.count);
+}
+
+// A call on the card or the record in field 1.
+fn replay_call(line: &[u8], call: Call) {
+    replay_on(line, call, 1);
+}
+
+// A line on a record, by its word.
+fn replay_record(line: &[u8], word: &[u8]) {
+    if check::same(word, b"recpick") {
+        return replay_call(line, Call::Recorded);
+    }
+    if check::same(word, b"desk") {
+        return replay_call(line, Call::Desk);
+    }
+    if check::same(word, b"cab") {
+        return replay_on(line, Call::Cab, 2);
+    }
+    answer::print_syntax();
 }
 
 // A line that is no comment, by its word.
@@ -80,7 +106,7 @@ fn replay_case(line: &[u8]) {
     if check::same(word, b"write") {
         return cards::replay_write(line);
     }
-    answer::print_syntax();
+    replay_record(line, word);
 }
 
 // A line: a comment gets no answer, anything else one.
