@@ -1,7 +1,7 @@
 //! The functions and structs of `include/tiedraw.h`, as they stand there. Nothing here compares versions.
 #![allow(missing_docs)] // the header has them
 
-use crate::TABLE_SIZE;
+use crate::{MOST_WORDS, TABLE_SIZE};
 
 #[repr(C)]
 pub struct Card {
@@ -52,6 +52,31 @@ pub struct Written {
     pub refusal: u8,
 }
 
+#[repr(C)]
+pub struct Record {
+    pub state: [u32; MOST_WORDS],
+    pub truck: u16,
+    pub shovel: u16,
+    pub ties_given: u8,
+    pub ties: u8,
+    pub taken_given: u8,
+    pub taken: u8,
+    pub state_given: u8,
+    pub words: u8,
+}
+
+#[repr(C)]
+pub struct RecordReading {
+    pub record: Record,
+    pub refusal: u8,
+}
+
+#[repr(C)]
+pub struct OrderAnswer {
+    pub shovel: u16,
+    pub refusal: u8,
+}
+
 extern "C" {
     pub fn tiedraw_version() -> u32;
     pub fn tiedraw_check(card: *const u8, card_len: usize) -> u8;
@@ -80,6 +105,21 @@ extern "C" {
         times: *const u32,
         time_count: usize,
     ) -> Choice;
+    pub fn tiedraw_pick_recorded(
+        card: *const u8,
+        card_len: usize,
+        state: *mut u32,
+        words: usize,
+        shovels: *const u16,
+        shovel_count: usize,
+        times: *const u32,
+        time_count: usize,
+        truck: u16,
+        page: *mut u8,
+        page_len: usize,
+    ) -> Choice;
+    pub fn tiedraw_read_record(record: *const u8, record_len: usize) -> RecordReading;
+    pub fn tiedraw_order(truck: u16, record: *const u8, record_len: usize) -> OrderAnswer;
     pub fn tiedraw_margin(
         card: *const u8,
         card_len: usize,

@@ -2,8 +2,9 @@
 //!
 //! [`Generator`] holds an accepted card and a state of its size, so that its draws, fills and steps can't be refused; a
 //! list of [`Shovel`]s can't have more numbers than times. [`Generator::margin`] tells how near a pick would be, and
-//! moves nothing. The functions of this module are the library's own, on slices, for callers who keep card and state
-//! themselves.
+//! moves nothing. [`Generator::pick_recorded`] also gives the record of a tie, which [`read_record`] reads for the desk
+//! and [`order_for`] for a cab. The functions of this module are the library's own, on slices, for callers who keep card
+//! and state themselves.
 //!
 //! Every call panics where the library has another major or minor version than this binding ([`check_version`]).
 //!
@@ -20,9 +21,11 @@
 #![warn(missing_docs)]
 
 pub mod ffi;
+mod record;
 mod refusal;
 mod version;
 
+pub use record::{order_for, pick_recorded, read_record, Record, RecordBytes};
 pub use refusal::Refusal;
 pub use version::{check_version, library_version, Version, VersionMismatch, VERSION};
 
@@ -36,6 +39,8 @@ pub const MOST_CARD_BYTES: usize = 267;
 pub const MOST_SHOVELS: usize = 64;
 /// No pick takes more words.
 pub const MOST_TAKEN: usize = 16;
+/// No record has more bytes.
+pub const MOST_RECORD_BYTES: usize = 8 + 4 * MOST_WORDS;
 
 /// The card of TSC-1: every field absent.
 const TSC1: &[u8] = &[0];
@@ -49,6 +54,17 @@ pub struct Choice {
     pub ties: u8,
     /// how many words were taken, 0 where one alone had the least time; as many steps back take the pick back
     pub taken: u8,
+}
+
+impl Choice {
+    fn of(answer: ffi::Choice) -> Result<Choice, Refusal> {
+        let choice = Choice {
+            shovel: answer.shovel,
+            ties: answer.ties,
+            taken: answer.taken,
+        };
+        Refusal::result(answer.refusal).map(|()| choice)
+    }
 }
 
 /// What a margin answers: the smallest change of one shovel's time that would send the truck elsewhere.
@@ -204,12 +220,7 @@ pub fn pick(
             times.len(),
         )
     };
-    let choice = Choice {
-        shovel: answer.shovel,
-        ties: answer.ties,
-        taken: answer.taken,
-    };
-    Refusal::result(answer.refusal).map(|()| choice)
+    Choice::of(answer)
 }
 
 /// How near the pick was: the smallest change of one shovel's time that would send the truck elsewhere from this state,
@@ -428,6 +439,38 @@ impl Generator {
     pub fn pick(&mut self, shovels: &[Shovel]) -> Result<Choice, Refusal> {
         let (numbers, times) = lists(shovels);
         pick(self.card.bytes(), &mut self.state, &numbers, &times)
+    }
+
+    /// A pick, as [`Generator::pick`] makes it, for a truck; and the record of a tie, with every field, the state as it was
+    /// before the pick, or none where one shovel was nearest. Or refusal 13 to 15 or 18.
+    ///
+    /// ```
+    /// use tiedraw::{Card, Generator, Shovel};
+    /// let card = Card::new(&[0x27, 2, 2, 1, 2, 3, 0, 1, 0, 0, 0])?;
+    /// let mut server = Generator::new(card.clone(), &[0, 0])?;
+    /// let list = [7, 4].map(|number| Shovel { number, time: 300 });
+    /// let (choice, record) = server.pick_recorded(258, &list)?;
+    /// let record = record.expect("a tie");
+    /// // truck 258 is sent to shovel 4, and its cab hears just that
+    /// assert_eq!(tiedraw::order_for(258, &record)?, 4);
+    /// // the desk makes the pick again, from the state that it was made from
+    /// let state = tiedraw::read_record(&record)?.state.expect("our records have it");
+    /// let mut desk = Generator::new(card, &state)?;
+    /// assert_eq!(desk.pick(&list)?, choice);
+    /// assert_eq!(desk, server);
+    /// # Ok::<(), tiedraw::Refusal>(())
+    /// ```
+    pub fn pick_recorded(
+        &mut self,
+        truck: u16,
+        shovels: &[Shovel],
+    ) -> Result<(Choice, Option<RecordBytes>), Refusal> {
+        let (numbers, times) = lists(shovels);
+        let mut page = [0; MOST_RECORD_BYTES];
+        let card = self.card.bytes();
+        let (choice, record) =
+            pick_recorded(card, &mut self.state, &numbers, &times, truck, &mut page)?;
+        Ok((choice, record.map(RecordBytes::of)))
     }
 
     /// How near the pick of this list would be, as [`margin()`] says; or refusal 13 to 15, 18 or 19. The state is not

@@ -38,10 +38,12 @@ refusals! {
     (NoShovel, "no shovel", "the list is empty"),
     (TooManyShovels, "crowd", "more than 64 shovels"),
     (DuplicateShovel, "twice", "a shovel number stands twice"),
-    (BufferTooSmall, "small page", "the page has fewer bytes than the card needs"),
+    (BufferTooSmall, "small page", "the page has fewer bytes than the card or the record needs"),
     (SpanOutOfBounds, "span", "the place is past the strip's end, or the count does not fit behind it"),
     (TooManyTies, "too many equals", "more shovels have the least time than there are words, 2^n"),
     (NoSuchChange, "firm", "no change of one shovel's time sends the truck elsewhere"),
+    (MalformedRecord, "torn", "a record's map, state count or length is not of its form"),
+    (TruckMismatch, "other truck", "the record is of another truck than the cab's"),
 }
 
 impl Refusal {
