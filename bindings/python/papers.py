@@ -9,10 +9,20 @@ def numbers(text, base=10):
     return [] if text == "-" else [int(number, base) for number in text.split(",")]
 
 
-def cases(call):
-    """Of each case of a call on a state: card, state, the fields behind them; and the answer, its fields by name or the refusal."""
+def from_hex(text):
+    return bytes.fromhex(text.strip("-"))
+
+
+def lines(call):
+    """Of each case of a call: its fields, as they stand; and the answer, its fields by name or the refusal."""
     for line in FILE.read_text(encoding="utf-8").splitlines():
         if line.startswith(f"{call} ") and not line.endswith(" => syntax"):
-            (_, card, state, *more), answer = (part.split(" ") for part in line.split(" => "))
+            (_, *fields), answer = (part.split(" ") for part in line.split(" => "))
             told = dict(zip(answer[::2], answer[1::2]))
-            yield bytes.fromhex(card.strip("-")), numbers(state, 16), more, int(told.get("refused", 0)) or told
+            yield fields, int(told.get("refused", 0)) or told
+
+
+def cases(call):
+    """Of each case of a call on a state: card, state, the fields behind them; and the answer, its fields by name or the refusal."""
+    for (card, state, *more), told in lines(call):
+        yield from_hex(card), numbers(state, 16), more, told

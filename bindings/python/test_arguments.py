@@ -8,7 +8,14 @@ import tiedraw
 from tiedraw import Values
 
 PROGRAM = bytes.fromhex("27 02 02 01 02 03 00 01 00 00 00")
-ON_LISTS = (tiedraw.pick, tiedraw.margin)  # of shovels and times
+RECORD = bytes.fromhex("1f 02 01 04 00 02 01 02 00 00 00 00 00 00 00 00")
+
+
+def for_truck(card, state, shovels, times):
+    return tiedraw.pick_recorded(card, state, shovels, times, 258)
+
+
+ON_LISTS = (tiedraw.pick, tiedraw.margin, for_truck)  # of shovels and times
 
 
 class Index:
@@ -31,7 +38,17 @@ class Misjudged(list):
 def on_times():
     """The calls of a Generator on the same lists."""
     desk = tiedraw.Generator(PROGRAM, [0, 0])
-    return desk.pick, desk.margin
+    return desk.pick, desk.margin, lambda times: desk.pick_recorded(258, times)
+
+
+def on_trucks():
+    """The calls that take a truck's number."""
+    desk = tiedraw.Generator(PROGRAM, [0, 0])
+    return (
+        lambda truck: desk.pick_recorded(truck, {7: 300}),
+        lambda truck: tiedraw.pick_recorded(PROGRAM, [0, 0], [7], [300], truck),
+        lambda truck: tiedraw.order_for(truck, RECORD),
+    )
 
 
 class Named(unittest.TestCase):
@@ -83,6 +100,29 @@ class Named(unittest.TestCase):
         self.told(TypeError, "sum_term: True is not a whole number", tiedraw.write, Values(sum_term=True))
         self.told(ValueError, "room: -1 is negative", tiedraw.write, Values(), -1)
 
+    def test_trucks_are_whole_numbers_of_16_bits(self):
+        for call in on_trucks():
+            self.told(ValueError, "truck: 65536 is more than 16 bits", call, 65536)
+            self.told(ValueError, f"truck: {2**64} is more than 16 bits", call, 2**64)
+            self.told(ValueError, "truck: -1 is negative", call, -1)
+            for thing in [258.0, "258", None, True, [258], b"\x02\x01"]:
+                self.told(TypeError, f"truck: {thing!r} is not a whole number", call, thing)
+
+    def test_the_room_of_a_record_is_a_whole_number(self):
+        case = tiedraw.pick_recorded, PROGRAM, [0, 0], [7], [1], 258
+        self.told(ValueError, "room: -1 is negative", *case, -1)
+        self.told(ValueError, f"room: {2**64} is more than 64 bits", *case, 2**64)
+        self.told(TypeError, "room: 16.0 is not a whole number", *case, 16.0)
+
+    def test_records_are_bytes(self):
+        for call in (tiedraw.read_record, lambda record: tiedraw.order_for(258, record)):
+            self.told(ValueError, "record[1]: 256 is more than 8 bits", call, [3, 256])
+            self.told(ValueError, "record[0]: -1 is negative", call, [-1])
+            self.told(TypeError, "record[0]: True is not a whole number", call, [True])
+            self.told(TypeError, "record: '03 01' is text; bytes.fromhex makes a record of it", call, "03 01")
+            self.told(TypeError, "record: {3} is a set, which has no order", call, {3})
+            self.told(TypeError, "record: None is not a row of numbers", call, None)
+
     def test_no_bool_is_a_number(self):
         self.told(TypeError, "card[0]: False is not a whole number", tiedraw.check, [False])
         self.told(TypeError, "state[1]: True is not a whole number", tiedraw.draw, PROGRAM, [0, True])
@@ -122,12 +162,25 @@ class Rows(unittest.TestCase):
         self.assertEqual(answer, ((7, 2, 1), (1, 1)))
         answer = tiedraw.margin(iter(PROGRAM), iter([2, 3]), iter(times), times.values())
         self.assertEqual(answer, (4, False, 1, 4, 1, 0))
+        (choice, _), after = tiedraw.pick_recorded(iter(PROGRAM), iter([2, 3]), iter(times), times.values(), 258)
+        self.assertEqual((choice, after), ((7, 2, 1), (1, 1)))
+
+    def test_records_of_any_kind(self):
+        wide = array.array("L", list(RECORD))
+        for kind in [bytes, list, bytearray, iter, memoryview, Misjudged, lambda numbers: map(Index, numbers)]:
+            self.assertEqual(tiedraw.read_record(kind(RECORD)), (258, 4, 2, 1, (0, 0)))
+            self.assertEqual(tiedraw.order_for(Index(258), kind(RECORD)), 4)
+        for record in [wide, memoryview(wide)]:
+            self.assertEqual(tiedraw.read_record(record), (258, 4, 2, 1, (0, 0)))
 
     def test_whole_numbers_of_other_kinds(self):
         desk = tiedraw.Generator(PROGRAM, [Index(2), Index(3)])
         times = {Index(7): Index(300), Index(4): Index(300)}
         self.assertEqual((desk.margin(times), desk.pick(times)), ((4, False, 1, 4, 1, 0), (7, 2, 1)))
         self.assertEqual(tiedraw.write(Values(width=Index(29))), bytes.fromhex("02 1d"))
+        desk = tiedraw.Generator(PROGRAM, [0, 0])
+        self.assertEqual(desk.pick_recorded(Index(258), times), ((4, 2, 1), RECORD))
+        self.assertEqual(tiedraw.pick_recorded(PROGRAM, [0, 0], [4, 7], [1, 1], Index(258), Index(16))[0], ((4, 2, 1), RECORD))
 
 
 if __name__ == "__main__":

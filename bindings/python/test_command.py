@@ -11,6 +11,7 @@ import tiedraw
 
 HERE = pathlib.Path(__file__).resolve().parent
 PROGRAM = "27 02 02 01 02 03 00 01 00 00 00"
+RECORD = "1f 02 01 04 00 02 01 02 00 00 00 00 00 00 00 00"
 
 
 def run(*arguments):
@@ -63,6 +64,40 @@ class Command(unittest.TestCase):
         ]:
             self.assertEqual(self.printed("margin", PROGRAM, state, *times), answer)
 
+    def test_recpick(self):
+        for times, answer in {
+            ("7=300", "4=300"): ["shovel 4", "ties 2", "taken 1", "state 00000001,00000002", f"record {RECORD}"],
+            ("7=300", "4=299"): ["shovel 4", "ties 1", "taken 0", "state 00000000,00000000", "record none"],
+        }.items():
+            self.assertEqual(self.printed("recpick", PROGRAM, "0,0", "258", *times), answer)
+            self.assertEqual(self.printed("pick", PROGRAM, "0,0", *times), answer[:-1])
+
+    def test_desk(self):
+        for record, answer in {
+            RECORD: ["truck 258", "shovel 4", "ties 2", "taken 1", "state 00000000,00000000"],
+            "03 01 02 03 04": ["truck 513", "shovel 1027", "ties absent", "taken absent", "state absent"],
+            "070102030400": ["truck 513", "shovel 1027", "ties 0", "taken absent", "state absent"],
+            "1b FF ff ff ff ff # another pit's\n 02 01020304 fffefdfc": [
+                "truck 65535",
+                "shovel 65535",
+                "ties absent",
+                "taken 255",
+                "state 04030201,fcfdfeff",
+            ],
+        }.items():
+            self.assertEqual(self.printed("desk", record), answer)
+
+    def test_cab(self):
+        for truck, record, shovel in [("258", RECORD, 4), ("00513", "0301020304", 1027)]:
+            self.assertEqual(self.printed("cab", truck, record), [f"shovel {shovel}"])
+
+    def test_a_record_in_a_file(self):
+        with tempfile.TemporaryDirectory() as folder:
+            file = pathlib.Path(folder, "tie.hex")
+            file.write_text(f"{RECORD} # truck 258\n", encoding="utf-8")
+            self.assertEqual(self.printed("desk", f"@{file}"), self.printed("desk", RECORD))
+            self.assertEqual(self.printed("cab", "258", f"@{file}"), ["shovel 4"])
+
     def test_new_cards_can_be_given_back(self):
         words = [("--words", str(number)) for number in (3, 5, 6, 7, 8)]
         for size in [(), *words, ("--words", "2", "--width", "7"), ("--filter", "2", "--seed", "south pit")]:
@@ -80,9 +115,10 @@ class Command(unittest.TestCase):
         versions = [f"binding {tiedraw.__version__}", f"library {tiedraw.library_version()}"]
         self.assertEqual(self.printed("--version"), versions)
         told = "\n".join(self.printed("--help"))
-        for text in ["check", "read", "draw", "pick", "margin", "new", "words in hex with commas", "@FILE", "Exit status"]:
+        commands = ["check", "read", "draw", "pick", "margin", "recpick", "desk", "cab", "new"]
+        for text in [*commands, "words in hex with commas", "@FILE", "Exit status"]:
             self.assertIn(text, told)
-        for command in ["check", "read", "draw", "pick", "margin", "new"]:
+        for command in commands:
             self.printed(command, "--help")
 
     def test_a_refusal_is_told_on_standard_error(self):
@@ -95,6 +131,10 @@ class Command(unittest.TestCase):
         self.fails(1, "refusal 18 (too many equals): ", "pick", PROGRAM, "0,0", "1=60", "2=60", "3=60", "4=60", "5=60")
         self.fails(1, "refusal 13 (no shovel): ", "margin", PROGRAM, "0,0")
         self.fails(1, "refusal 19 (firm): no change of one shovel's time", "margin", PROGRAM, "0,0", "7=300")
+        self.fails(1, "refusal 13 (no shovel): ", "recpick", PROGRAM, "0,0", "258")
+        self.fails(1, "refusal 20 (torn): a record's map, state count", "desk", "")
+        self.fails(1, "refusal 20 (torn): ", "cab", "259", f"{RECORD} 00")
+        self.fails(1, "refusal 21 (other truck): the record is of another truck", "cab", "259", RECORD)
 
     def test_wrong_usage(self):
         for message, *arguments in [
@@ -114,6 +154,12 @@ class Command(unittest.TestCase):
             ("'1.5' is not a whole number", "pick", PROGRAM, "0,0", "7=1.5"),
             ("'7' is not SHOVEL=SECONDS", "margin", PROGRAM, "0,0", "7"),
             ("SECONDS: 4294967296 is more than 32 bits", "margin", PROGRAM, "0,0", "7=4294967296"),
+            ("truck: 65536 is more than 16 bits", "recpick", PROGRAM, "0,0", "65536", "7=300"),
+            ("'7=300' is not a whole number", "recpick", PROGRAM, "0,0", "7=300", "4=300"),
+            ("required: RECORD", "cab", "258"),
+            ("'-1' is not a whole number", "cab", "--", "-1", RECORD),
+            ("'1f 0' is not bytes in hex", "cab", "258", "1f 0"),
+            ("unrecognized arguments: 02", "desk", "1f", "02"),
             ("words: 9 is not 2 to 8", "new", "--words", "9"),
             ("width: 1 is not 2 to 32", "new", "--width", "1"),
             ("'x' is not a whole number", "new", "--filter", "x"),

@@ -15,7 +15,8 @@ REAL = os.path.realpath(_library.LIBRARY._name)
 SONAME = _load.SONAME
 MAJOR, MINOR, _ = map(int, __version__.split("."))
 TELL = "import tiedraw; print(tiedraw.library_version())"
-CALLS = ["check", "read", "step", "step_back", "draw", "fill", "pick", "margin", "write"]
+ON_RECORDS = ["pick_recorded", "read_record", "order"]
+CALLS = ["check", "read", "step", "step_back", "draw", "fill", "pick", *ON_RECORDS, "margin", "write"]
 
 
 def patched(patch):

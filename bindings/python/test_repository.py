@@ -6,7 +6,7 @@ import unittest
 
 import tiedraw
 from tiedraw import Refusal
-from tiedraw._text import card_bytes
+from tiedraw._text import hex_bytes
 
 ROOT = pathlib.Path(__file__).resolve().parents[2]
 
@@ -86,14 +86,20 @@ class Bounds(unittest.TestCase):
         for name in self.names:
             self.same(getattr(tiedraw, name), re.findall(rf"pub const {name}: \w+ = (\d+);", rust()))
 
+    def test_a_record_has_as_many_bytes_as_its_words_take(self):
+        sum_of = r"8 \+ 4 \* (?:TIEDRAW_)?MOST_WORDS"
+        self.assertEqual(tiedraw.MOST_RECORD_BYTES, 8 + 4 * tiedraw.MOST_WORDS)
+        self.assertRegex(text("include/tiedraw.h"), rf"#define TIEDRAW_MOST_RECORD_BYTES \({sum_of}\)\n")
+        self.assertRegex(rust(), rf"pub const MOST_RECORD_BYTES: usize = {sum_of};")
+
 
 class Cards(unittest.TestCase):
     def test_the_cards_are_read_by_the_command_line(self):
         for file in sorted((ROOT / "cards").glob("*.hex")):
-            tiedraw.check(card_bytes(f"@{file}"))
+            tiedraw.check(hex_bytes(f"@{file}"))
 
     def test_the_card_of_eight_words_is_made_by_its_seed(self):
-        self.assertEqual(card_bytes(f"@{ROOT / 'cards/eight.hex'}"), tiedraw.new_card(8, seed="eight"))
+        self.assertEqual(hex_bytes(f"@{ROOT / 'cards/eight.hex'}"), tiedraw.new_card(8, seed="eight"))
 
 
 if __name__ == "__main__":

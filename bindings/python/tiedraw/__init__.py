@@ -6,12 +6,16 @@
     desk.state                      # (1, 2)
     desk.margin({7: 305, 4: 300})   # Margin(changed=4, raised=True, seconds=6, shovel=7, ties=1, taken=0)
     desk.words(3)                   # array('I', [0, 3, 2])
+    choice, record = desk.pick_recorded(258, {7: 300, 4: 300})
+    tiedraw.read_record(record)     # Record(truck=258, shovel=4, ties=2, taken=1, state=(2, 0))
+    tiedraw.order_for(258, record)  # 4
 
 A Generator holds an accepted card and a state of its size, so its draws and steps can't be refused. Many words at once
 cost least by Generator.words, or by Generator.fill into a buffer that is there already. Generator.margin tells how near a
-pick would be, and moves nothing. The functions check, read, step, step_back, draw, fill, pick, margin and write are the
-library's own; they take state and strip as sequences, and return new ones where these change. new_card makes a card for a
-pit. `python3 -m tiedraw --help` tells of the same on a command line.
+pick would be, and moves nothing. Generator.pick_recorded also gives the record of a tie, as bytes: read_record reads it
+for the desk, order_for tells a cab its shovel. The functions check, read, step, step_back, draw, fill, pick, pick_recorded,
+margin and write are the library's own; they take state and strip as sequences, and return new ones where these change.
+new_card makes a card for a pit. `python3 -m tiedraw --help` tells of the same on a command line.
 
 A refusal raises Refused. What can't be handed over raises TypeError if it is no whole number, ValueError if it is too
 wide or negative, and the error names it: `shovels[2]: 65536 is more than 16 bits`. A place or count of a fill that is too
@@ -21,22 +25,38 @@ The library is the file that TIEDRAW_LIBRARY names; else one beside the package,
 the package stands in, or on the system.
 """
 
-from ._calls import check, draw, fill, margin, pick, read, step, step_back, write
+from ._calls import (
+    check,
+    draw,
+    fill,
+    margin,
+    order_for,
+    pick,
+    pick_recorded,
+    read,
+    read_record,
+    step,
+    step_back,
+    write,
+)
 from ._generator import Generator
-from ._library import MOST_CARD_BYTES, MOST_SHOVELS, MOST_TAKEN, MOST_WORDS, library_version
+from ._library import MOST_CARD_BYTES, MOST_RECORD_BYTES, MOST_SHOVELS, MOST_TAKEN, MOST_WORDS, library_version
 from ._new_card import new_card
 from ._refusal import Refusal, Refused
-from ._values import Choice, Margin, Values
+from ._values import Choice, Margin, Record, Recorded, Values
 from ._version import __version__
 
 __all__ = [
     "MOST_CARD_BYTES",
+    "MOST_RECORD_BYTES",
     "MOST_SHOVELS",
     "MOST_TAKEN",
     "MOST_WORDS",
     "Choice",
     "Generator",
     "Margin",
+    "Record",
+    "Recorded",
     "Refusal",
     "Refused",
     "Values",
@@ -47,8 +67,11 @@ __all__ = [
     "library_version",
     "margin",
     "new_card",
+    "order_for",
     "pick",
+    "pick_recorded",
     "read",
+    "read_record",
     "step",
     "step_back",
     "write",

@@ -7,17 +7,19 @@ import os
 import sys
 from typing import Any, Callable, Iterator
 
-from . import Generator, Refused, __version__, check, library_version, new_card, read
+from . import Generator, Refused, __version__, check, library_version, new_card, order_for, read, read_record
 from ._library import MOST_WORDS
 from ._new_card import DEFAULT_WORDS, FEWEST_WORDS, NARROWEST, WIDEST, between
-from ._text import card_bytes, number, shovel_time, state_text, state_words, value_lines
+from ._text import choice_lines, hex_bytes, number, record_lines, shovel_time, state_text, state_words, truck, value_lines
 
 ABOUT = """\
 Tie draws for mine dispatch, proved. Each command prints one fact a line, a name and its value.
 
-CARD is bytes in hex, with blanks between them or without, and comments from # to the end of a line; or @FILE, a file of
-such text. Quote it if it has blanks. STATE is words in hex with commas between them, the first word first.
-Shovels, seconds and counts are decimal."""
+CARD and RECORD are bytes in hex, with blanks between them or without, and comments from # to the end of a line; or @FILE,
+a file of such text. Quote it if it has blanks. STATE is words in hex with commas between them, the first word first.
+Trucks, shovels, seconds and counts are decimal."""
+
+ARGUMENTS: dict[str, Callable[[str], Any]] = {"CARD": hex_bytes, "STATE": state_words, "TRUCK": truck, "RECORD": hex_bytes}
 
 ENDING = "Exit status: 0; 1 if the library refuses, with number and trade word on standard error; 2 if the usage is wrong."
 
@@ -40,11 +42,24 @@ def _draw(options: argparse.Namespace) -> Iterator[str]:
 
 def _pick(options: argparse.Namespace) -> Iterator[str]:
     desk = Generator(options.card, options.state)
-    choice = desk.pick(options.times)
-    yield f"shovel {choice.shovel}"
-    yield f"ties {choice.ties}"
-    yield f"taken {choice.taken}"
+    yield from choice_lines(desk.pick(options.times))
     yield f"state {state_text(desk.state)}"
+
+
+def _recpick(options: argparse.Namespace) -> Iterator[str]:
+    desk = Generator(options.card, options.state)
+    choice, record = desk.pick_recorded(options.truck, options.times)
+    yield from choice_lines(choice)
+    yield f"state {state_text(desk.state)}"
+    yield f"record {record.hex(' ') if record else 'none'}"
+
+
+def _desk(options: argparse.Namespace) -> Iterator[str]:
+    yield from record_lines(read_record(options.record))
+
+
+def _cab(options: argparse.Namespace) -> Iterator[str]:
+    yield f"shovel {order_for(options.truck, options.record)}"
 
 
 def _margin(options: argparse.Namespace) -> Iterator[str]:
@@ -89,9 +104,9 @@ def _parser() -> argparse.ArgumentParser:
     def command(run: Callable[[argparse.Namespace], Iterator[str]], about: str, *arguments: str) -> argparse.ArgumentParser:
         added = commands.add_parser(run.__name__[1:], help=about, description=about)
         added.set_defaults(run=run)
-        for name, parse in (("CARD", card_bytes), ("STATE", state_words)):
-            if name in arguments:
-                added.add_argument(name.lower(), metavar=name, type=_parsed(parse), help=parse.__doc__)
+        for name in arguments:
+            parse = ARGUMENTS[name]
+            added.add_argument(name.lower(), metavar=name, type=_parsed(parse), help=parse.__doc__)
         return added
 
     command(_check, "prints `accepted`, or the card is refused by 1 to 9", "CARD")
@@ -100,8 +115,11 @@ def _parser() -> argparse.ArgumentParser:
     draw.add_argument("--count", metavar="N", type=_parsed(number), default=1, help="so many draws (default 1)")
     pick = command(_pick, "prints the shovel, the number of ties and of words taken, and the state after the pick", "CARD", "STATE")
     margin = command(_margin, "prints the smallest change of one time that sends the truck elsewhere, and that pick", "CARD", "STATE")
-    for added in (pick, margin):
+    recpick = command(_recpick, "picks for a truck, and prints also the record that a tie leaves", "CARD", "STATE", "TRUCK")
+    for added in (pick, margin, recpick):
         added.add_argument("times", metavar="SHOVEL=SECONDS", nargs="*", type=_parsed(shovel_time), help="a shovel and its time")
+    command(_desk, "prints every field of a record, `absent` for one that it lacks, or it is refused by 20", "RECORD")
+    command(_cab, "prints the shovel of a truck's record, or it is refused by 20, or by 21 if it is another's", "TRUCK", "RECORD")
     _new_options(command(_new, "prints a new card in hex, and its values as comments: a file for @FILE"))
     return parser
 

@@ -2,14 +2,15 @@
 
 from __future__ import annotations
 
+import ctypes
 from ctypes import c_uint8, c_uint16, c_uint32
 from typing import Any, Callable, SupportsIndex
 
 from . import _library
-from ._library import MOST_CARD_BYTES, MarginAnswer
-from ._numbers import Numbers, row, seconds_row, span, whole
+from ._library import MOST_CARD_BYTES, MOST_RECORD_BYTES, Chosen, MarginAnswer
+from ._numbers import Numbers, row, seconds_row, span, truck_number, whole
 from ._refusal import unless_refused
-from ._values import Choice, Margin, Values
+from ._values import Choice, Margin, Record, Recorded, Values
 
 
 def check(card: Numbers) -> None:
@@ -65,10 +66,67 @@ def _lists(shovels: Numbers, times: Numbers) -> tuple[Any, ...]:
     return (*row(c_uint16, "shovels", shovels), *seconds_row(times))
 
 
+def choice_of(answer: Chosen) -> Choice:
+    return Choice(answer.shovel, answer.ties, answer.taken)
+
+
 def pick(card: Numbers, state: Numbers, shovels: Numbers, times: Numbers) -> tuple[Choice, tuple[int, ...]]:
     """The chosen shovel, the number of ties and of words taken, and the state after the pick."""
     answer, after = _on_state(_library.pick, card, state, *_lists(shovels, times))
-    return Choice(answer.shovel, answer.ties, answer.taken), after
+    return choice_of(answer), after
+
+
+def _page(room: SupportsIndex, most: int) -> ctypes.Array[c_uint8]:
+    """A page with so much room, or with the most that is ever needed."""
+    return (c_uint8 * min(whole("room", room, 64), most))()
+
+
+def record_size(words: int) -> int:
+    """The bytes of the record that a tie leaves, where a state has so many words."""
+    return 8 + 4 * words
+
+
+def recorded_of(answer: Chosen, page: ctypes.Array[c_uint8], words: int) -> Recorded:
+    return Recorded(choice_of(answer), bytes(page[: record_size(words)]) if answer.ties > 1 else None)
+
+
+def pick_recorded(
+    card: Numbers,
+    state: Numbers,
+    shovels: Numbers,
+    times: Numbers,
+    truck: SupportsIndex,
+    room: SupportsIndex = MOST_RECORD_BYTES,
+) -> tuple[Recorded, tuple[int, ...]]:
+    """A pick for a truck: the choice and the record that a tie leaves, on a page with so much room; and the state after it.
+
+    Room for fewer bytes than a record has, 8 and 4 for each word of the state, is refused by 16, tie or not, after all that a
+    pick refuses.
+    """
+    number, page = truck_number(truck), _page(room, MOST_RECORD_BYTES)
+    answer, after = _on_state(_library.pick_recorded, card, state, *_lists(shovels, times), number, page, len(page))
+    return recorded_of(answer, page, len(after)), after
+
+
+def read_record(record: Numbers) -> Record:
+    """Every field of a record, for the desk, and None for one that it lacks; or refusal 20, also where bytes stand behind it."""
+    answer = _library.read_record(*row(c_uint8, "record", record))
+    unless_refused(answer.refusal)
+    found = answer.record
+    ties = found.ties if found.ties_given else None
+    taken = found.taken if found.taken_given else None
+    state = tuple(found.state[: found.words]) if found.state_given else None
+    return Record(found.truck, found.shovel, ties, taken, state)
+
+
+def order_for(truck: SupportsIndex, record: Numbers) -> int:
+    """The shovel of a record, for the cab of this truck, and nothing else of it; or refusal 20, or 21 for another truck's.
+
+    From two records of the same truck and shovel a cab hears the same.
+    """
+    answer = _library.order(truck_number(truck), *row(c_uint8, "record", record))
+    unless_refused(answer.refusal)
+    return answer.shovel
 
 
 def margin_of(answer: MarginAnswer) -> Margin:
@@ -91,11 +149,10 @@ def _arguments(name: str, value: Any) -> tuple[Any, ...]:
     return (whole(name, value, 32 if name == "constant" else 8),)
 
 
-def write(values: Values, room: int = MOST_CARD_BYTES) -> bytes:
+def write(values: Values, room: SupportsIndex = MOST_CARD_BYTES) -> bytes:
     """The bytes of the card of these values, on a page with so much room."""
     arguments = [argument for name, value in values._asdict().items() for argument in _arguments(name, value)]
-    length = min(whole("room", room, 64), MOST_CARD_BYTES)  # no card needs more
-    page = (c_uint8 * length)()
-    answer = _library.write(*arguments, page, length)
+    page = _page(room, MOST_CARD_BYTES)
+    answer = _library.write(*arguments, page, len(page))
     unless_refused(answer.refusal)
     return bytes(page[: answer.length])

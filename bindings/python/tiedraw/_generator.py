@@ -10,11 +10,11 @@ from threading import RLock
 from typing import Any, SupportsIndex
 
 from ._buffers import Buffer, address, words_of
-from ._calls import margin_of, step
+from ._calls import choice_of, margin_of, record_size, recorded_of, step
 from ._library import Chosen, MarginAnswer, Word, call
-from ._numbers import Numbers, Times, natural, row, shovels_and_times, span
+from ._numbers import Numbers, Times, natural, row, shovels_and_times, span, truck_number
 from ._refusal import unless_refused
-from ._values import Choice, Margin
+from ._values import Choice, Margin, Recorded
 
 # With their arguments made once, as ctypes objects, the calls have nothing left to convert.
 _step = call("tiedraw_step", c_uint8)
@@ -22,6 +22,7 @@ _step_back = call("tiedraw_step_back", c_uint8)
 _draw = call("tiedraw_draw", Word)
 _fill = call("tiedraw_fill", c_uint8)
 _pick = call("tiedraw_pick", Chosen)
+_pick_recorded = call("tiedraw_pick_recorded", Chosen)
 _margin = call("tiedraw_margin", MarginAnswer)
 
 
@@ -40,7 +41,19 @@ class Generator:
     itself.
     """
 
-    __slots__ = ("_card", "_state", "_lock", "_step", "_step_back", "_draw", "_fill", "_pick", "_margin", "__weakref__")
+    __slots__ = (
+        "_card",
+        "_state",
+        "_lock",
+        "_step",
+        "_step_back",
+        "_draw",
+        "_fill",
+        "_pick",
+        "_pick_recorded",
+        "_margin",
+        "__weakref__",
+    )
 
     def __init__(self, card: Numbers, state: Numbers):
         self._card, size = row(c_uint8, "card", card)
@@ -53,6 +66,7 @@ class Generator:
         self._draw = partial(_draw, *lent)
         self._fill = partial(_fill, *lent)
         self._pick = partial(_pick, *lent)
+        self._pick_recorded = partial(_pick_recorded, *lent)
         self._margin = partial(_margin, *lent)
 
     @property
@@ -116,7 +130,22 @@ class Generator:
         with self._lock:
             answer: Chosen = self._pick(*lists)
         unless_refused(answer.refusal)
-        return Choice(answer.shovel, answer.ties, answer.taken)
+        return choice_of(answer)
+
+    def pick_recorded(self, truck: SupportsIndex, times: Times) -> Recorded:
+        """The pick of these times for a truck, and the bytes of the record that a tie leaves; None where there was no tie.
+
+        Choice, refusals and the state after it are those of the pick. The record has every field, and the state as it was
+        before: read_record reads it for the desk, order_for tells the truck's cab the shovel, and nothing else.
+        """
+        number, lists = c_uint16(truck_number(truck)), _lists(times)
+        words = len(self._state)
+        size = record_size(words)
+        page = (c_uint8 * size)()
+        with self._lock:
+            answer: Chosen = self._pick_recorded(*lists, number, page, c_size_t(size))
+        unless_refused(answer.refusal)
+        return recorded_of(answer, page, words)
 
     def margin(self, times: Times) -> Margin:
         """How near the pick of these times would be: the smallest change of one that would send the truck elsewhere.

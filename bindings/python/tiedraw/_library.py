@@ -15,6 +15,7 @@ MOST_WORDS = 8
 MOST_SHOVELS = 64
 MOST_CARD_BYTES = 267
 MOST_TAKEN = 16
+MOST_RECORD_BYTES = 8 + 4 * MOST_WORDS
 
 
 class Card(ctypes.Structure):
@@ -83,6 +84,41 @@ class Written(ctypes.Structure):
     refusal: int
 
 
+class RecordFields(ctypes.Structure):
+    _fields_ = [
+        ("state", c_uint32 * MOST_WORDS),
+        ("truck", c_uint16),
+        ("shovel", c_uint16),
+        ("ties_given", c_uint8),
+        ("ties", c_uint8),
+        ("taken_given", c_uint8),
+        ("taken", c_uint8),
+        ("state_given", c_uint8),
+        ("words", c_uint8),
+    ]
+    state: ctypes.Array[c_uint32]
+    truck: int
+    shovel: int
+    ties_given: int
+    ties: int
+    taken_given: int
+    taken: int
+    state_given: int
+    words: int
+
+
+class RecordReading(ctypes.Structure):
+    _fields_ = [("record", RecordFields), ("refusal", c_uint8)]
+    record: RecordFields
+    refusal: int
+
+
+class OrderAnswer(ctypes.Structure):
+    _fields_ = [("shovel", c_uint16), ("refusal", c_uint8)]
+    shovel: int
+    refusal: int
+
+
 def library_version() -> str:
     """The version of the library that is loaded."""
     return VERSION
@@ -112,6 +148,9 @@ step_back: Callable[..., int] = call("tiedraw_step_back", c_uint8, _ON_STATE)
 draw: Callable[..., Word] = call("tiedraw_draw", Word, _ON_STATE)
 fill: Callable[..., int] = call("tiedraw_fill", c_uint8, _ON_STATE + _SPAN)
 pick: Callable[..., Chosen] = call("tiedraw_pick", Chosen, _ON_STATE + _LISTS)
+pick_recorded: Callable[..., Chosen] = call("tiedraw_pick_recorded", Chosen, _ON_STATE + _LISTS + [c_uint16] + _BYTES)
+read_record: Callable[..., RecordReading] = call("tiedraw_read_record", RecordReading, _BYTES)
+order: Callable[..., OrderAnswer] = call("tiedraw_order", OrderAnswer, [c_uint16, *_BYTES])
 margin: Callable[..., MarginAnswer] = call("tiedraw_margin", MarginAnswer, _ON_STATE + _LISTS)
 write: Callable[..., Written] = call(
     "tiedraw_write", Written, [c_uint8, c_uint8, *_BYTES, c_uint8, c_uint8, c_uint32, c_uint8, c_uint8, *_BYTES]

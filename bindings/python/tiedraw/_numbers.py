@@ -55,13 +55,17 @@ def _one_by_one(name: str, numbers: Any, what: str) -> Iterator[Any]:
 def row(kind: type[Kind], name: str, numbers: Numbers, of: str = "") -> tuple[ctypes.Array[Kind], int]:
     """An array for C, in the order in which the numbers stand, and its length."""
     if isinstance(numbers, str):
-        hint = "bytes.fromhex makes a card of it" if name == "card" else "numbers are asked for"
+        hint = f"bytes.fromhex makes a {name} of it" if name in ("card", "record") else "numbers are asked for"
         raise TypeError(f"{name}: {shown(numbers)} is text; {hint}")
     if isinstance(numbers, (Mapping, Set)):
         raise TypeError(f"{name}: {shown(numbers)} is a {type(numbers).__name__}, which has no order")
     ordered = _one_by_one(name, numbers, "a row of numbers")
     entries = _each(ordered, 8 * ctypes.sizeof(kind), lambda i: f"{name}[{i}]", of)
     return (kind * len(entries))(*entries), len(entries)
+
+
+def truck_number(truck: SupportsIndex) -> int:
+    return whole("truck", truck, 16)
 
 
 def seconds_row(times: Numbers) -> tuple[ctypes.Array[ctypes.c_uint32], int]:

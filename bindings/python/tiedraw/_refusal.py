@@ -28,10 +28,12 @@ class Refusal(enum.IntEnum):
     NO_SHOVEL = 13, "no shovel", "the list is empty"
     TOO_MANY_SHOVELS = 14, "crowd", "more than 64 shovels"
     DUPLICATE_SHOVEL = 15, "twice", "a shovel number stands twice"
-    BUFFER_TOO_SMALL = 16, "small page", "the page has fewer bytes than the card needs"
+    BUFFER_TOO_SMALL = 16, "small page", "the page has fewer bytes than the card or the record needs"
     SPAN_OUT_OF_BOUNDS = 17, "span", "the place is past the strip's end, or the count does not fit behind it"
     TOO_MANY_TIES = 18, "too many equals", "more shovels have the least time than there are words, 2^n"
     NO_SUCH_CHANGE = 19, "firm", "no change of one shovel's time sends the truck elsewhere"
+    MALFORMED_RECORD = 20, "torn", "a record's map, state count or length is not of its form"
+    TRUCK_MISMATCH = 21, "other truck", "the record is of another truck than the cab's"
 
     def __new__(cls, number: int, trade_word: str, when: str) -> Refusal:
         self = int.__new__(cls, number)

@@ -1,4 +1,4 @@
-"""Cards, states and shovels as text, for the command line. What is no such text raises ValueError."""
+"""Cards, states, shovels and records as text, for the command line. What is no such text raises ValueError."""
 
 from __future__ import annotations
 
@@ -7,8 +7,8 @@ from pathlib import Path
 from reprlib import repr as shown
 from typing import Iterable
 
-from ._numbers import whole
-from ._values import Values
+from ._numbers import truck_number, whole
+from ._values import Choice, Record, Values
 
 
 def _file(name: str) -> str:
@@ -18,7 +18,7 @@ def _file(name: str) -> str:
         raise ValueError(f"{name}: {error.strerror}") from None
 
 
-def card_bytes(text: str) -> bytes:
+def hex_bytes(text: str) -> bytes:
     """Bytes in hex; blanks may stand between them, and comments from # to the end of a line. @FILE is a file of such text."""
     if text.startswith("@"):
         text = _file(text[1:])
@@ -44,6 +44,11 @@ def number(text: str) -> int:
     return int(text)
 
 
+def truck(text: str) -> int:
+    """A truck's number in decimal."""
+    return truck_number(number(text))
+
+
 def shovel_time(text: str) -> tuple[int, int]:
     """SHOVEL=SECONDS in decimal."""
     shovel, equals, seconds = text.partition("=")
@@ -55,6 +60,18 @@ def shovel_time(text: str) -> tuple[int, int]:
 def state_text(words: Iterable[int]) -> str:
     """As state_words reads it."""
     return ",".join(f"{word:08x}" for word in words)
+
+
+def choice_lines(choice: Choice) -> list[str]:
+    """The name of each field, and the field."""
+    return [f"{name} {value}" for name, value in choice._asdict().items()]
+
+
+def record_lines(record: Record) -> list[str]:
+    """The name of each field, and the field, or `absent`."""
+    state = None if record.state is None else state_text(record.state)
+    fields = {**record._asdict(), "state": state}
+    return [f"{name} {'absent' if value is None else value}" for name, value in fields.items()]
 
 
 def value_lines(values: Values) -> list[str]:

@@ -1,4 +1,4 @@
-"""What the calls take and answer: the values of a card, the choice of a pick, and how near it was."""
+"""What the calls take and answer: the values of a card, the choice of a pick, its record, and how near it was."""
 
 from __future__ import annotations
 
@@ -15,6 +15,30 @@ class Choice(NamedTuple):
     shovel: int
     ties: int
     taken: int
+
+
+class Recorded(NamedTuple):
+    """What a recorded pick answers: the choice, and the bytes of the record that a tie leaves.
+
+    There is no record, None, where one shovel alone had the least time.
+    """
+
+    choice: Choice
+    record: bytes | None
+
+
+class Record(NamedTuple):
+    """The fields of a record, as the desk reads them. One that other pits' records may lack is None then, which is not 0.
+
+    `state` is that before the pick, 2 to 8 words: a pick from it, with the same card and times, is this pick. The records of
+    our picks have every field.
+    """
+
+    truck: int
+    shovel: int
+    ties: int | None
+    taken: int | None
+    state: tuple[int, ...] | None
 
 
 class Margin(NamedTuple):
