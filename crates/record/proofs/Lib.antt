@@ -1,3 +1,2 @@
--- Laws for reading and writing records.
-pub mod Places
+-- Laws for reading records.
 pub mod Words

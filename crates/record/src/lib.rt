@@ -1,5 +1,3 @@
-// Records of ties: read for the desk, read for a cab, and written. What they mean is defined in crate records.
-pub mod form;
+// Records of ties: read for the desk, and for a cab. What they mean is defined in crate records.
 pub mod order;
 pub mod read;
-pub mod write;

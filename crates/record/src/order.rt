@@ -3,7 +3,7 @@ ghost use mathlib.Core.Path.{_≡_};
 ghost use mathlib.Core.List.{List};
 ghost use Prim.Native.Nat.{ℕ};
 ghost use Rattle.records.specs.Orders.{orderFor, SameOrder};
-use super::form;
+use record_form::form;
 use records::Order;
 
 // The shovel of a record of this truck, or refusal 20 or 21. THE CAB LEARNS NOTHING ELSE: from every record with the same truck and shovel it hears the same.

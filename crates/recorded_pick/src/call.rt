@@ -7,7 +7,7 @@ ghost use Rattle.records.specs.Fields.{recordBytes};
 ghost use Rattle.recorded_picks.specs.Recorded.{recordedPicking, recordedState, recordLeft, recordedOn, recordedPage};
 use super::room;
 use picks::Pick;
-use record::write;
+use record_write::write;
 use state_words::lent;
 use tsc::State;
 

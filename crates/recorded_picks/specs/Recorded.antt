@@ -16,6 +16,15 @@ use Rattle.picks.specs.Picks.{pickChecks, picking, picked}
 abbrev pub Halves : List ℕ → Type 0
 Halves xs = (i : ℕ) → i < length xs → getD xs i 0 < 65536
 
+-- the record that an answer leaves, of the state before the pick: every field where there was a tie, nothing where one was nearest or the pick was refused
+abbrev pub recordLeft : ℕ → List ℕ → Pick → List ℕ
+recordLeft truck xs (Shovel s k t) = cond (eqb k 1) [] (encoded (fullRecord truck s k t xs))
+recordLeft truck xs (Refused r) = []
+
+-- a page with a record at its front: bytes past it are as they were
+abbrev pub recordedOn : List ℕ → List ℕ → List ℕ
+recordedOn left page = left ++ drop (length left) page
+
 module _ (bytes xs shovels times : List ℕ) (room : ℕ) where
   -- what it looks at: what a pick does, then 16, tie or not
   abbrev pub recordedChecks : List Check
@@ -31,15 +40,6 @@ module _ (bytes xs shovels times : List ℕ) (room : ℕ) where
   -- the state words after it: as a pick leaves them, or as lent where it refuses
   unfoldable pub recordedState : List ℕ
   recordedState = cond (eqb recordedRefusal 0) (picked bytes xs shovels times) xs
-
--- the record that an answer leaves, of the state before the pick: every field where there was a tie, nothing where one was nearest or the pick was refused
-abbrev pub recordLeft : ℕ → List ℕ → Pick → List ℕ
-recordLeft truck xs (Shovel s k t) = cond (eqb k 1) [] (encoded (fullRecord truck s k t xs))
-recordLeft truck xs (Refused r) = []
-
--- a page with a record at its front: bytes past it are as they were
-abbrev pub recordedOn : List ℕ → List ℕ → List ℕ
-recordedOn left page = left ++ drop (length left) page
 
 -- the page after it
 unfoldable pub recordedPage : List ℕ → List ℕ → List ℕ → List ℕ → ℕ → List ℕ → List ℕ

@@ -9,7 +9,7 @@ use Rattle.records.specs.declared.Order.the-variants.{Shovel}
 use Rattle.records.specs.Reading.{Whole, recordOf}
 use Rattle.records.specs.Orders.{orderFor, SameOrder}
 use Rattle.records.proofs.Orders.{order-torn, order-other, order-own, cabs-alike}
-use Rattle.record.proofs.Places.{Known, known, truck-bytes, shovel-bytes}
+use Rattle.record_form.proofs.Places.{Known, known, truck-bytes, shovel-bytes}
 use Rattle.record.proofs.order.order_for.Statement.{statement}
 use Rattle.record.proofs.order.order_for.Tie as tie
 

@@ -5,8 +5,8 @@ use native.Mathlib.Omega.{arith}
 use lib.ListN.{length, getD, set, drop}
 use lib.Seq.{take-all}
 use Rattle.card_format.proofs.Lists.{over, over-suc, length-over}
-use Rattle.record.proofs.write.put_bytes.Statement.{statement}
-use Rattle.record.proofs.write.put_bytes.Tie as tie
+use Rattle.record_write.proofs.write.put_bytes.Statement.{statement}
+use Rattle.record_write.proofs.write.put_bytes.Tie as tie
 
 abbrev Inv-loop : tie.InvT-loop
 Inv-loop bytes page₀ i₀ page i = (i ≤ length bytes) × (length bytes ≤ length page₀) × (page ≡ over bytes page₀ i)

@@ -6,9 +6,9 @@ use lib.Dec.{eqb}
 use lib.ListN.{length, getD}
 use Rattle.cycle.specs.Notation.{bit}
 use Rattle.cycle.proofs.Bits.{bit-lt}
-use Rattle.record.proofs.Places.{stateAt, not-low, not-high, whole-none, too-few, too-many, whole-counted}
-use Rattle.record.proofs.form.is_whole.Statement.{statement}
-use Rattle.record.proofs.form.is_whole.Tie as tie
+use Rattle.record_form.proofs.Places.{stateAt, not-low, not-high, whole-none, too-few, too-many, whole-counted}
+use Rattle.record_form.proofs.form.is_whole.Statement.{statement}
+use Rattle.record_form.proofs.form.is_whole.Tie as tie
 
 -- past the first two tests the map has its lowest bits, and no high one
 low : (c : tie.Else2) → getD (c .before .before .before .before .args .bytes .now) 0 0 % 4 ≡ 3

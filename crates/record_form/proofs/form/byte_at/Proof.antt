@@ -2,8 +2,8 @@ use mathlib.Core.Path.{sym}
 use borrow.Author.Needs.{needs}
 use native.Mathlib.Omega.{arith}
 use lib.ListN.{List·getD-eq-default}
-use Rattle.record.proofs.form.byte_at.Statement.{statement}
-use Rattle.record.proofs.form.byte_at.Tie as tie
+use Rattle.record_form.proofs.form.byte_at.Statement.{statement}
+use Rattle.record_form.proofs.form.byte_at.Tie as tie
 
 returns : tie.Need-returns
 returns c = sym (List·getD-eq-default (c .before .args .bytes .now) 0 (omega arith))

@@ -1,8 +1,8 @@
 use borrow.Author.Needs.{needs}
 use Prim.Native.Nat.{_+_}
 use native.Mathlib.Omega.{arith}
-use Rattle.record.proofs.form.half_at.Statement.{statement}
-use Rattle.record.proofs.form.half_at.Tie as tie
+use Rattle.record_form.proofs.form.half_at.Statement.{statement}
+use Rattle.record_form.proofs.form.half_at.Tie as tie
 
 shared-slice-read-result : tie.Need-shared-slice-read-result
 shared-slice-read-result c = search needs

@@ -7,9 +7,9 @@ use lib.ListN.{length, take, drop}
 use Rattle.card_format.specs.Fields.{bytesOf}
 use Rattle.card_format.proofs.Lists.{put-next}
 use Rattle.records.proofs.Full.{wordField, encoded-full, length-full}
-use Rattle.record.proofs.Words.{length-bytes}
-use Rattle.record.proofs.write.put_record.Statement.{statement}
-use Rattle.record.proofs.write.put_record.Tie as tie
+use Rattle.record_write.proofs.Bytes.{length-bytes}
+use Rattle.record_write.proofs.write.put_record.Statement.{statement}
+use Rattle.record_write.proofs.write.put_record.Tie as tie
 
 cast-t9 : tie.Need-cast-t9
 cast-t9 c = search needs

@@ -9,9 +9,9 @@ use Rattle.card_format.proofs.Lists.{over, length-over, part-rest, put-next}
 use Rattle.card_fields.specs.LowBytes.{lowBytes}
 use Rattle.card_fields.proofs.LowBytes.{length-lowBytes}
 use Rattle.records.proofs.Full.{wordField}
-use Rattle.record.proofs.Words.{length-bytes, bytes-next}
-use Rattle.record.proofs.write.put_words.Statement.{statement}
-use Rattle.record.proofs.write.put_words.Tie as tie
+use Rattle.record_write.proofs.Bytes.{length-bytes, bytes-next}
+use Rattle.record_write.proofs.write.put_words.Statement.{statement}
+use Rattle.record_write.proofs.write.put_words.Tie as tie
 
 -- the bytes of the words before word k are at the start of the part
 abbrev Front : List ℕ → List ℕ → List ℕ → ℕ → Type 0

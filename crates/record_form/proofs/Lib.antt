@@ -1,0 +1,2 @@
+-- Laws for reading records.
+pub mod Places

@@ -1,0 +1,2 @@
+-- Laws for writing records.
+pub mod Bytes
