@@ -1,5 +1,8 @@
 //! The calls, by the library and by the second program, and everything that a caller can observe of them.
 
+mod promises;
+pub mod records;
+
 use crate::hex;
 use crate::inputs::Input;
 use reference::fill::call_fill;
@@ -10,7 +13,7 @@ use std::hint::black_box;
 use std::iter::once;
 use tiedraw::{ffi, MOST_TAKEN};
 
-pub const CALLS: [&str; 9] = [
+pub const CALLS: [&str; 12] = [
     "check",
     "step",
     "step_back",
@@ -20,21 +23,29 @@ pub const CALLS: [&str; 9] = [
     "write",
     "read",
     "margin",
+    "recpick",
+    "desk",
+    "cab",
 ];
-/// the last one, which has inputs of its own
-pub const MARGIN: usize = CALLS.len() - 1;
+const PICK: usize = 5;
+/// those before it are made on each input; it and those of records have inputs of their own
+pub const MARGIN: usize = 8;
+/// those of records
+const RECPICK: usize = 9;
+const DESK: usize = 10;
+const CAB: usize = 11;
 
 /// The numbers that a call answers, and zeros behind them: at most the reader's, seven and the table.
 type Values = [u64; 7 + TABLE_ENTRIES];
 const ZEROS: Values = [0; 7 + TABLE_ENTRIES];
 
-/// The answer's values, the refusal, the state or page and the strip after the call, and whether all around them is as it was.
+/// The answer's values, the refusal, the state, page or record and the strip after the call, and whether all around them is as it was.
 #[derive(Debug, PartialEq)]
 struct Observed {
     values: Values,
     refusal: u8,
     lent: Vec<u32>,
-    /// empty but for the fill
+    /// empty but for the fill; of a recorded pick, the page
     strip: Vec<u32>,
     around: bool,
 }
@@ -103,6 +114,9 @@ fn library(call: usize, input: &Input) -> Observed {
         "fill" => return library_fill(input),
         "write" => return library_write(&input.values, &input.page),
         "margin" => return library_margin(input),
+        "recpick" => return records::library_pick(input),
+        "desk" => return records::library_desk(&input.records.record),
+        "cab" => return records::library_cab(input.records.cab, &input.records.record),
         _ => {}
     }
     let (card, n) = (shared(&input.card), input.card.len());
@@ -228,6 +242,9 @@ fn second_program(call: usize, input: &Input) -> Observed {
             .map(|p| row([p.shovel.into(), p.ties as u64, p.taken as u64])),
         "margin" => second_margin(input),
         "fill" => return second_fill(input),
+        "recpick" => return records::second_pick(input),
+        "desk" => return records::second_desk(&input.records.record),
+        "cab" => return records::second_cab(input.records.cab, &input.records.record),
         _ => return second_write(&input.values, &input.page),
     };
     expected(answer, state)
@@ -285,7 +302,7 @@ fn is_large(card: &[u8]) -> bool {
     matches!(card, [map, 5..=MOST_WORDS, ..] if map & 1 == 1)
 }
 
-/// What the calls but the margin told on one input, where the two sides agree.
+/// What the calls before the margin told on one input, where the two sides agree.
 #[derive(Default)]
 pub struct Told {
     pub refusals: [u8; MARGIN],
@@ -315,6 +332,8 @@ fn untouched(name: &str, input: &Input, after: &Observed) -> bool {
     match name {
         "write" => after.lent == widened(&input.page),
         "fill" => after.lent == input.state && after.strip == input.strip,
+        "recpick" => after.lent == input.state && after.strip == widened(&input.page),
+        "desk" | "cab" => after.lent == widened(&input.records.record),
         _ => after.lent == input.state,
     }
 }
@@ -333,7 +352,7 @@ fn compare_call(call: usize, input: &Input) -> Result<Observed, String> {
     Ok(left)
 }
 
-/// All calls but the margin on one input.
+/// All calls before the margin on one input.
 pub fn compare(input: &Input) -> Result<Told, String> {
     let mut told = Told::default();
     for (call, name) in CALLS[..MARGIN].iter().enumerate() {

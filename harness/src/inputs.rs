@@ -1,7 +1,11 @@
 //! Random inputs: cards valid and damaged, states and lists of right and wrong size, strips and spans, values and pages for the writer;
-//! and inputs for the margin, which the second program finds by trying, so that each takes long.
+//! and inputs for the margin, which the second program finds by trying, so that each takes long. Those for records are in a file of
+//! their own.
+
+mod records;
 
 use crate::random::Random;
+pub use records::Records;
 use reference::{
     check, encode, mask, step_back, word, Card, MOST_WORDS, TABLE_ENTRIES, TSC1_CONSTANT,
     TSC1_TABLE,
@@ -19,7 +23,10 @@ pub struct Input {
     pub times: Vec<u32>,
     /// for the writer; the table has any number of entries
     pub values: Card,
+    /// for the writer, or for a recorded pick
     pub page: Vec<u8>,
+    /// empty but in inputs for records
+    pub records: Records,
 }
 
 impl Input {
@@ -44,6 +51,7 @@ impl Input {
             times,
             values,
             page,
+            records: Records::default(),
         }
     }
 

@@ -6,6 +6,7 @@ pub mod calls;
 pub mod inputs;
 pub mod jitter;
 pub mod random;
+pub mod record_ffi;
 pub mod subjects;
 pub mod timing;
 

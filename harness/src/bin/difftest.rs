@@ -1,5 +1,6 @@
 //! The library against the second program on random inputs, and the check against walks counted out. `difftest SEED INPUTS`.
 
+use harness::calls::records::{compare_records, ToldRecords, RECORDS};
 use harness::calls::{compare, compare_margin, Told, ToldMargin, CALLS, MARGIN, MARGINS};
 use harness::hex;
 use harness::inputs::{sound_form, Input};
@@ -8,12 +9,14 @@ use reference::period::{least_period, opposite};
 use std::panic::catch_unwind;
 use std::process::exit;
 use std::sync::atomic::{AtomicUsize, Ordering};
-use tiedraw::{Refusal, MOST_TAKEN};
+use tiedraw::{Refusal, MOST_SHOVELS, MOST_TAKEN};
 
 /// inputs of one random stream
 const BLOCK: usize = 1000;
 /// inputs of the margin beside each block: the second program takes long for them
 const OF_MARGIN: usize = 125;
+/// inputs of the records beside each block
+const OF_RECORDS: usize = 250;
 /// The sizes whose walks are counted out, and cards of each: up to 12 bits of a state with two to four words, up to 16 with
 /// five to eight.
 const WALKS: [(u8, u8, usize); 15] = [
@@ -37,7 +40,7 @@ const WALKS: [(u8, u8, usize); 15] = [
 const OF_WALKS: usize = 100;
 
 /// the last refusal's number
-const REFUSALS: usize = 19;
+const REFUSALS: usize = 21;
 
 /// The refusals that each call has, 0 for none: all of them must come up.
 const TELLS: [&[usize]; CALLS.len()] = [
@@ -50,6 +53,9 @@ const TELLS: [&[usize]; CALLS.len()] = [
     &[0, 2, 6, 7, 8, 9, 16],
     &[0, 1, 2, 3, 4, 5, 6],
     &[0, 1, 2, 3, 4, 5, 6, 7, 8, 9, 10, 11, 12, 13, 14, 15, 18, 19],
+    &[0, 1, 2, 3, 4, 5, 6, 7, 8, 9, 10, 11, 12, 13, 14, 15, 16, 18],
+    &[0, 20],
+    &[0, 20, 21],
 ];
 
 /// For each call: answers, then refusals by their numbers.
@@ -57,8 +63,8 @@ type Answers = [[usize; REFUSALS + 1]; CALLS.len()];
 /// The cards that are counted apart.
 const SIZES: [&str; 2] = ["up to four words", "five to eight words"];
 
-/// How often each call told each refusal, how many picks passed over how many words, how many words were filled in, and how
-/// many margins there were of each kind.
+/// How often each call told each refusal, how many picks passed over how many words, how many words were filled in, how many
+/// margins and records there were of each kind, and how many recorded picks with each number of ties.
 #[derive(Default)]
 struct Tally {
     /// up to four words, and other cards; then five to eight words
@@ -67,6 +73,36 @@ struct Tally {
     picks: [usize; MOST_TAKEN + 2],
     filled: usize,
     margins: [usize; MARGINS.len()],
+    recorded: ByTies,
+    /// those refused for their pages
+    small_pages: ByTies,
+    records: [usize; RECORDS.len()],
+    /// pairs of records that differ in all but truck and shovel
+    twins: usize,
+}
+
+/// Recorded picks by how many shovels were equally near, from 1 on: the first are those without a tie.
+struct ByTies([usize; MOST_SHOVELS]);
+
+impl Default for ByTies {
+    fn default() -> ByTies {
+        ByTies([0; MOST_SHOVELS])
+    }
+}
+
+impl ByTies {
+    /// Without a tie, and with one.
+    fn both(&self) -> [usize; 2] {
+        let [without, with @ ..] = &self.0;
+        [*without, with.iter().sum()]
+    }
+
+    /// A number of shovels, and so many picks, than which no other number has fewer.
+    fn fewest(&self) -> (usize, usize) {
+        let picks = self.0.iter().enumerate();
+        let (place, &fewest) = picks.min_by_key(|&(_, picks)| picks).unwrap();
+        (place + 1, fewest)
+    }
 }
 
 /// Adds counts to sums, one by one.
@@ -85,6 +121,10 @@ impl Tally {
         add_up(&mut self.picks, &other.picks);
         self.filled += other.filled;
         add_up(&mut self.margins, &other.margins);
+        add_up(&mut self.recorded.0, &other.recorded.0);
+        add_up(&mut self.small_pages.0, &other.small_pages.0);
+        add_up(&mut self.records, &other.records);
+        self.twins += other.twins;
     }
 
     fn count_answer(&mut self, call: usize, refusal: u8, large: bool) {
@@ -108,6 +148,23 @@ impl Tally {
         }
     }
 
+    fn count_records(&mut self, told: ToldRecords) {
+        for (call, refusal, large) in told.answers {
+            self.count_answer(call, refusal, large);
+        }
+        let picks = match told.small {
+            false => &mut self.recorded,
+            true => &mut self.small_pages,
+        };
+        if let Some(ties) = told.ties {
+            picks.0[ties - 1] += 1;
+        }
+        for kind in told.kinds {
+            self.records[kind] += 1;
+        }
+        self.twins += usize::from(told.twins);
+    }
+
     /// A refusal that a call never told, with either size of cards.
     fn untold(&self) -> Option<String> {
         for (size, answers) in SIZES.iter().zip(&self.told) {
@@ -120,7 +177,20 @@ impl Tally {
         None
     }
 
-    /// What never came up: a refusal of a call, a number of words passed over, or a kind of margin.
+    /// A number of equals that no recorded pick had, a page too small for a tie or without one, a kind of record, or a pair that differs
+    /// in all but truck and shovel.
+    fn missing_record(&self) -> Option<String> {
+        let (equals, fewest) = self.recorded.fewest();
+        let no_pick = (fewest == 0).then(|| format!("no recorded pick of {equals} equals"));
+        let no_page = self.small_pages.both().contains(&0);
+        let no_page = no_page.then(|| "no page too small, of a tie or of none".to_string());
+        let empty = self.records.iter().position(|&records| records == 0);
+        let no_record = empty.map(|kind| format!("no record {}", RECORDS[kind]));
+        let no_twins = (self.twins == 0).then(|| "no pair of records".to_string());
+        no_pick.or(no_page).or(no_record).or(no_twins)
+    }
+
+    /// What never came up: a refusal of a call, a number of words passed over, a kind of margin, or what records must have.
     fn missing(&self) -> Option<String> {
         let empty = self.picks.iter().position(|&picks| picks == 0);
         let no_pick = empty.map(|column| match column {
@@ -129,7 +199,8 @@ impl Tally {
         });
         let empty = self.margins.iter().position(|&margins| margins == 0);
         let no_margin = empty.map(|column| format!("no margin {}", MARGINS[column]));
-        self.untold().or(no_pick).or(no_margin)
+        let no_record = self.missing_record();
+        self.untold().or(no_pick).or(no_margin).or(no_record)
     }
 
     /// How many words all picks passed over.
@@ -183,6 +254,10 @@ fn compare_block(seed: u64, block: usize) -> Result<Tally, String> {
     for _ in 0..OF_MARGIN {
         tally.count_margin(told(Input::of_margin(&mut random), compare_margin)?);
     }
+    let mut random = Random::new(seed ^ 1 << 57, block as u64);
+    for _ in 0..OF_RECORDS {
+        tally.count_records(told(Input::of_records(&mut random), compare_records)?);
+    }
     Ok(tally)
 }
 
@@ -190,6 +265,32 @@ fn compare_block(seed: u64, block: usize) -> Result<Tally, String> {
 fn columns(counts: &[usize]) -> String {
     let counts: Vec<String> = counts.iter().map(|count| format!("{count:>6}")).collect();
     counts.join(" ")
+}
+
+fn print_answers(total: &Tally) {
+    for (size, answers) in SIZES.iter().zip(&total.told) {
+        println!("{size}: answers, then refusals 1 to {REFUSALS}:");
+        for (name, sums) in CALLS.iter().zip(answers) {
+            println!("{name:>9} {}", columns(sums));
+        }
+    }
+    println!(
+        "picks without ties, then with 0 to {MOST_TAKEN} words passed over, {} in all:",
+        total.passed_over()
+    );
+    println!("{:>9} {}", "", columns(&total.picks));
+    println!("margins lowered, raised, and firm of several shovels; then those with times below 200 and every amount tried:");
+    println!("{:>9} {}", "", columns(&total.margins));
+}
+
+fn print_records(total: &Tally) {
+    println!("recorded picks without a tie and with one, the same with too small a page, and the fewest with one number of ties:");
+    let (recorded, small_pages) = (total.recorded.both(), total.small_pages.both());
+    let (_, fewest) = total.recorded.fewest();
+    let picks = [&recorded[..], &small_pages, &[fewest]].concat();
+    println!("{:>9} {}", "", columns(&picks));
+    println!("records by their maps, 03, 07 and so on to 1f; then torn: no byte, bit 0 or 1 lacking, bit 5 to 7 standing, count below 2, above 8, too short, too long:");
+    println!("{:>9} {}", "", columns(&total.records));
 }
 
 fn compare_inputs(seed: u64, inputs: usize) {
@@ -204,19 +305,14 @@ fn compare_inputs(seed: u64, inputs: usize) {
         blocks * OF_MARGIN,
         total.filled
     );
-    for (size, answers) in SIZES.iter().zip(&total.told) {
-        println!("{size}: answers, then refusals 1 to {REFUSALS}:");
-        for (name, sums) in CALLS.iter().zip(answers) {
-            println!("{name:>9} {}", columns(sums));
-        }
-    }
+    let [_, ties] = total.recorded.both();
     println!(
-        "picks without ties, then with 0 to {MOST_TAKEN} words passed over, {} in all:",
-        total.passed_over()
+        "{} recorded picks, and as many records to desk and cab: no difference; {ties} records read back and picked again, {} pairs alike to cabs",
+        blocks * OF_RECORDS,
+        total.twins
     );
-    println!("{:>9} {}", "", columns(&total.picks));
-    println!("margins lowered, raised, and firm of several shovels; then those with times below 200 and every amount tried:");
-    println!("{:>9} {}", "", columns(&total.margins));
+    print_answers(&total);
+    print_records(&total);
     if let Some(missing) = total.missing() {
         println!("{missing}: too few inputs");
         exit(1);
