@@ -3,6 +3,8 @@
 //! a pick is, for the library's margin. Written for cards of up to M words with E = 2^M entries, so that a small card does not
 //! pay for the largest; no loop over the words asks the card how many it has.
 
+pub mod records;
+
 use reference::{mask, Card};
 use std::array::from_fn;
 use tiedraw::{Choice, Margin, Shovel, MOST_TAKEN};

@@ -7,6 +7,7 @@ pub mod inputs;
 pub mod jitter;
 pub mod random;
 pub mod record_ffi;
+pub mod record_subjects;
 pub mod subjects;
 pub mod timing;
 

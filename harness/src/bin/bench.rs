@@ -2,6 +2,7 @@
 
 use harness::by_hand::{self, fill_by_columns, fill_by_joined_columns, fill_by_masks, Fill, State};
 use harness::jitter::steady;
+use harness::record_subjects::{cabs, desks, recorded_pick};
 use harness::subjects::{check, draw, fill, fill_by_hand, step, step_back, SPAN};
 use harness::timing::{figure, measure, within, Subject};
 use reference::{accept, Card};
@@ -83,6 +84,10 @@ fn pick(name: &str, card: &'static [u8], list: List) -> Subject {
     })
 }
 
+fn recorded(name: &str, list: List) -> Subject {
+    recorded_pick(name, P1, CALLS, list.shovels, list.times)
+}
+
 /// On P1, each from another state, since a margin moves none.
 fn margin(name: &str, calls: usize, list: List) -> Subject {
     let mut state = [1, 2, 3, 4];
@@ -152,6 +157,8 @@ const LONG: Lists<3> = [
 const MOST_OF_LONG: f64 = 150.0;
 /// so many picks' time, of a margin of 5
 const MOST_OF_SHORT: f64 = 10.0;
+/// and of a recorded pick
+const MOST_OF_RECORDED: f64 = 1.5;
 
 /// A ratio of two subjects, by their places, and the most that it may be, where there is a goal.
 struct Ratio {
@@ -305,10 +312,32 @@ impl Bench {
         library
     }
 
-    /// The margins, and the picks that those of 5 shovels are held to.
+    /// The recorded pick of a list beside the plain one, which stands at this place.
+    fn add_recorded(&mut self, name: &str, list: List, pick: usize) {
+        let recorded = self.add(recorded(&format!("recorded pick: {name}, P1"), list));
+        let name = format!("recorded pick to the pick: {name}");
+        self.ratio(&name, recorded, pick, Some(MOST_OF_RECORDED));
+    }
+
+    /// Readers of records for the desk and for the cab, the library's beside Rust's.
+    fn add_readers(&mut self) {
+        let desk = "desk: every field of a record of 4 words";
+        let cab = "cab: the shovel of a record of 4 words";
+        let readers = [
+            ("desk", desks([desk, "Rust by hand, desk: the same"], CALLS)),
+            ("cab", cabs([cab, "Rust by hand, cab: the same"], CALLS)),
+        ];
+        for (reader, subjects) in readers {
+            let [library, rust] = subjects.map(|subject| self.add(subject));
+            self.ratio(&format!("{reader} to Rust by hand"), library, rust, None);
+        }
+    }
+
+    /// The margins, and the picks that those of 5 shovels are held to; the recorded ones too.
     fn add_margins(&mut self) {
         for (name, list) in SHORT {
             let pick = self.add(pick(&format!("pick: {name}, P1"), P1, list()));
+            self.add_recorded(name, list(), pick);
             let margin = self.add_margin(name, MARGINS, list);
             let name = format!("margin to the pick: {name}");
             self.ratio(&name, margin, pick, Some(MOST_OF_SHORT));
@@ -326,6 +355,7 @@ impl Bench {
         let (fill_p1, columns_p1) = places[0];
         bench.add_draw(fill_p1, columns_p1);
         bench.add_margins();
+        bench.add_readers();
         bench.add_rows();
         bench.subjects.extend(others());
         bench
