@@ -1,7 +1,8 @@
 /* A dispatch server and its standby, each with its own copy of the state and its own order of the list: they send every truck to
-   the same shovel. First version and card are looked at, and a simulation desk sees the lots of the shift beforehand; where one
-   shovel is nearest, it is told how firm that is; at the end the lots are taken back one by one, and bad input shows what a
-   refusal is. */
+   the same shovel, and both leave the same record of each tie, of which the truck's cab shows the shovel and no more. First version
+   and card are looked at, and a simulation desk sees the lots of the shift beforehand; where one shovel is nearest, it is told how
+   firm that is; at the end the dispatcher's desk reads the records and makes their picks again, the lots are taken back one by
+   one, and bad input shows what a refusal is. */
 #include <inttypes.h>
 #include <stdio.h>
 #include <stdlib.h>
@@ -9,10 +10,17 @@
 
 #include "tiedraw.h"
 
-enum { WORDS = 4, SHOVELS = 5, TRUCKS = 8, LOTS = 6 };
+enum { WORDS = 4, SHOVELS = 5, TRUCKS = 8, LOTS = 6, RECORD_BYTES = 8 + 4 * WORDS };
 
 /* TSC-1: every field of the card is absent. */
 static const uint8_t card[] = {0x00};
+
+/* What a server keeps: the state, its list, and the record of the last tie. */
+typedef struct {
+    uint32_t state[WORDS];
+    uint16_t shovels[SHOVELS];
+    uint8_t record[RECORD_BYTES];
+} pit_server;
 
 static void stop_unless(int holds, const char *what) {
     if (!holds) {
@@ -22,35 +30,87 @@ static void stop_unless(int holds, const char *what) {
 }
 
 /* Seconds of travel: shovel 30 is far, but nearest for every fourth truck. */
-static uint32_t travel_time(uint32_t truck, uint16_t shovel) {
+static uint32_t travel_time(uint16_t truck, uint16_t shovel) {
     if (shovel == 30)
         return truck % 4 == 0 ? 240 : 420;
     return 300;
 }
 
 /* The times of a list, in its order. */
-static void travel_times(uint32_t *times, const uint16_t *shovels, uint32_t truck) {
+static void travel_times(uint32_t *times, const uint16_t *shovels, uint16_t truck) {
     for (int i = 0; i < SHOVELS; i++)
         times[i] = travel_time(truck, shovels[i]);
 }
 
-/* A truck's shovel, as one server picks it from its own list. */
-static tiedraw_choice pick(uint32_t *state, const uint16_t *shovels, uint32_t truck) {
+/* A truck's shovel, as one server picks it from its own list; a tie leaves its record. */
+static tiedraw_choice pick(pit_server *server, uint16_t truck) {
     uint32_t times[SHOVELS];
-    travel_times(times, shovels, truck);
-    tiedraw_choice choice = tiedraw_pick(card, sizeof card, state, WORDS, shovels, SHOVELS, times, SHOVELS);
+    travel_times(times, server->shovels, truck);
+    tiedraw_choice choice = tiedraw_pick_recorded(card, sizeof card, server->state, WORDS, server->shovels, SHOVELS, times, SHOVELS,
+                                                  truck, server->record, RECORD_BYTES);
     stop_unless(choice.refusal == 0, "a pick was refused");
     return choice;
 }
 
+/* The pick on both servers: shovel, state and, byte by byte, the record are the same. */
+static tiedraw_choice pick_on_both(pit_server *server, pit_server *standby, uint16_t truck) {
+    tiedraw_choice ours = pick(server, truck), theirs = pick(standby, truck);
+    printf("truck %u: shovel %2u of %u, words %u, standby server: shovel %2u\n", truck, ours.shovel, ours.ties, ours.taken, theirs.shovel);
+    stop_unless(ours.shovel == theirs.shovel && memcmp(server->state, standby->state, sizeof server->state) == 0, "the servers differ");
+    stop_unless(memcmp(server->record, standby->record, RECORD_BYTES) == 0, "the records differ");
+    return ours;
+}
+
 /* How firm a truck's shovel is, from the state before its pick, which is only read. */
-static void tell_margin(const uint32_t *state, const uint16_t *shovels, uint32_t truck) {
+static void tell_margin(const pit_server *server, uint16_t truck) {
     uint32_t times[SHOVELS];
-    travel_times(times, shovels, truck);
-    tiedraw_margin_answer margin = tiedraw_margin(card, sizeof card, state, WORDS, shovels, SHOVELS, times, SHOVELS);
+    travel_times(times, server->shovels, truck);
+    tiedraw_margin_answer margin =
+        tiedraw_margin(card, sizeof card, server->state, WORDS, server->shovels, SHOVELS, times, SHOVELS);
     stop_unless(margin.refusal == 0, "a margin was refused");
-    printf("truck %" PRIu32 ": shovel %2u %s by %" PRIu32 " s would send it to shovel %u of %u\n", truck, margin.changed,
+    printf("truck %u: shovel %2u %s by %" PRIu32 " s would send it to shovel %u of %u\n", truck, margin.changed,
            margin.raised ? "raised" : "lowered", margin.seconds, margin.shovel, margin.ties);
+}
+
+/* The cab of a truck, with the record that was sent to it. */
+static void show_in_cab(uint16_t truck, const uint8_t *record) {
+    tiedraw_order_answer order = tiedraw_order(truck, record, RECORD_BYTES);
+    stop_unless(order.refusal == 0, "a cab was refused its record");
+    printf("truck %u, in the cab: shovel %2u\n", truck, order.shovel);
+}
+
+/* A number that a record may lack: absent is not 0. */
+static void tell_number(const char *name, uint8_t given, uint8_t number) {
+    if (given)
+        printf(", %s %u", name, number);
+    else
+        printf(", %s absent", name);
+}
+
+/* Every field of a record, at the dispatcher's desk. */
+static tiedraw_record read_at_desk(const uint8_t *bytes, size_t length) {
+    tiedraw_record_reading reading = tiedraw_read_record(bytes, length);
+    stop_unless(reading.refusal == 0, "a record is torn");
+    tiedraw_record record = reading.record;
+    printf("the desk: truck %u, shovel %2u", record.truck, record.shovel);
+    tell_number("ties", record.ties_given, record.ties);
+    tell_number("words", record.taken_given, record.taken);
+    printf(", state%s", record.state_given ? "" : " absent");
+    for (int i = 0; record.state_given && i < record.words; i++)
+        printf(" %08" PRIx32, record.state[i]);
+    printf("\n");
+    return record;
+}
+
+/* The pick of a record made again, from the state on it, with the same card and times, and in any order of the list. */
+static uint16_t pick_again(const tiedraw_record *record, const uint16_t *shovels) {
+    uint32_t state[WORDS], times[SHOVELS];
+    stop_unless(record->state_given && record->words == WORDS, "the record has no state of this card");
+    memcpy(state, record->state, sizeof state);
+    travel_times(times, shovels, record->truck);
+    tiedraw_choice again = tiedraw_pick(card, sizeof card, state, WORDS, shovels, SHOVELS, times, SHOVELS);
+    stop_unless(again.refusal == 0 && again.shovel == record->shovel, "the pick made again is another");
+    return again.shovel;
 }
 
 /* The library is the one that this was compiled for; the card is accepted, and written again it is the same bytes. */
@@ -74,7 +134,7 @@ static void look_ahead(const uint32_t *state) {
     uint32_t copy[WORDS], strip[LOTS];
     memcpy(copy, state, sizeof copy);
     stop_unless(tiedraw_fill(card, sizeof card, copy, WORDS, strip, LOTS, 0, LOTS) == 0, "a fill was refused");
-    printf("the desk, from a copy: ranks among four ties");
+    printf("the simulation desk, from a copy: ranks among four ties");
     for (int i = 0; i < LOTS; i++)
         printf(" %" PRIu32, strip[i] % 4);
     printf("\n");
@@ -102,37 +162,50 @@ static void try_bad_input(uint32_t *state) {
     printf("five ties with words of two bits: refusal %u\n", tied.refusal);
 }
 
+/* A record of truck 1 in the cab of truck 2, and without its last byte. */
+static void try_bad_record(const uint8_t *record) {
+    printf("truck 1's record in the cab of truck 2: refusal %u\n", tiedraw_order(2, record, RECORD_BYTES).refusal);
+    printf("a record cut short: refusal %u\n", tiedraw_read_record(record, RECORD_BYTES - 1).refusal);
+}
+
 int main(void) {
-    const uint16_t shovels[SHOVELS] = {12, 7, 30, 4, 21};
-    const uint16_t standby_shovels[SHOVELS] = {4, 7, 12, 21, 30};
-    uint32_t state[WORDS] = {0}, standby_state[WORDS], start[WORDS];
+    pit_server server = {{0}, {12, 7, 30, 4, 21}, {0}}, standby = {{0}, {4, 7, 12, 21, 30}, {0}};
+    uint32_t start[WORDS];
+    uint8_t records[TRUCKS][RECORD_BYTES];
 
     look_at_version_and_card();
     for (int i = 1; i <= 3; i++) {
-        tiedraw_word drawn = tiedraw_draw(card, sizeof card, state, WORDS);
+        tiedraw_word drawn = tiedraw_draw(card, sizeof card, server.state, WORDS);
         stop_unless(drawn.refusal == 0, "a draw was refused");
         printf("draw %d: word %08" PRIx32 "\n", i, drawn.word);
     }
-    memcpy(start, state, sizeof state);
-    memcpy(standby_state, state, sizeof state);
-    look_ahead(state);
+    memcpy(start, server.state, sizeof start);
+    memcpy(standby.state, server.state, sizeof start);
+    look_ahead(server.state);
 
-    int words = 0;
-    for (uint32_t truck = 1; truck <= TRUCKS; truck++) {
-        tiedraw_choice server = pick(state, shovels, truck);
-        tiedraw_choice standby = pick(standby_state, standby_shovels, truck);
-        printf("truck %" PRIu32 ": shovel %2u of %u, words %u, standby server: shovel %2u\n", truck, server.shovel, server.ties, server.taken,
-               standby.shovel);
-        stop_unless(server.shovel == standby.shovel && memcmp(state, standby_state, sizeof state) == 0, "the servers differ");
-        if (server.ties == 1) /* no word was taken, and the state is still the one before the pick; of a tie, ask beforehand */
-            tell_margin(state, shovels, truck);
-        words += server.taken;
+    int words = 0, ties = 0;
+    for (uint16_t truck = 1; truck <= TRUCKS; truck++) {
+        tiedraw_choice choice = pick_on_both(&server, &standby, truck);
+        if (choice.ties == 1) { /* no word was taken, and the state is still the one before the pick; of a tie, ask beforehand */
+            tell_margin(&server, truck);
+        } else {
+            show_in_cab(truck, server.record);
+            memcpy(records[ties++], server.record, RECORD_BYTES);
+        }
+        words += choice.taken;
     }
+    for (int i = 0; i < ties; i++) {
+        tiedraw_record record = read_at_desk(records[i], RECORD_BYTES);
+        printf("the desk: picked again, shovel %u\n", pick_again(&record, standby.shovels));
+    }
+    const uint8_t of_another_pit[] = {0x03, 9, 0, 12, 0};
+    read_at_desk(of_another_pit, sizeof of_another_pit);
 
     for (int i = 0; i < words; i++)
-        stop_unless(tiedraw_step_back(card, sizeof card, state, WORDS) == 0, "a step back was refused");
-    stop_unless(memcmp(state, start, sizeof state) == 0, "the steps back lead elsewhere");
+        stop_unless(tiedraw_step_back(card, sizeof card, server.state, WORDS) == 0, "a step back was refused");
+    stop_unless(memcmp(server.state, start, sizeof start) == 0, "the steps back lead elsewhere");
     printf("%d steps back: the shift's first state\n", words);
-    try_bad_input(state);
+    try_bad_input(server.state);
+    try_bad_record(records[0]);
     return 0;
 }
