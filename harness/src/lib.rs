@@ -6,7 +6,6 @@ pub mod calls;
 pub mod inputs;
 pub mod jitter;
 pub mod random;
-pub mod record_ffi;
 pub mod record_subjects;
 pub mod subjects;
 pub mod timing;

@@ -1,10 +1,9 @@
 //! What is timed of records: the library's recorded picks, and desk and cab beside Rust.
 
 use crate::by_hand::records::{self, Record};
-use crate::record_ffi::{tiedraw_order, tiedraw_pick_recorded, tiedraw_read_record};
 use crate::timing::Subject;
 use std::hint::black_box;
-use tiedraw::ffi::Choice;
+use tiedraw::ffi::{tiedraw_order, tiedraw_pick_recorded, tiedraw_read_record, Choice};
 
 /// the bytes of a record of four words
 const LENGTH: usize = 24;

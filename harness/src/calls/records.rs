@@ -6,10 +6,10 @@ use super::promises::{
 use super::{compare_call, expected, is_large, lend, library, row, shared, widened, Observed};
 use super::{Values, CAB, DESK, GUARD, PICK, RECPICK};
 use crate::inputs::Input;
-use crate::record_ffi::{tiedraw_order, tiedraw_pick_recorded, tiedraw_read_record, RecordReading};
 use reference::record::{call_recorded_pick, order_for, read_record, Record};
 use reference::MOST_WORDS;
 use std::cmp::Ordering;
+use tiedraw::ffi::{tiedraw_order, tiedraw_pick_recorded, tiedraw_read_record, RecordReading};
 
 /// what stands around lent bytes
 const GUARD_BYTE: u8 = 0xa5;
