@@ -32,7 +32,7 @@ use Rattle.c_answers.specs.declared.MarginAnswer.{MarginAnswer}
 use Rattle.c_answers.specs.Answers.{drawn, choice, marginAnswer, IsMarginAnswer, cardValues, readCard, writtenLength, overlong, writtenFrom, pageFrom}
 
 -- what every answer is made by: a value with refusal 0 where none applies, else the refusal
-told : {A : Type 0} (refusal : A → ℕ) (r : ℕ) (value refused : A) → refusal value ≡ 0 → refusal refused ≡ r → refusal (cond (eqb r 0) value refused) ≡ r
+pub told : {A : Type 0} (refusal : A → ℕ) (r : ℕ) (value refused : A) → refusal value ≡ 0 → refusal refused ≡ r → refusal (cond (eqb r 0) value refused) ≡ r
 told refusal r value refused z e = go (ℕ-discrete r 0)
   where
     go : Dec (r ≡ 0) → refusal (cond (eqb r 0) value refused) ≡ r
