@@ -8,7 +8,6 @@ ghost use lib.ListN.{length, take, drop};
 ghost use Rattle.tsc.specs.Constants.{mostWords};
 ghost use Rattle.card_format.specs.Fields.{fieldCount, mostCardBytes};
 ghost use Rattle.card_format.specs.Writing.{isWritten, fieldBytes, mapTo, written, inRange};
-ghost use Rattle.card_fields.specs.LowBytes.{lowBytes};
 use super::values::number_of;
 use card_fields::field;
 use card_fields::number;

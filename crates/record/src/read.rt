@@ -1,11 +1,11 @@
 // A record read for the desk: every field, and one that lacks as absent.
 ghost use mathlib.Core.Path.{_≡_};
-ghost use mathlib.Core.Bool.{true, cond};
+ghost use mathlib.Core.Bool.{cond};
 ghost use mathlib.Core.List.{[], _∷_};
 ghost use Prim.Native.Nat.{_+_, _*_, _<_, _≤_};
 ghost use lib.Dec.{eqb};
 ghost use lib.ListN.{length, getD, drop};
-ghost use Rattle.tsc.specs.Constants.{mostWords};
+ghost use Rattle.tsc.specs.Constants.{mostWords, widestWidth};
 ghost use Rattle.cycle.specs.Notation.{bit};
 ghost use Rattle.card_format.specs.Fields.{numbers, row};
 ghost use Rattle.records.specs.Reading.{optional, heldState, noRecord, readingRecord};
@@ -16,6 +16,7 @@ use records::Record;
 use records::RecordReading;
 use tsc::MOST_WORDS;
 use tsc::State;
+use words::mask::bit_of;
 
 // The refusal, with nothing read.
 fn torn() -> RecordReading
@@ -39,11 +40,11 @@ fn torn() -> RecordReading
 }
 
 // The byte at a place where bit k of the map stands, and nothing where it does not.
-fn optional_at(bytes: &[u8], map: u8, k: u8, at: usize) -> Optional
-    requires { ⌜ (k < 8) × (bit k map ≡ 1 → at < length (now bytes)) ⌝ }
+fn optional_at(bytes: &[u8], map: u8, k: u32, at: usize) -> Optional
+    requires { ⌜ (k < widestWidth) × (bit k map ≡ 1 → at < length (now bytes)) ⌝ }
     ensures { λ r. ⌜ r ≡ optional (cond (eqb (bit k map) 1) (getD (now (bytes .entry)) at 0 ∷ []) []) ⌝ }
 {
-    if form::bit_of(map, k) == 1 {
+    if bit_of(map as u32, k) == 1 {
         return Optional::Value(bytes[at]);
     }
     Optional::Absent

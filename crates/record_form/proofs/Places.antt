@@ -7,18 +7,18 @@ use Prim.Native.Nat.{ℕ, zero, suc, _+_, _*_, _%_, _≤_, _<_}
 use native.Mathlib.Nat.{add-zero, zero-mul, one-mul, le-of-eq}
 use native.Mathlib.Omega.{arith}
 use borrow.Author.Tests.{eq-eqb, ne-eqb, lt-ltb, le-ltb, le-leb, lt-leb}
-use lib.Dec.{eqb, leb, ltb, lit<}
+use lib.Dec.{eqb, leb, lit<}
 use lib.ListN.{length, getD, drop, List·getD-eq-default}
 use lib.Seq.{getD-drop}
 use Rattle.cycle.specs.Notation.{sum, tabulate, bit}
 use Rattle.cycle.proofs.Bits.{bit-lt}
 use Rattle.tsc.specs.Constants.{fewestWords, mostWords}
-use Rattle.card_format.specs.Fields.{Field, row, extent, numbers, allowed}
+use Rattle.card_format.specs.Fields.{Field, row, numbers, allowed}
 use Rattle.card_format.specs.Reading.{present}
 use Rattle.card_format.proofs.Fields.{lowFirst, numbers-one, allowed-at}
 use Rattle.records.specs.Fields.{recordFields, recordField, recordFieldCount, bitOf, startOf, numbersAt, wordCountOf, recordNumbers}
 use Rattle.records.specs.Reading.{isWhole, Whole}
-use Rattle.records.proofs.Fields.{start-suc, Form, whole-form}
+use Rattle.records.proofs.Fields.{start-suc, Form, whole-form, always}
 
 -- ---- numbers by their bytes
 
@@ -53,33 +53,27 @@ module _ (bytes : List ℕ) where
   flag-at : (k x : ℕ) → cond (present bytes k) x 0 ≡ bit k map * x
   flag-at k x = flagged (bit k map) x (bit-lt k map)
 
-  stands : map % 4 ≡ 3 → (present bytes 0 ≡ true) × (present bytes 1 ≡ true)
-  stands low =
-      let b0 : bit 0 map ≡ 1 = omega (arith, low) in
-      let b1 : bit 1 map ≡ 1 = omega (arith, low) in
-      (eq-eqb _ 1 b0, eq-eqb _ 1 b1)
-
   module _ (low : map % 4 ≡ 3) (c : ℕ) where
     pub start-shovel : startOf c bytes 1 ≡ 3
     unfolding startOf sum recordField recordFields
-    start-shovel = rw (stands low .0) refl
+    start-shovel = rw (always bytes low .0) refl
 
     pub start-ties : startOf c bytes 2 ≡ 5
     unfolding startOf sum recordField recordFields
-    start-ties = rw (stands low .0, stands low .1) refl
+    start-ties = rw (always bytes low .0, always bytes low .1) refl
 
     pub start-taken : startOf c bytes 3 ≡ takenAt
     unfolding startOf sum recordField recordFields
-    start-taken = rw (stands low .0, stands low .1) (omega (arith, flag-at 2 1))
+    start-taken = rw (always bytes low .0, always bytes low .1) (omega (arith, flag-at 2 1))
 
     pub start-state : startOf c bytes 4 ≡ stateAt
     unfolding startOf sum recordField recordFields
-    start-state = rw (stands low .0, stands low .1) (omega (arith, flag-at 2 1, flag-at 3 1))
+    start-state = rw (always bytes low .0, always bytes low .1) (omega (arith, flag-at 2 1, flag-at 3 1))
 
     -- the end, without a state and with one
     pub end-none : bit 4 map ≡ 0 → startOf c bytes recordFieldCount ≡ stateAt
     unfolding startOf sum recordField recordFields
-    end-none z = rw (stands low .0, stands low .1, ap (λ (d : ℕ). eqb d 1) z) (omega (arith, flag-at 2 1, flag-at 3 1))
+    end-none z = rw (always bytes low .0, always bytes low .1, ap (λ (d : ℕ). eqb d 1) z) (omega (arith, flag-at 2 1, flag-at 3 1))
 
     start-words : bit 4 map ≡ 1 → startOf c bytes 5 ≡ stateAt + 1
     unfolding recordField recordFields
@@ -87,7 +81,7 @@ module _ (bytes : List ℕ) where
 
     pub end-state : bit 4 map ≡ 1 → startOf c bytes recordFieldCount ≡ stateAt + 1 + 4 * c
     unfolding startOf sum recordField recordFields
-    end-state o = rw (stands low .0, stands low .1, ap (λ (d : ℕ). eqb d 1) o) (omega (arith, flag-at 2 1, flag-at 3 1))
+    end-state o = rw (always bytes low .0, always bytes low .1, ap (λ (d : ℕ). eqb d 1) o) (omega (arith, flag-at 2 1, flag-at 3 1))
 
   -- ---- fields by their bytes: of one byte, of two, and the state's words
 
@@ -109,11 +103,11 @@ module _ (bytes : List ℕ) where
   module _ (low : map % 4 ≡ 3) where
     pub truck-bytes : getD (recordNumbers bytes 0) 0 0 ≡ getD bytes 1 0 + getD bytes 2 0 * 256
     unfolding recordField recordFields startOf sum
-    truck-bytes = ap (λ (xs : List ℕ). getD xs 0 0) (half-field (wordCountOf bytes) 0 1 refl refl refl (stands low .0))
+    truck-bytes = ap (λ (xs : List ℕ). getD xs 0 0) (half-field (wordCountOf bytes) 0 1 refl refl refl (always bytes low .0))
 
     pub shovel-bytes : getD (recordNumbers bytes 1) 0 0 ≡ getD bytes 3 0 + getD bytes 4 0 * 256
     unfolding recordField recordFields
-    shovel-bytes = ap (λ (xs : List ℕ). getD xs 0 0) (half-field (wordCountOf bytes) 1 3 refl refl (start-shovel low _) (stands low .1))
+    shovel-bytes = ap (λ (xs : List ℕ). getD xs 0 0) (half-field (wordCountOf bytes) 1 3 refl refl (start-shovel low _) (always bytes low .1))
 
     pub ties-byte : recordNumbers bytes 2 ≡ cond (present bytes 2) (getD bytes 5 0 ∷ []) []
     unfolding recordField recordFields

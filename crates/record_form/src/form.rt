@@ -6,13 +6,14 @@ ghost use Rattle.cycle.specs.Notation.{bit};
 ghost use Rattle.records.specs.Reading.{isWhole};
 use tsc::FEWEST_WORDS;
 use tsc::MOST_WORDS;
+use words::mask::bit_of;
 
 // The bits of the fields that may lack.
-pub const TIES: u8 = 2;
+pub const TIES: u32 = 2;
 
-pub const TAKEN: u8 = 3;
+pub const TAKEN: u32 = 3;
 
-pub const STATE: u8 = 4;
+pub const STATE: u32 = 4;
 
 // The places of the fields that always stand, and of the next one.
 pub const TRUCK_AT: usize = 1;
@@ -21,25 +22,17 @@ pub const SHOVEL_AT: usize = 3;
 
 pub const TIES_AT: usize = 5;
 
-// Bit k of a map.
-pub fn bit_of(map: u8, k: u8) -> u8
-    requires { ⌜ k < 8 ⌝ }
-    ensures { λ r. ⌜ r ≡ bit k map ⌝ }
-{
-    (map >> k) % 2
-}
-
 // Where the words taken and the state stand, or would, on a record with this map. That bits 0 and 1 stand has been seen.
 pub fn taken_at(map: u8) -> usize
     ensures { λ r. ⌜ r ≡ 5 + bit 2 map ⌝ }
 {
-    TIES_AT + bit_of(map, TIES) as usize
+    TIES_AT + bit_of(map as u32, TIES) as usize
 }
 
 pub fn state_at(map: u8) -> usize
     ensures { λ r. ⌜ r ≡ 5 + bit 2 map + bit 3 map ⌝ }
 {
-    taken_at(map) + bit_of(map, TAKEN) as usize
+    taken_at(map) + bit_of(map as u32, TAKEN) as usize
 }
 
 // The two bytes at a place as a number, low byte first.
@@ -72,7 +65,7 @@ pub fn is_whole(bytes: &[u8]) -> bool
         return false;
     }
     let at = state_at(map);
-    if bit_of(map, STATE) == 0 {
+    if bit_of(map as u32, STATE) == 0 {
         return bytes.len() == at;
     }
     let m = byte_at(bytes, at) as usize;

@@ -8,7 +8,6 @@ ghost use Rattle.picks.specs.Picks.{pickRefusal};
 use card::check;
 use generator::call;
 use pick::listing;
-use picks::Pick;
 use tsc::MOST_WORDS;
 
 // Whether a page of `room` bytes has none for a record of a state of m words, or there is no such state.

@@ -1,8 +1,7 @@
 -- THE ORDER MAKES NO DIFFERENCE to a recorded pick: the same shovels with the same times in any order, the same answer, state, record and page; and the standby's
 -- records over a shift are the server's.
 use mathlib.Core.Path.{_≡_, refl, sym, ap, ap₂, _∙_}
-use mathlib.Core.Logic.{_≢_}
-use mathlib.Core.Bool.{Bool, cond}
+use mathlib.Core.Bool.{cond}
 use mathlib.Core.List.{List, [], _∷_}
 use Prim.Native.Nat.{ℕ}
 use native.Mathlib.Decide.{ℕ-discrete}
@@ -14,7 +13,7 @@ use Rattle.ties.specs.Order.{SameShovels}
 use Rattle.records.specs.Fields.{recordBytes}
 use Rattle.picks.specs.declared.Pick.{Pick}
 use Rattle.picks.specs.declared.Pick.the-variants.{Shovel, Refused}
-use Rattle.picks.specs.Picks.{pickRefusal, picking, picked}
+use Rattle.picks.specs.Picks.{pickRefusal, picking}
 use Rattle.picks.proofs.Picking.{picking-refused, picking-chosen}
 use Rattle.picks.proofs.Choice.{pick-order}
 use Rattle.recorded_picks.specs.Recorded.{recordedRefusal, recordedPicking, recordedState, recordLeft, recordedOn, recordedPage}

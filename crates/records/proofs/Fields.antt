@@ -1,20 +1,18 @@
 -- Laws of the fields of a record: their places, how many numbers they hold, and what a whole record is field by field.
 use mathlib.Core.Path.{_≡_, refl, sym, ap, _∙_}
-use mathlib.Core.Bool.{Bool, true, false, cond, not, _&&_, and-eq-true-iff}
-use mathlib.Core.List.{List, [], _∷_}
+use mathlib.Core.Bool.{true, cond, and-eq-true-iff}
+use mathlib.Core.List.{List, []}
 use Prim.Native.Nat.{ℕ, zero, suc, _+_, _-_, _%_, _≤_, _<_}
 use native.Mathlib.Nat.{add-assoc}
 use native.Mathlib.Omega.{arith}
 use borrow.Author.Tests.{eqb-true, ltb-true, eq-eqb, lt-ltb}
-use lib.Dec.{eqb, ltb, lit<}
-use lib.ListN.{length, getD, drop}
+use lib.Dec.{lit<}
+use lib.ListN.{length, getD}
 use Rattle.cycle.specs.Notation.{sum, bit}
 use Rattle.cycle.proofs.Sum.{sum-split}
 use Rattle.cycle.proofs.Digits.{length-tabulate}
-use Rattle.tsc.specs.Constants.{fewestWords, mostWords}
-use Rattle.card_format.specs.Fields.{Field, extent, numbers, allowed, same}
+use Rattle.card_format.specs.Fields.{extent, numbers, allowed}
 use Rattle.card_format.specs.Reading.{present}
-use Rattle.card_format.proofs.Fields.{allowed-at}
 use Rattle.card_format.proofs.Bytes.{length-cond}
 use Rattle.records.specs.Fields.{recordFields, recordField, recordFieldCount, bitCount, bitOf, startOf, numbersAt, wordCountOf, recordNumbers}
 use Rattle.records.specs.Reading.{isWhole, Whole}
@@ -76,11 +74,11 @@ unfolding isWhole
 form-whole bytes f = rw (f .low, lt-ltb _ _ (f .high), f .counted, eq-eqb _ _ (f .ends)) refl
 
 -- the fields that always stand
-pub always : (bytes : List ℕ) → Form bytes → (present bytes 0 ≡ true) × (present bytes 1 ≡ true)
-always bytes f =
+pub always : (bytes : List ℕ) → getD bytes 0 0 % 4 ≡ 3 → (present bytes 0 ≡ true) × (present bytes 1 ≡ true)
+always bytes low =
     let map = getD bytes 0 0 in
-    let b0 : bit 0 map ≡ 1 = omega (arith, f .low) in
-    let b1 : bit 1 map ≡ 1 = omega (arith, f .low) in
+    let b0 : bit 0 map ≡ 1 = omega (arith, low) in
+    let b1 : bit 1 map ≡ 1 = omega (arith, low) in
     (eq-eqb _ 1 b0, eq-eqb _ 1 b1)
 
 -- field 4 is where it is whatever the count

@@ -11,14 +11,14 @@ use Rattle.cycle.specs.Notation.{sum, zeroFilled}
 use Rattle.cycle.proofs.Sum.{sum-ext, sum-mono}
 use Rattle.tsc.specs.Constants.{mostWords}
 use Rattle.refusals.specs.Refusals.{firstOf}
-use Rattle.card_format.specs.Fields.{Bytes, extent, numbers, bytesOf, allowed, same}
+use Rattle.card_format.specs.Fields.{Bytes, extent, bytesOf, allowed, same}
 use Rattle.card_format.proofs.Fields.{allowed-at}
 use Rattle.card_format.specs.Reading.{present}
 use Rattle.card_format.proofs.Lists.{take-filled}
 use Rattle.card_format.proofs.Bytes.{cond-le, length-one, byte-lt, bytesOf-numbers, map-bit}
 use Rattle.records.specs.Fields.{recordFields, recordField, recordFieldCount, bitCount, bitOf, startOf, numbersAt, wordCountOf, recordNumbers, recordBytes}
 use Rattle.records.specs.Reading.{isWhole, Whole, optional, recordOf, noRecord, readingRecord}
-use Rattle.records.specs.Writing.{given, wordCount, stateOf, numbersOf, isGiven, fieldBytes, encodedTo, encoded}
+use Rattle.records.specs.Writing.{given, wordCount, numbersOf, isGiven, fieldBytes, encodedTo, encoded}
 use Rattle.records.proofs.Fields.{each-field, bit-below, start-suc, start-before, length-numbersAt, Form, whole-form, always, count-number}
 
 -- a number that may lack
@@ -70,7 +70,7 @@ module _ (bytes : List ℕ) (f : Form bytes) where
   numbers-same : (k : ℕ) → k < recordFieldCount → numbersOf (recordOf bytes) k ≡ recordNumbers bytes k
   unfolding numbersOf recordOf recordField recordFields
   numbers-same =
-      each-field (λ k. numbersOf (recordOf bytes) k ≡ recordNumbers bytes k) (single 0 refl (always bytes f .0)) (single 1 refl (always bytes f .1)) (maybe 2 refl)
+      each-field (λ k. numbersOf (recordOf bytes) k ≡ recordNumbers bytes k) (single 0 refl (always bytes (f .low) .0)) (single 1 refl (always bytes (f .low) .1)) (maybe 2 refl)
       (maybe 3 refl) words-given (ap (λ (n : ℕ). take n (zeroFilled mostWords (recordNumbers bytes 5))) count-given ∙ take-filled mostWords c (recordNumbers bytes 5) length-words)
 
   -- a field is given where its bit stands

@@ -5,11 +5,11 @@ use mathlib.Core.List.{List, [], _∷_, _++_, append-assoc, append-nil}
 use Prim.Native.Nat.{ℕ, zero, suc, _+_, _-_, _%_, _^_, _≤_, _<_}
 use native.Mathlib.Nat.{add-assoc, le-refl, lt-of-le-of-lt}
 use native.Mathlib.Omega.{arith}
-use borrow.Author.Tests.{not-true, not-false}
+use borrow.Author.Tests.{not-false}
 use lib.Dec.{lit<}
 use lib.ListN.{length, getD, take, drop, length-append, length-take, length-replicate}
 use lib.Seq.{length-take-le, drop-at}
-use Rattle.cycle.specs.Notation.{sum, every, zeroFilled}
+use Rattle.cycle.specs.Notation.{sum}
 use Rattle.cycle.proofs.Sum.{sum-ext}
 use Rattle.cycle.proofs.Every.{every-at}
 use Rattle.tsc.specs.declared.State.{State}
@@ -24,7 +24,7 @@ use Rattle.records.specs.declared.Record.{Record}
 use Rattle.records.specs.Fields.{recordFields, recordField, recordFieldCount, bitCount, bitOf, startOf, numbersAt, wordCountOf, recordNumbers}
 use Rattle.records.specs.Reading.{Whole, optional, heldState, recordOf}
 use Rattle.records.specs.Writing.{given, wordCount, stateOf, numbersOf, isGiven, fieldBytes, encodedTo, encoded, Fits}
-use Rattle.records.proofs.Fields.{each-field, bit-below, start-suc, Form, form-whole}
+use Rattle.records.proofs.Fields.{each-field, bit-below, Form, form-whole}
 
 optional-given : (o : Optional) → optional (given o) ≡ o
 optional-given Absent = refl

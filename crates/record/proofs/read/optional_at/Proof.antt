@@ -1,10 +1,8 @@
-use mathlib.Core.Path.{_≡_, sym, ap, _∙_}
+use mathlib.Core.Path.{sym, ap, _∙_}
 use mathlib.Core.Bool.{Bool, cond}
-use mathlib.Core.List.{List, [], _∷_}
+use mathlib.Core.List.{[], _∷_}
 use borrow.Author.Needs.{needs}
 use borrow.Author.Tests.{eq-eqb, ne-eqb}
-use Prim.Native.Nat.{ℕ}
-use native.Mathlib.Omega.{arith}
 use lib.ListN.{getD}
 use Rattle.records.specs.Reading.{optional}
 use Rattle.record.proofs.read.optional_at.Statement.{statement}
@@ -13,8 +11,8 @@ use Rattle.record.proofs.read.optional_at.Tie as tie
 bit-of-requires : tie.Need-bit-of-requires
 bit-of-requires c κs = search needs
 
-shared-slice-read-t8 : tie.Need-shared-slice-read-t8
-shared-slice-read-t8 c = c .before .before .before .before .pre .1 (sym (c .before .before .bit-of .ensures) ∙ c .before .if1 .taken)
+shared-slice-read-t9 : tie.Need-shared-slice-read-t9
+shared-slice-read-t9 c = c .before .before .before .before .pre .1 (sym (c .before .before .bit-of .ensures) ∙ c .before .if1 .taken)
 
 returns : tie.Need-returns
 returns c =
@@ -27,4 +25,4 @@ returns-2 c =
     (sym (ne-eqb _ 1 (λ e. c .if1 .left (c .before .bit-of .ensures ∙ e))))
 
 pub optional-at-spec : {M : Type 1} → statement M
-optional-at-spec = tie.close (tie.spec bit-of-requires shared-slice-read-t8 returns returns-2)
+optional-at-spec = tie.close (tie.spec bit-of-requires shared-slice-read-t9 returns returns-2)

@@ -3,14 +3,13 @@ use mathlib.Core.List.{List}
 use Prim.Native.Nat.{ℕ, _-_, _*_, _≤_}
 use native.Mathlib.Nat.{le-of-eq}
 use native.Mathlib.Omega.{arith}
-use lib.ListN.{length, set, replicate, length-replicate}
+use lib.ListN.{length, set, replicate}
 use lib.Seq.{take-all}
 use Rattle.cycle.specs.Notation.{zeroFilled}
 use Rattle.tsc.specs.declared.State.{State}
 use Rattle.tsc.specs.Constants.{mostWords}
 use Rattle.card_format.specs.Fields.{numbers}
-use Rattle.card_format.proofs.Lists.{over, over-suc, over-zeros, length-over}
-use Rattle.records.specs.Reading.{heldState}
+use Rattle.card_format.proofs.Lists.{over, over-suc, over-zeros}
 use Rattle.records.proofs.Full.{wordField}
 use Rattle.record.proofs.Words.{length-words, word-bytes}
 use Rattle.record.proofs.read.state_from.Statement.{statement}

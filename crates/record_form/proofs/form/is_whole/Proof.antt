@@ -43,6 +43,9 @@ returns-2 c = sym (not-high _ (omega (arith, c .before .before .byte-at .ensures
 state-at-requires : tie.Need-state-at-requires
 state-at-requires c κs = search needs
 
+cast-bit-of : tie.Need-cast-bit-of
+cast-bit-of c = search needs
+
 bit-of-requires : tie.Need-bit-of-requires
 bit-of-requires c κs = search needs
 
@@ -88,6 +91,7 @@ is-whole-spec =
     returns
     returns-2
     state-at-requires
+    cast-bit-of
     bit-of-requires
     returns-3
     byte-at-requires-2
