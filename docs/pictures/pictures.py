@@ -1,6 +1,6 @@
 """Draws layers.svg, the crates and which rests on which, from crates.txt; and orbit.svg, the sixteen states of the program's card (document 01)
 in the order in which the step brings them up, beside the same card with an even constant; and halves.svg, the words of two cards of 64 states
-in their order, of which one repeats them. `make pictures`."""
+in their order, of which one repeats them; and record.svg, the bytes of a record (document 02, Seven) and who is told what of them. `make pictures`."""
 
 import math
 import pathlib
@@ -271,6 +271,46 @@ def halves():
     return svg(910, 490, body)
 
 
+
+# ---- The record.
+
+# the record of the papers' example, field by field: name, bytes, whether the cab is told it
+FIELDS = [
+    ("map", "1f", False),
+    ("truck 258", "02 01", False),
+    ("shovel 4", "04 00", True),
+    ("ties 2", "02", False),
+    ("taken 1", "01", False),
+    ("words 2", "02", False),
+    ("x0 before the pick", "00 00 00 00", False),
+    ("x1", "00 00 00 00", False),
+]
+BYTE = 50
+
+
+def field_box(x, name, octets, told):
+    """The bytes of a field, its name above them."""
+    fill, line = ("#fdf1dc", "#c98f2b") if told else ("#e8eefc", "#5a7bc4")
+    width = BYTE * len(octets)
+    yield f'<rect x="{x}" y="70" width="{width}" height="34" fill="{fill}" stroke="{line}"/>'
+    for k, octet in enumerate(octets):
+        yield text(x + BYTE * (k + 0.5), 92, octet, more='font-family="DejaVu Sans Mono, monospace"')
+    yield text(x + width / 2, 60, name.replace(" ", "\u00a0"), size=10)
+
+
+def record():
+    body, x = [], 20
+    for name, octets, told in FIELDS:
+        octets = octets.split()
+        body += field_box(x, name, octets, told)
+        if told:
+            body.append(text(x + BYTE * len(octets) / 2, 128, "the cab of truck 258 is told this", size=12, fill="#9a6a14"))
+        x += BYTE * len(octets)
+    body.append(f'<path d="M20,34 V26 H{x} V34" fill="none" stroke="#5a7bc4"/>')
+    body.append(text((20 + x) / 2, 20, "the desk reads all of it, and picks again from this state", size=12))
+    return svg(x + 20, 140, body)
+
+
 if __name__ == "__main__":
-    for draw in (layers, orbit, halves):
+    for draw in (layers, orbit, halves, record):
         save(draw)
