@@ -1,4 +1,5 @@
-// Recorded picks, each with its answer and the whole page printed. The page is lent with every byte a5, and compared with that after a refusal.
+// Recorded picks, each with its answer and the whole page printed. The page is lent with every byte a5, and compared with that after a refusal. That the state
+// is not more than its array, the line's reader has seen.
 ghost use Prim.Native.Nat.{_≤_};
 ghost use Rattle.case_answers.specs.Page.{mostPage};
 ghost use Rattle.case_fields.specs.Lists.{room};

@@ -8,7 +8,7 @@ use lib.ListN.{length, getD}
 use Rattle.cycle.specs.Notation.{sum}
 use Rattle.cycle.proofs.Digits.{length-tabulate, getD-tabulate}
 use Rattle.card_format.specs.Fields.{numbers}
-use Rattle.records.proofs.Full.{wordField}
+use Rattle.records.specs.Fields.{wordField}
 
 pub length-words : (m : ℕ) (part : List ℕ) → length (numbers (wordField m) part) ≡ m
 unfolding numbers

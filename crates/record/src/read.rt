@@ -7,7 +7,8 @@ ghost use lib.Dec.{eqb};
 ghost use lib.ListN.{length, getD, drop};
 ghost use Rattle.tsc.specs.Constants.{mostWords, widestWidth};
 ghost use Rattle.cycle.specs.Notation.{bit};
-ghost use Rattle.card_format.specs.Fields.{numbers, row};
+ghost use Rattle.card_format.specs.Fields.{numbers};
+ghost use Rattle.records.specs.Fields.{wordField};
 ghost use Rattle.records.specs.Reading.{optional, heldState, noRecord, readingRecord};
 use card_fields::number::low_first;
 use record_form::form;
@@ -39,7 +40,7 @@ fn torn() -> RecordReading
     }
 }
 
-// The byte at a place where bit k of the map stands, and nothing where it does not.
+// The byte at a place where bit k of the map stands, and nothing where it does not. A whole record has it there.
 fn optional_at(bytes: &[u8], map: u8, k: u32, at: usize) -> Optional
     requires { ⌜ (k < widestWidth) × (bit k map ≡ 1 → at < length (now bytes)) ⌝ }
     ensures { λ r. ⌜ r ≡ optional (cond (eqb (bit k map) 1) (getD (now (bytes .entry)) at 0 ∷ []) []) ⌝ }
@@ -50,10 +51,10 @@ fn optional_at(bytes: &[u8], map: u8, k: u32, at: usize) -> Optional
     Optional::Absent
 }
 
-// A state of m words of four bytes, at the start of the part.
+// A state of m words of four bytes, at the start of the part. The record is whole, and so has them, here and below.
 fn state_from(part: &[u8], m: usize) -> State
     requires { ⌜ (m ≤ mostWords) × (4 * m ≤ length (now part)) ⌝ }
-    ensures { λ r. ⌜ r ≡ heldState (numbers (row m 4 0 0xffffffff []) (now (part .entry))) ⌝ }
+    ensures { λ r. ⌜ r ≡ heldState (numbers (wordField m) (now (part .entry))) ⌝ }
 {
     let mut s = State {
         words: [0; MOST_WORDS],
@@ -70,7 +71,7 @@ fn state_from(part: &[u8], m: usize) -> State
 // The state whose field would stand at this place: its words, and zeros past them; all zeros where the record has none.
 fn state_of(bytes: &[u8], at: usize) -> State
     requires { ⌜ (getD (now bytes) at 0 ≤ mostWords) × (at < length (now bytes) → at + 1 + 4 * getD (now bytes) at 0 ≤ length (now bytes)) ⌝ }
-    ensures { λ r. ⌜ r ≡ heldState (numbers (row (getD (now (bytes .entry)) at 0) 4 0 0xffffffff []) (drop (at + 1) (now (bytes .entry)))) ⌝ }
+    ensures { λ r. ⌜ r ≡ heldState (numbers (wordField (getD (now (bytes .entry)) at 0)) (drop (at + 1) (now (bytes .entry)))) ⌝ }
 {
     if bytes.len() <= at {
         return State {

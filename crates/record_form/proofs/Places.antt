@@ -13,10 +13,10 @@ use lib.Seq.{getD-drop}
 use Rattle.cycle.specs.Notation.{sum, tabulate, bit}
 use Rattle.cycle.proofs.Bits.{bit-lt}
 use Rattle.tsc.specs.Constants.{fewestWords, mostWords}
-use Rattle.card_format.specs.Fields.{Field, row, numbers, allowed}
+use Rattle.card_format.specs.Fields.{Field, numbers, allowed}
 use Rattle.card_format.specs.Reading.{present}
 use Rattle.card_format.proofs.Fields.{lowFirst, numbers-one, allowed-at}
-use Rattle.records.specs.Fields.{recordFields, recordField, recordFieldCount, bitOf, startOf, numbersAt, wordCountOf, recordNumbers}
+use Rattle.records.specs.Fields.{wordField, recordFields, recordField, recordFieldCount, bitOf, startOf, numbersAt, wordCountOf, recordNumbers}
 use Rattle.records.specs.Reading.{isWhole, Whole}
 use Rattle.records.proofs.Fields.{start-suc, Form, whole-form, always}
 
@@ -207,14 +207,14 @@ module _ (bytes : List ℕ) where
       go f (suc (suc d)) e l = absurd (omega arith)
 
   -- the words behind the count; none where the state lacks
-  pub words-bytes : Known → recordNumbers bytes 5 ≡ numbers (row (getD bytes stateAt 0) 4 0 0xffffffff []) (drop (stateAt + 1) bytes)
+  pub words-bytes : Known → recordNumbers bytes 5 ≡ numbers (wordField (getD bytes stateAt 0)) (drop (stateAt + 1) bytes)
   unfolding numbersAt numbers tabulate recordField recordFields
   words-bytes k = go (bit 4 map) refl (bit-lt 4 map)
     where
       go : (d : ℕ) → bit 4 map ≡ d → d < 2
           → cond (eqb d 1) (numbers (recordField (wordCountOf bytes) 5) (drop (startOf (wordCountOf bytes) bytes 5) bytes)) []
-          ≡ numbers (row (getD bytes stateAt 0) 4 0 0xffffffff []) (drop (stateAt + 1) bytes)
+          ≡ numbers (wordField (getD bytes stateAt 0)) (drop (stateAt + 1) bytes)
       go zero z l = rw (List·getD-eq-default bytes 0 (le-of-eq (sym (k .none z)))) refl
       go (suc zero) o l =
-          ap₂ (λ (c at : ℕ). numbers (row c 4 0 0xffffffff []) (drop at bytes)) (word-count (k .low) o) (start-words (k .low) (wordCountOf bytes) o)
+          ap₂ (λ (c at : ℕ). numbers (wordField c) (drop at bytes)) (word-count (k .low) o) (start-words (k .low) (wordCountOf bytes) o)
       go (suc (suc d)) e l = absurd (omega arith)

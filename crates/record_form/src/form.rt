@@ -35,7 +35,7 @@ pub fn state_at(map: u8) -> usize
     taken_at(map) + bit_of(map as u32, TAKEN) as usize
 }
 
-// The two bytes at a place as a number, low byte first.
+// The two bytes at a place as a number, low byte first. Callers have seen that the record is whole, and so has them.
 pub fn half_at(bytes: &[u8], at: usize) -> u16
     requires { ⌜ at + 1 < length (now bytes) ⌝ }
     ensures { λ r. ⌜ r ≡ getD (now (bytes .entry)) at 0 + getD (now (bytes .entry)) (at + 1) 0 * 256 ⌝ }

@@ -11,7 +11,7 @@ use Rattle.cycle.proofs.Digits.{getD-tabulate, tabulate-ext, tabulate-getD}
 use Rattle.card_format.specs.Fields.{bytesOf}
 use Rattle.card_format.proofs.Bytes.{length-bytesOf}
 use Rattle.card_fields.specs.LowBytes.{lowBytes}
-use Rattle.records.proofs.Full.{wordField}
+use Rattle.records.specs.Fields.{wordField}
 
 pub length-bytes : (xs : List ℕ) → length (bytesOf (wordField (length xs)) xs) ≡ 4 * length xs
 length-bytes xs = length-bytesOf (wordField (length xs)) xs ∙ mul-comm (length xs) 4

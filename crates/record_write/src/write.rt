@@ -4,8 +4,8 @@ ghost use mathlib.Core.List.{[], _++_};
 ghost use Prim.Native.Nat.{_*_, _≤_};
 ghost use lib.ListN.{length, drop};
 ghost use Rattle.tsc.specs.Constants.{mostWords};
-ghost use Rattle.card_format.specs.Fields.{bytesOf, row};
-ghost use Rattle.records.specs.Fields.{recordBytes};
+ghost use Rattle.card_format.specs.Fields.{bytesOf};
+ghost use Rattle.records.specs.Fields.{wordField, recordBytes};
 ghost use Rattle.records.specs.Writing.{encoded, fullRecord};
 use card_fields::number::put_number;
 
@@ -27,7 +27,7 @@ fn put_bytes(bytes: &[u8], page: &mut [u8])
 // Words of four bytes, low byte first, at the start of the part.
 fn put_words(words: &[u32], part: &mut [u8])
     requires { ⌜ 4 * length (now words) ≤ length (now part) ⌝ }
-    ensures { λ _. ⌜ now (part .exit) ≡ bytesOf (row (length (now (words .entry))) 4 0 0xffffffff []) (now (words .entry)) ++ drop (4 * length (now (words .entry))) (now (part .entry)) ⌝ }
+    ensures { λ _. ⌜ now (part .exit) ≡ bytesOf (wordField (length (now (words .entry)))) (now (words .entry)) ++ drop (4 * length (now (words .entry))) (now (part .entry)) ⌝ }
 {
     let mut k = 0;
     while k < words.len() {

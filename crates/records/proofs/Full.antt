@@ -10,18 +10,14 @@ use lib.ListN.{length, getD, replicate, length-append}
 use Rattle.cycle.specs.Notation.{sum, tabulate}
 use Rattle.cycle.proofs.Every.{every-of}
 use Rattle.tsc.specs.Constants.{fewestWords, mostWords}
-use Rattle.card_format.specs.Fields.{Field, row, numbers, bytesOf, allowed, same}
+use Rattle.card_format.specs.Fields.{Field, numbers, bytesOf, allowed, same}
 use Rattle.card_format.proofs.Fields.{allowed-all}
 use Rattle.card_format.proofs.Lists.{take-filled}
 use Rattle.card_format.proofs.Bytes.{length-bytesOf}
-use Rattle.records.specs.Fields.{recordFields, recordField, recordFieldCount, startOf, numbersAt, wordCountOf, recordBytes}
+use Rattle.records.specs.Fields.{wordField, recordFields, recordField, recordFieldCount, startOf, numbersAt, wordCountOf, recordBytes}
 use Rattle.records.specs.Reading.{isWhole, Whole, heldState}
 use Rattle.records.specs.Writing.{stateOf, numbersOf, fieldBytes, encodedTo, encoded, Fits, fullRecord}
 use Rattle.records.proofs.Fields.{each-field}
-
--- m words of four bytes
-abbrev pub wordField : ℕ → Field
-wordField m = row m 4 0 0xffffffff []
 
 -- a number of a field
 one : (f : Field) (x : ℕ) → f .least ≤ x → x ≤ f .most → allowed f (x ∷ []) ≡ true

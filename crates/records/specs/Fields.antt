@@ -8,6 +8,10 @@ use Rattle.tsc.specs.Constants.{fewestWords, mostWords}
 use Rattle.card_format.specs.Fields.{Field, row, extent, numbers}
 use Rattle.card_format.specs.Reading.{present}
 
+-- c words of a state, any of 32 bits
+abbrev pub wordField : ℕ → Field
+wordField c = row c 4 0 0xffffffff []
+
 -- the fields of a record whose state has c words: those of bits 0 to 3, and the two parts of bit 4. A field that lacks holds no number, and of those given only
 -- the count of words is judged
 unfoldable pub recordFields : ℕ → List Field
@@ -18,7 +22,7 @@ recordFields c =
     ∷ row 1 1 0 0xff []  -- 2 ties
     ∷ row 1 1 0 0xff []  -- 3 words taken
     ∷ row 1 1 fewestWords mostWords []  -- 4 the state before the pick: how many words,
-    ∷ row c 4 0 0xffffffff []  -- 4 and the words
+    ∷ wordField c  -- 4 and the words
     ∷ []
 
 abbrev pub recordFieldCount : ℕ

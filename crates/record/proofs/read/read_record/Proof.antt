@@ -15,7 +15,7 @@ use Rattle.card_format.specs.Reading.{present}
 use Rattle.records.specs.declared.Optional.{Optional}
 use Rattle.records.specs.Reading.{Whole, optional, heldState, recordOf}
 use Rattle.records.proofs.Reading.{reading-torn, reading-whole}
-use Rattle.records.proofs.Full.{wordField}
+use Rattle.records.specs.Fields.{wordField}
 use Rattle.record_form.proofs.Places.{stateAt, Known, known, truck-bytes, shovel-bytes, ties-byte, taken-byte, words-byte, words-bytes}
 use Rattle.record.proofs.read.read_record.Statement.{statement}
 use Rattle.record.proofs.read.read_record.Tie as tie

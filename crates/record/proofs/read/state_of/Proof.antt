@@ -8,7 +8,7 @@ use Rattle.cycle.specs.Notation.{tabulate}
 use Rattle.card_format.specs.Fields.{numbers}
 use Rattle.card_format.proofs.Lists.{part-rest}
 use Rattle.records.specs.Reading.{heldState}
-use Rattle.records.proofs.Full.{wordField}
+use Rattle.records.specs.Fields.{wordField}
 use Rattle.record.proofs.read.state_of.Statement.{statement}
 use Rattle.record.proofs.read.state_of.Tie as tie
 

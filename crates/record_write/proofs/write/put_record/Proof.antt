@@ -6,7 +6,8 @@ use native.Mathlib.Omega.{arith}
 use lib.ListN.{length, take, drop}
 use Rattle.card_format.specs.Fields.{bytesOf}
 use Rattle.card_format.proofs.Lists.{put-next}
-use Rattle.records.proofs.Full.{wordField, encoded-full, length-full}
+use Rattle.records.specs.Fields.{wordField}
+use Rattle.records.proofs.Full.{encoded-full, length-full}
 use Rattle.record_write.proofs.Bytes.{length-bytes}
 use Rattle.record_write.proofs.write.put_record.Statement.{statement}
 use Rattle.record_write.proofs.write.put_record.Tie as tie

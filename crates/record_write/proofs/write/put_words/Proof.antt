@@ -8,7 +8,7 @@ use Rattle.card_format.specs.Fields.{bytesOf}
 use Rattle.card_format.proofs.Lists.{over, length-over, part-rest, put-next}
 use Rattle.card_fields.specs.LowBytes.{lowBytes}
 use Rattle.card_fields.proofs.LowBytes.{length-lowBytes}
-use Rattle.records.proofs.Full.{wordField}
+use Rattle.records.specs.Fields.{wordField}
 use Rattle.record_write.proofs.Bytes.{length-bytes, bytes-next}
 use Rattle.record_write.proofs.write.put_words.Statement.{statement}
 use Rattle.record_write.proofs.write.put_words.Tie as tie
