@@ -9,7 +9,9 @@ use case_numbers::number;
 // One more than a list may have. 600 bytes have room for the longest card of document 02, and for cards that are too long.
 pub const ROOM: usize = 601;
 
-// The largest number of 32 bits.
+// The largest numbers of 16 and of 32 bits.
+pub const HALF: u32 = 0xffff;
+
 pub const WORD: u32 = 0xffff_ffff;
 
 // Numbers, `count` of them, each as it is and its low 16 and low 8 bits; zeros past them. A full array is a list that can't be read.

@@ -21,7 +21,7 @@ fn print_optional(field: Optional) {
 }
 
 // The first m words of a state, commas between.
-fn print_words(state: State, m: u8) {
+fn print_first(state: State, m: u8) {
     let mut k: usize = 0;
     while k < MOST_WORDS {
         if k < m as usize {
@@ -34,7 +34,7 @@ fn print_words(state: State, m: u8) {
 // A state that may lack.
 fn print_held(words: Optional, state: State) {
     match words {
-        Optional::Value(m) => print_words(state, m),
+        Optional::Value(m) => print_first(state, m),
         Optional::Absent => {
             io::write_all(1, b"absent");
         }

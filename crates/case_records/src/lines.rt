@@ -2,10 +2,8 @@
 use super::calls;
 use case_answers::answer;
 use case_fields::line;
+use case_fields::list::HALF;
 use case_numbers::number;
-
-// The largest number of 16 bits.
-const HALF: u64 = 0xffff;
 
 // desk RECORD
 pub fn replay_desk(line: &[u8], bytes: &[u8]) {
@@ -21,7 +19,7 @@ pub fn replay_cab(line: &[u8], bytes: &[u8]) {
     if line::fields(line) != 3 {
         return answer::print_syntax();
     }
-    if HALF < truck {
+    if (HALF as u64) < truck {
         return answer::print_syntax();
     }
     calls::print_cab(truck as u16, bytes);

@@ -8,6 +8,7 @@ use super::recorded;
 use case_answers::answer;
 use case_fields::line;
 use case_fields::list;
+use case_fields::list::HALF;
 use case_fields::list::Numbers;
 use case_fields::list::ROOM;
 use case_fields::list::WORD;
@@ -15,9 +16,6 @@ use case_numbers::number;
 
 // The most words that a case may ask for.
 const MOST_DRAWS: u64 = 1024;
-
-// The largest number of 16 bits.
-const HALF: u32 = 0xffff;
 
 // step CARD STATE, back CARD STATE, draw CARD STATE
 pub fn replay_moved(line: &[u8], call: Move, card: &[u8]) {

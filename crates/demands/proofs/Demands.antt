@@ -48,12 +48,13 @@ use Rattle.picks.specs.declared.Pick.the-variants.{Refused}
 use Rattle.records.specs.declared.Order.the-variants as Order
 use Rattle.records.specs.Reading.{recordOf, noRecord, readingRecord}
 use Rattle.records.specs.Orders.{orderFor}
-use Rattle.records.proofs.Reading.{whole-unique, whole-short}
+use Rattle.records.proofs.Reading.{read-absent, whole-unique, whole-short}
 use Rattle.records.proofs.Writing.{encoded-whole, encoded-back}
 use Rattle.records.proofs.Full.{longest-record}
 use Rattle.records.proofs.Orders.{order-heard, cabs-alike, cab-tells}
-use Rattle.recorded_picks.specs.Recorded.{recordedRefusal, recordedPicking, recordedState, recordLeft, recordedOn, recordedPage}
-use Rattle.recorded_picks.proofs.Order.{recorded-order, page-order, standby-records}
+use Rattle.records.specs.Writing.{recordedOn}
+use Rattle.recorded_picks.specs.Recorded.{recordedRefusal, recordedPicking, recordedState, recordLeft, recordedPage}
+use Rattle.recorded_picks.proofs.Order.{recorded-order, page-order, standby-records, standby-pages}
 use Rattle.recorded_picks.proofs.Desk.{page-left, page-kept, record-read, record-replayed}
 use Rattle.demands.specs.Demands.{ByTable, nothing, AnsweredOrRefused, Ready, Published, Undone, SameBytes, SameLots, AcceptedIffCovers, FilledAsDrawn, FairRanks, NearestChange, UpToEightWords, NoEarlyRepeat, CabAndDesk, Demands}
 
@@ -244,12 +245,14 @@ cab-and-desk =
     record {
       readBack = λ bytes xs shovels times page truck s k t lt h answer tie.
           let l = page-left bytes xs shovels times (length page) s k t answer truck lt h tie page refl in
-          (ap readingRecord (l .0) ∙ record-read bytes xs shovels times (length page) s k t answer truck lt h tie, l .1);
+          let r = record-read bytes xs shovels times (length page) s k t answer truck lt h tie in
+          (rw (l .0) (r .0), ap readingRecord (l .0) ∙ r .1, l .1);
       replayed = λ bytes xs shovels times page truck s k t lt h answer tie.
           let l = page-left bytes xs shovels times (length page) s k t answer truck lt h tie page refl in
-          let e = ap readingRecord (l .0) ∙ record-read bytes xs shovels times (length page) s k t answer truck lt h tie in
+          let e = ap readingRecord (l .0) ∙ record-read bytes xs shovels times (length page) s k t answer truck lt h tie .1 in
           record-replayed bytes xs shovels times (length page) s k t answer truck lt h tie _ e;
       noTie = λ bytes xs shovels times page truck s t. page-kept bytes xs shovels times truck page s t;
+      absent = read-absent;
       hearsTheSame = cabs-alike;
       dependsOn = order-heard;
       tells = cab-tells;
@@ -257,6 +260,7 @@ cab-and-desk =
           let o = recorded-order bytes xs shovels times shovels₂ times₂ h (length page) in
           (o .0, o .1, page-order bytes xs shovels times shovels₂ times₂ h truck page);
       shift = standby-records;
+      pages = standby-pages;
       short = whole-short;
       reached = longest-record;
       unique = whole-unique;

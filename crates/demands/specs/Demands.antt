@@ -2,8 +2,8 @@
 -- What a call answers, and what it leaves in the words or the page lent to it, is by its contract what the definitions named here say, for every input.
 use mathlib.Core.Path.{_≡_}
 use mathlib.Core.Logic.{_↔_, _≢_}
-use mathlib.Core.Bool.{true}
-use mathlib.Core.List.{List, [], _∷_, _++_}
+use mathlib.Core.Bool.{true, false}
+use mathlib.Core.List.{List, [], _∷_, _++_, map}
 use Prim.Native.Nat.{ℕ, suc, _+_, _-_, _*_, _/_, _%_, _^_, _≤_, _<_}
 use lib.Dec.{eqb}
 use lib.ListN.{length, getD, take, drop}
@@ -20,7 +20,7 @@ use Rattle.tsc.specs.Coverage.{IsState, states, stepBack}
 use Rattle.tsc.specs.Opposite.{opposite, Differs}
 use Rattle.card_format.specs.declared.Written.the-variants as Written
 use Rattle.card_format.specs.Fields.{Bytes}
-use Rattle.card_format.specs.Reading.{cardOf, formChecks, refusedReading, reading}
+use Rattle.card_format.specs.Reading.{present, cardOf, formChecks, refusedReading, reading}
 use Rattle.card_format.specs.Verdict.{cardChecks, verdict, ZeroIffCovers, Accepted}
 use Rattle.card_format.specs.Writing.{written, writeChecks, writing, pageAfter, rewriteChecks, rewriting, pageRewritten}
 use Rattle.card_format.specs.Examples.{p1, p2}
@@ -42,14 +42,15 @@ use Rattle.margins.specs.declared.Margin.the-variants as Margin
 use Rattle.margins.specs.Margins.{Elsewhere, Tells, IsMargin}
 use Rattle.picks.specs.Shift.{Request, answers, stateAfter, Alike}
 use Rattle.picks.specs.Fair.{sentByFirst}
+use Rattle.records.specs.declared.Optional.the-variants.{Absent}
 use Rattle.records.specs.declared.Record.{Record}
 use Rattle.records.specs.declared.Order.the-variants as Order
 use Rattle.records.specs.Fields.{recordBytes}
 use Rattle.records.specs.Reading.{isWhole, Whole, recordChecks, recordOf, noRecord, readingRecord}
-use Rattle.records.specs.Writing.{stateOf, encoded, Fits, fullRecord}
+use Rattle.records.specs.Writing.{stateOf, encoded, Fits, fullRecord, recordedOn}
 use Rattle.records.specs.Orders.{orderChecks, orderFor, heard, SameOrder}
-use Rattle.recorded_picks.specs.Recorded.{Halves, recordedChecks, recordedPicking, recordedState, recordLeft, recordedOn, recordedPage}
-use Rattle.recorded_picks.specs.Shift.{Dispatch, outcomes, endState, AlikeDispatches}
+use Rattle.recorded_picks.specs.Recorded.{Halves, recordedChecks, recordedPicking, recordedState, recordLeft, recordedPage}
+use Rattle.recorded_picks.specs.Shift.{Dispatch, outcomes, endState, pagesAfter, AlikeDispatches}
 
 -- ---- demand 1: whatever card, state, page or shovel list is handed over, the call ends with an answer or the paper's refusal number, and a refusal leaves
 -- state and page as lent. (That every call ends is part of its proof.)
@@ -260,7 +261,7 @@ pub record CabAndDesk : Type 0 where
   pub readBack : (bytes xs shovels times page : List ℕ) (truck s k t : ℕ) → truck < 65536 → Halves shovels
       → recordedPicking bytes xs shovels times (length page) ≡ Pick.Shovel s k t → k ≢ 1
       → let n = recordBytes (cardOf bytes .words) in let after = recordedPage bytes xs shovels times truck page in
-      (readingRecord (take n after) ≡ record { refusal = 0; values = fullRecord truck s k t xs }) × (drop n after ≡ drop n page)
+      Whole (take n after) × (readingRecord (take n after) ≡ record { refusal = 0; values = fullRecord truck s k t xs }) × (drop n after ≡ drop n page)
   -- and a pick from that state, with the same lists, gives this answer and leaves this state
   pub replayed : (bytes xs shovels times page : List ℕ) (truck s k t : ℕ) → truck < 65536 → Halves shovels
       → recordedPicking bytes xs shovels times (length page) ≡ Pick.Shovel s k t → k ≢ 1
@@ -268,18 +269,23 @@ pub record CabAndDesk : Type 0 where
       (picking bytes ys shovels times ≡ Pick.Shovel s k t) × (picked bytes ys shovels times ≡ recordedState bytes xs shovels times (length page))
   pub noTie : (bytes xs shovels times page : List ℕ) (truck s t : ℕ) → recordedPicking bytes xs shovels times (length page) ≡ Pick.Shovel s 1 t
       → recordedPage bytes xs shovels times truck page ≡ page
+  -- of any whole record it reads a field as absent exactly where the field's bit does not stand
+  pub absent : (bytes : List ℕ) → Whole bytes → let r = readingRecord bytes .values in
+      ((r .ties ≡ Absent) ↔ (present bytes 2 ≡ false)) × ((r .taken ≡ Absent) ↔ (present bytes 3 ≡ false)) × ((r .words ≡ Absent) ↔ (present bytes 4 ≡ false))
   -- the cab learns nothing else: two whole records with the same truck and shovel sound the same to every cab
   pub hearsTheSame : (a b : List ℕ) → SameOrder a b → (cab : ℕ) → orderFor cab a ≡ orderFor cab b
   -- what it hears depends on nothing but whether the record is whole, its truck and its shovel; and on all of these, since its own cab tells them apart
   pub dependsOn : (cab : ℕ) (bytes : List ℕ) → orderFor cab bytes ≡ heard cab (isWhole bytes) (recordOf bytes .truck) (recordOf bytes .shovel)
   pub tells : (a b : List ℕ) → Whole a → let cab = recordOf a .truck in orderFor cab a ≡ orderFor cab b → SameOrder a b
-  -- the order of the list makes no difference to answer, state and page; over a shift the standby's records and pages are the server's
+  -- the order of the list makes no difference to answer, state and page; over a shift the standby's records are the server's, and its pages where they held the same
   pub order : (bytes xs shovels times shovels₂ times₂ : List ℕ) → SameShovels shovels times shovels₂ times₂ → (truck : ℕ) (page : List ℕ) → let room = length page in
       (recordedPicking bytes xs shovels₂ times₂ room ≡ recordedPicking bytes xs shovels times room)
       × (recordedState bytes xs shovels₂ times₂ room ≡ recordedState bytes xs shovels times room)
       × (recordedPage bytes xs shovels₂ times₂ truck page ≡ recordedPage bytes xs shovels times truck page)
   pub shift : (bytes xs : List ℕ) (dispatches dispatches₂ : List Dispatch) → AlikeDispatches dispatches dispatches₂
       → (outcomes bytes xs dispatches₂ ≡ outcomes bytes xs dispatches) × (endState bytes xs dispatches₂ ≡ endState bytes xs dispatches)
+  pub pages : (bytes xs : List ℕ) (dispatches dispatches₂ : List Dispatch) → AlikeDispatches dispatches dispatches₂ → let page = λ (d : Dispatch). d .page in
+      map page dispatches₂ ≡ map page dispatches → pagesAfter bytes xs dispatches₂ ≡ pagesAfter bytes xs dispatches
   -- no record is longer than 40 bytes, and one is as long; the same fields, given and lacking, are the same bytes; and all fields that fit have a record
   pub short : (bytes : List ℕ) → Whole bytes → length bytes ≤ 40
   pub reached : (bytes : List ℕ) × Whole bytes × (length bytes ≡ 40)

@@ -10,31 +10,16 @@ use Rattle.changes.specs.declared.Change.{Change}
 use Rattle.changes.specs.Change.{changed, Counts, LeastChange}
 use Rattle.changes.proofs.Listing.{least-one}
 use Rattle.picks.specs.declared.Pick.{Pick}
-use Rattle.picks.specs.declared.Pick.the-variants as pick
-use Rattle.picks.specs.Picks.{pickRefusal}
-use Rattle.picks.proofs.Picking.{pick-passed, picking-refused, picking-chosen}
+use Rattle.picks.specs.Picks.{pickRefusal, wordsTaken}
+use Rattle.picks.proofs.Picking.{shovelOf, tiesOf, pick-passed, picking-refused, picking-chosen}
 use Rattle.margins.specs.declared.Nearest.{Nearest}
 use Rattle.margins.specs.declared.Margin.{Margin}
 use Rattle.margins.specs.declared.Margin.the-variants.{Least, Refused}
 use Rattle.margins.specs.Margins.{Elsewhere, Tells, Answer, IsMargin}
 
--- the parts of a pick's answer
-shovelOf : Pick → ℕ
-shovelOf (pick.Shovel s k t) = s
-shovelOf (pick.Refused r) = 0
-
-tiesOf : Pick → ℕ
-tiesOf (pick.Shovel s k t) = k
-tiesOf (pick.Refused r) = 0
-
-takenOf : Pick → ℕ
-takenOf (pick.Shovel s k t) = t
-takenOf (pick.Refused r) = 0
-
 module _ (bytes xs shovels times : List ℕ) where
   -- a change is told in one way
   pub tells-one : (c : Change) (n n₂ : Nearest) → Tells bytes xs shovels times c n → Tells bytes xs shovels times c n₂ → n ≡ n₂
-  unfolding shovelOf tiesOf takenOf
   tells-one c n n₂ a b =
       let same = sym (a .changedPick) ∙ b .changedPick in
       let seconds = a .seconds ∙ sym (b .seconds) in
@@ -46,7 +31,7 @@ module _ (bytes xs shovels times : List ℕ) where
         raised = direction i;
         shovel = ap shovelOf same i;
         ties = ap tiesOf same i;
-        taken = ap takenOf same i;
+        taken = ap wordsTaken same i;
       }
 
   -- what is answered where the pick is not refused

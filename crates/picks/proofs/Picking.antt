@@ -17,8 +17,18 @@ use Rattle.tie_list.specs.Checks.{listChecks}
 use Rattle.tie_list.proofs.Allowed.{Allowed, list-allowed}
 use Rattle.samples.specs.Samples.{taken, drawnRank, drawnState, tieChecks}
 use Rattle.samples.proofs.Many.{ties-within}
+use Rattle.picks.specs.declared.Pick.{Pick}
 use Rattle.picks.specs.declared.Pick.the-variants.{Shovel, Refused}
 use Rattle.picks.specs.Picks.{pickRefusal, picking, picked}
+
+-- the shovel and the ties that an answer tells; `wordsTaken` are the words
+abbrev pub shovelOf : Pick → ℕ
+shovelOf (Shovel s k t) = s
+shovelOf (Refused r) = 0
+
+abbrev pub tiesOf : Pick → ℕ
+tiesOf (Shovel s k t) = k
+tiesOf (Refused r) = 0
 
 module _ (bytes xs shovels times : List ℕ) where
   -- 18, and all that a pick looks at behind 11

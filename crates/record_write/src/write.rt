@@ -6,7 +6,7 @@ ghost use lib.ListN.{length, drop};
 ghost use Rattle.tsc.specs.Constants.{mostWords};
 ghost use Rattle.card_format.specs.Fields.{bytesOf};
 ghost use Rattle.records.specs.Fields.{wordField, recordBytes};
-ghost use Rattle.records.specs.Writing.{encoded, fullRecord};
+ghost use Rattle.records.specs.Writing.{encoded, recordedOn, fullRecord};
 use card_fields::number::put_number;
 
 // The map of a record that has every field.
@@ -15,7 +15,7 @@ const FULL: u8 = 31;
 // Bytes at the start of a page.
 fn put_bytes(bytes: &[u8], page: &mut [u8])
     requires { ⌜ length (now bytes) ≤ length (now page) ⌝ }
-    ensures { λ _. ⌜ now (page .exit) ≡ now (bytes .entry) ++ drop (length (now (bytes .entry))) (now (page .entry)) ⌝ }
+    ensures { λ _. ⌜ now (page .exit) ≡ recordedOn (now (bytes .entry)) (now (page .entry)) ⌝ }
 {
     let mut i = 0;
     while i < bytes.len() {
@@ -39,7 +39,7 @@ fn put_words(words: &[u32], part: &mut [u8])
 // A record of these fields at the front of a page that has room for it: the recorded pick has seen that.
 pub fn put_record(truck: u16, shovel: u16, ties: u8, taken: u8, state: &[u32], page: &mut [u8])
     requires { ⌜ (length (now state) ≤ mostWords) × (recordBytes (length (now state)) ≤ length (now page)) ⌝ }
-    ensures { λ _. ⌜ now (page .exit) ≡ encoded (fullRecord truck shovel ties taken (now (state .entry))) ++ drop (length (encoded (fullRecord truck shovel ties taken (now (state .entry))))) (now (page .entry)) ⌝ }
+    ensures { λ _. ⌜ now (page .exit) ≡ recordedOn (encoded (fullRecord truck shovel ties taken (now (state .entry)))) (now (page .entry)) ⌝ }
 {
     let head = [
         FULL,

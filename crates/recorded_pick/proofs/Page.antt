@@ -10,8 +10,8 @@ use Rattle.tsc.specs.Constants.{mostWords}
 use Rattle.picks.specs.declared.Pick.{Pick}
 use Rattle.picks.specs.declared.Pick.the-variants.{Shovel}
 use Rattle.records.specs.Fields.{recordBytes}
-use Rattle.records.specs.Writing.{encoded, fullRecord}
-use Rattle.recorded_picks.specs.Recorded.{recordLeft, recordedOn}
+use Rattle.records.specs.Writing.{encoded, fullRecord, recordedOn}
+use Rattle.recorded_picks.specs.Recorded.{recordLeft}
 
 neither : (a b : Bool) → (a || b) ≡ false → (a ≡ false) × (b ≡ false)
 neither true b e = absurd (true≢false e)

@@ -20,31 +20,23 @@ use Rattle.samples.proofs.Tried.{taken-few}
 use Rattle.picks.specs.declared.Pick.{Pick}
 use Rattle.picks.specs.declared.Pick.the-variants.{Shovel, Refused}
 use Rattle.picks.specs.Picks.{pickRefusal, picking, wordsTaken, picked}
-use Rattle.picks.proofs.Picking.{pick-passed, ties-few}
+use Rattle.picks.proofs.Picking.{shovelOf, tiesOf, pick-passed, ties-few}
 use Rattle.picks.proofs.Choice.{pick-chooses}
 use Rattle.records.specs.Fields.{recordBytes}
 use Rattle.records.specs.declared.Record.{Record}
 use Rattle.records.specs.declared.RecordReading.{RecordReading}
 use Rattle.records.specs.Reading.{Whole, recordOf, readingRecord}
-use Rattle.records.specs.Writing.{stateOf, encoded, Fits, fullRecord}
+use Rattle.records.specs.Writing.{stateOf, encoded, Fits, fullRecord, recordedOn}
 use Rattle.records.proofs.Full.{state-full, length-full, full-fits}
 use Rattle.records.proofs.Reading.{reading-whole}
 use Rattle.records.proofs.Writing.{encoded-whole, encoded-back}
-use Rattle.recorded_picks.specs.Recorded.{Halves, recordedRefusal, recordedPicking, recordedState, recordLeft, recordedOn, recordedPage}
+use Rattle.recorded_picks.specs.Recorded.{Halves, recordedRefusal, recordedPicking, recordedState, recordLeft, recordedPage}
 use Rattle.recorded_picks.proofs.Recorded.{not-refused, word-size, recorded-passed, recorded-refused}
 
--- what an answer tells
+-- whether an answer is one
 abbrev isShovel : Pick → Bool
 isShovel (Shovel s k t) = true
 isShovel (Refused r) = false
-
-abbrev shovelIn : Pick → ℕ
-shovelIn (Shovel s k t) = s
-shovelIn (Refused r) = 0
-
-abbrev tiesIn : Pick → ℕ
-tiesIn (Shovel s k t) = k
-tiesIn (Refused r) = 0
 
 module _ (bytes xs shovels times : List ℕ) (room s k t : ℕ) (answer : recordedPicking bytes xs shovels times room ≡ Shovel s k t) where
   none : recordedRefusal bytes xs shovels times room ≡ 0
@@ -67,8 +59,8 @@ module _ (bytes xs shovels times : List ℕ) (room s k t : ℕ) (answer : record
       let c = pick-chooses bytes xs shovels times unrefused in
       let e = sym (c .2) ∙ as-picked .0 in
       let ok = pick-passed bytes xs shovels times unrefused .1 in (
-        subst (λ (x : ℕ). x < 65536) (ap shovelIn e) (h (c .0) (omega (arith, c .1 .listed, ok .paired))),
-        omega (arith, ap tiesIn e, ties-few ok .1),
+        subst (λ (x : ℕ). x < 65536) (ap shovelOf e) (h (c .0) (omega (arith, c .1 .listed, ok .paired))),
+        omega (arith, ap tiesOf e, ties-few ok .1),
         omega (arith, ap wordsTaken e, taken-few (cardOf bytes) xs (ties times)),
       )
 
@@ -109,8 +101,8 @@ module _ (bytes xs shovels times : List ℕ) (room s k t : ℕ) (answer : record
         let z = state-fits in
         ap length left-is ∙ length-full truck s k t xs lt (f .0) (f .1) (f .2) (omega (arith, z .1)) ∙ ap recordBytes (word-size bytes xs shovels times unrefused)
 
-    pub record-read : readingRecord left ≡ record { refusal = 0; values = fullRecord truck s k t xs }
-    record-read = reading-whole left record-whole ∙ ap {B = RecordReading} (λ (r : Record). record { refusal = 0; values = r }) record-back
+    pub record-read : Whole left × (readingRecord left ≡ record { refusal = 0; values = fullRecord truck s k t xs })
+    record-read = (record-whole, reading-whole left record-whole ∙ ap {B = RecordReading} (λ (r : Record). record { refusal = 0; values = r }) record-back)
 
     -- it stands at the front of the page
     pub page-left : (page : List ℕ) → length page ≡ room → let n = recordBytes (cardOf bytes .words) in let after = recordedPage bytes xs shovels times truck page in

@@ -2,7 +2,7 @@
 -- records over a shift are the server's.
 use mathlib.Core.Path.{_≡_, refl, sym, ap, ap₂, _∙_}
 use mathlib.Core.Bool.{cond}
-use mathlib.Core.List.{List, [], _∷_}
+use mathlib.Core.List.{List, [], _∷_, map}
 use Prim.Native.Nat.{ℕ}
 use native.Mathlib.Decide.{ℕ-discrete}
 use borrow.Author.Tests.{eq-eqb, ne-eqb}
@@ -12,25 +12,13 @@ use Rattle.card_format.specs.Reading.{cardOf}
 use Rattle.ties.specs.Order.{SameShovels}
 use Rattle.records.specs.Fields.{recordBytes}
 use Rattle.picks.specs.declared.Pick.{Pick}
-use Rattle.picks.specs.declared.Pick.the-variants.{Shovel, Refused}
-use Rattle.picks.specs.Picks.{pickRefusal, picking}
-use Rattle.picks.proofs.Picking.{picking-refused, picking-chosen}
-use Rattle.picks.proofs.Choice.{pick-order}
-use Rattle.recorded_picks.specs.Recorded.{recordedRefusal, recordedPicking, recordedState, recordLeft, recordedOn, recordedPage}
-use Rattle.recorded_picks.specs.Shift.{Dispatch, Outcome, answerTo, stateLeft, outcome, outcomes, endState, SameDispatch, AlikeDispatches}
+use Rattle.picks.specs.declared.Pick.the-variants.{Refused}
+use Rattle.picks.specs.Picks.{pickRefusal}
+use Rattle.picks.proofs.Choice.{refusal-reordered, pick-order}
+use Rattle.records.specs.Writing.{recordedOn}
+use Rattle.recorded_picks.specs.Recorded.{recordedRefusal, recordedPicking, recordedState, recordLeft, recordedPage}
+use Rattle.recorded_picks.specs.Shift.{Dispatch, Outcome, answerTo, stateLeft, pageLeft, outcome, outcomes, endState, pagesAfter, SameDispatch, AlikeDispatches}
 use Rattle.recorded_picks.proofs.Recorded.{told-pick, told-room}
-
--- the refusal that an answer tells
-abbrev refusalIn : Pick → ℕ
-refusalIn (Shovel s k t) = 0
-refusalIn (Refused r) = r
-
-refusal-told : (bytes xs shovels times : List ℕ) → refusalIn (picking bytes xs shovels times) ≡ pickRefusal bytes xs shovels times
-refusal-told bytes xs shovels times = go (ℕ-discrete (pickRefusal bytes xs shovels times) 0)
-  where
-    go : Dec (pickRefusal bytes xs shovels times ≡ 0) → refusalIn (picking bytes xs shovels times) ≡ pickRefusal bytes xs shovels times
-    go (yes z) = ap refusalIn (sym (picking-chosen bytes xs shovels times z .0)) ∙ sym z
-    go (no ne) = ap refusalIn (sym (picking-refused bytes xs shovels times _ ne refl .0))
 
 -- a recorded pick's refusal, by the pick's and the room
 refusal-by-pick : (bytes xs shovels times : List ℕ) (room : ℕ) → let r = pickRefusal bytes xs shovels times in
@@ -45,8 +33,8 @@ refusal-by-pick bytes xs shovels times room = go (ℕ-discrete (pickRefusal byte
 module _ (bytes xs shovels times shovels₂ times₂ : List ℕ) (h : SameShovels shovels times shovels₂ times₂) where
   same-refusal : (room : ℕ) → recordedRefusal bytes xs shovels₂ times₂ room ≡ recordedRefusal bytes xs shovels times room
   same-refusal room =
-      let o = pick-order bytes xs shovels times shovels₂ times₂ h in
-      let e = sym (refusal-told bytes xs shovels₂ times₂) ∙ ap refusalIn (o .0) ∙ refusal-told bytes xs shovels times in
+      let e : pickRefusal bytes xs shovels₂ times₂ ≡ pickRefusal bytes xs shovels times =
+      rw (h .numbers, h .durations) (refusal-reordered (h .order) shovels times (h .permutes) bytes xs) in
       refusal-by-pick bytes xs shovels₂ times₂ room ∙ ap (λ (r : ℕ). cond (eqb r 0) (cond (ltb room (recordBytes (cardOf bytes .words))) 16 0) r) e
       ∙ sym (refusal-by-pick bytes xs shovels times room)
 
@@ -64,23 +52,19 @@ module _ (bytes xs shovels times shovels₂ times₂ : List ℕ) (h : SameShovel
 
 -- ---- over a shift
 
-module _ (bytes xs : List ℕ) (d e : Dispatch) (h : SameDispatch d e) where
-  -- by the page, then by the list
-  same-answer : (answerTo bytes xs e ≡ answerTo bytes xs d) × (stateLeft bytes xs e ≡ stateLeft bytes xs d)
-  same-answer =
-      let q = e .request in
-      let o = recorded-order bytes xs (d .request .shovels) (d .request .times) (q .shovels) (q .times) (h .request) (length (d .page)) in (
-        ap (λ (p : List ℕ). recordedPicking bytes xs (q .shovels) (q .times) (length p)) (h .page) ∙ o .0,
-        ap (λ (p : List ℕ). recordedState bytes xs (q .shovels) (q .times) (length p)) (h .page) ∙ o .1,
-      )
+-- by the page's length, then by the list
+same-answer : (bytes xs : List ℕ) (d e : Dispatch) → SameDispatch d e → (answerTo bytes xs e ≡ answerTo bytes xs d) × (stateLeft bytes xs e ≡ stateLeft bytes xs d)
+same-answer bytes xs d e h =
+    let q = e .request in
+    let o = recorded-order bytes xs (d .request .shovels) (d .request .times) (q .shovels) (q .times) (h .request) (length (d .page)) in (
+      ap (recordedPicking bytes xs (q .shovels) (q .times)) (h .room) ∙ o .0,
+      ap (recordedState bytes xs (q .shovels) (q .times)) (h .room) ∙ o .1,
+    )
 
-  same-outcome : outcome bytes xs e ≡ outcome bytes xs d
-  unfolding recordedPage
-  same-outcome i = record {
-    answer = same-answer .0 i;
-    left = recordLeft (h .truck i) xs (same-answer .0 i);
-    page = recordedOn (recordLeft (h .truck i) xs (same-answer .0 i)) (h .page i);
-  }
+same-outcome : (bytes xs : List ℕ) (d e : Dispatch) → SameDispatch d e → outcome bytes xs e ≡ outcome bytes xs d
+same-outcome bytes xs d e h =
+    let a = same-answer bytes xs d e h .0 in
+    λ i. record { answer = a i; left = recordLeft (h .truck i) xs (a i) }
 
 pub standby-records : (bytes xs : List ℕ) (ds es : List Dispatch) → AlikeDispatches ds es
     → (outcomes bytes xs es ≡ outcomes bytes xs ds) × (endState bytes xs es ≡ endState bytes xs ds)
@@ -94,3 +78,19 @@ standby-records bytes xs (d ∷ ds) (e ∷ es) h =
       ap₂ (λ (o : Outcome) (rest : List Outcome). o ∷ rest) (same-outcome bytes xs d e (h .0)) (ap (λ (ys : List ℕ). outcomes bytes ys es) s ∙ ih .0),
       ap (λ (ys : List ℕ). endState bytes ys es) s ∙ ih .1,
     )
+
+-- the pages after a shift have these records at their fronts
+withRecords : List Outcome → List (List ℕ) → List (List ℕ)
+withRecords [] pages = []
+withRecords (o ∷ os) [] = []
+withRecords (o ∷ os) (p ∷ pages) = recordedOn (o .left) p ∷ withRecords os pages
+
+pages-recorded : (bytes xs : List ℕ) (ds : List Dispatch) → pagesAfter bytes xs ds ≡ withRecords (outcomes bytes xs ds) (map (λ (d : Dispatch). d .page) ds)
+unfolding pagesAfter withRecords outcomes recordedPage
+pages-recorded bytes xs [] = refl
+pages-recorded bytes xs (d ∷ ds) = ap (λ (rest : List (List ℕ)). pageLeft bytes xs d ∷ rest) (pages-recorded bytes (stateLeft bytes xs d) ds)
+
+pub standby-pages : (bytes xs : List ℕ) (ds es : List Dispatch) → AlikeDispatches ds es → let page = λ (d : Dispatch). d .page in
+    map page es ≡ map page ds → pagesAfter bytes xs es ≡ pagesAfter bytes xs ds
+standby-pages bytes xs ds es h e =
+    pages-recorded bytes xs es ∙ ap₂ withRecords (standby-records bytes xs ds es h .0) e ∙ sym (pages-recorded bytes xs ds)

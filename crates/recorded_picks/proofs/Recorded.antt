@@ -20,7 +20,8 @@ use Rattle.picks.specs.declared.Pick.the-variants.{Refused}
 use Rattle.picks.specs.Picks.{pickChecks, pickRefusal, picking, picked}
 use Rattle.picks.proofs.Picking.{pick-passed, picking-refused}
 use Rattle.records.specs.Fields.{recordBytes}
-use Rattle.recorded_picks.specs.Recorded.{recordedRefusal, recordedPicking, recordedState, recordLeft, recordedOn, recordedPage}
+use Rattle.records.specs.Writing.{recordedOn}
+use Rattle.recorded_picks.specs.Recorded.{recordedRefusal, recordedPicking, recordedState, recordLeft, recordedPage}
 
 -- a state of a pick that is not refused has the card's size
 module _ (bytes xs shovels times : List ℕ) where

@@ -3,11 +3,11 @@ use mathlib.Core.Bool.{cond}
 use mathlib.Core.List.{List, [], _∷_, _++_}
 use Prim.Native.Nat.{ℕ, _<_}
 use lib.Dec.{eqb, ltb}
-use lib.ListN.{length, getD, drop}
+use lib.ListN.{length, getD}
 use Rattle.refusals.specs.Refusals.{Check, check, firstOf, bufferTooSmall}
 use Rattle.card_format.specs.Reading.{cardOf}
 use Rattle.records.specs.Fields.{recordBytes}
-use Rattle.records.specs.Writing.{encoded, fullRecord}
+use Rattle.records.specs.Writing.{encoded, recordedOn, fullRecord}
 use Rattle.picks.specs.declared.Pick.{Pick}
 use Rattle.picks.specs.declared.Pick.the-variants.{Shovel, Refused}
 use Rattle.picks.specs.Picks.{pickChecks, picking, picked}
@@ -20,10 +20,6 @@ Halves xs = (i : ℕ) → i < length xs → getD xs i 0 < 65536
 abbrev pub recordLeft : ℕ → List ℕ → Pick → List ℕ
 recordLeft truck xs (Shovel s k t) = cond (eqb k 1) [] (encoded (fullRecord truck s k t xs))
 recordLeft truck xs (Refused r) = []
-
--- a page with a record at its front: bytes past it are as they were
-abbrev pub recordedOn : List ℕ → List ℕ → List ℕ
-recordedOn left page = left ++ drop (length left) page
 
 module _ (bytes xs shovels times : List ℕ) (room : ℕ) where
   -- what it looks at: what a pick does, then 16, tie or not

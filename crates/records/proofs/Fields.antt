@@ -11,10 +11,10 @@ use lib.ListN.{length, getD}
 use Rattle.cycle.specs.Notation.{sum, bit}
 use Rattle.cycle.proofs.Sum.{sum-split}
 use Rattle.cycle.proofs.Digits.{length-tabulate}
-use Rattle.card_format.specs.Fields.{extent, numbers, allowed}
+use Rattle.card_format.specs.Fields.{numbers, allowed}
 use Rattle.card_format.specs.Reading.{present}
 use Rattle.card_format.proofs.Bytes.{length-cond}
-use Rattle.records.specs.Fields.{recordFields, recordField, recordFieldCount, bitCount, bitOf, startOf, numbersAt, wordCountOf, recordNumbers}
+use Rattle.records.specs.Fields.{recordFields, recordField, recordFieldCount, bitCount, bitOf, extentAt, startOf, numbersAt, wordCountOf, recordNumbers}
 use Rattle.records.specs.Reading.{isWhole, Whole}
 
 -- what holds of the six
@@ -33,10 +33,7 @@ bit-below = each-field (λ k. bitOf k < bitCount) (lit< tt) (lit< tt) (lit< tt) 
 -- ---- places
 
 module _ (c : ℕ) (bytes : List ℕ) where
-  abbrev taken : ℕ → ℕ
-  taken j = cond (present bytes (bitOf j)) (extent (recordField c j)) 0
-
-  pub start-suc : (k : ℕ) → startOf c bytes (suc k) ≡ startOf c bytes k + cond (present bytes (bitOf k)) (extent (recordField c k)) 0
+  pub start-suc : (k : ℕ) → startOf c bytes (suc k) ≡ startOf c bytes k + extentAt c bytes k
   unfolding startOf sum
   start-suc k = sym (add-assoc 1 _ _)
 
@@ -44,7 +41,7 @@ module _ (c : ℕ) (bytes : List ℕ) where
   unfolding startOf
   start-before k n h =
       let e : k + (n - k) ≡ n = omega arith in
-      omega (arith, ap (λ (m : ℕ). sum m taken) e, sum-split k (n - k) taken)
+      omega (arith, ap (λ (m : ℕ). sum m (extentAt c bytes)) e, sum-split k (n - k) (extentAt c bytes))
 
   -- how many numbers a field holds
   pub length-numbersAt : (k : ℕ) → length (numbersAt c bytes k) ≡ cond (present bytes (bitOf k)) (recordField c k .count) 0

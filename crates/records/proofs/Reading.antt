@@ -1,6 +1,7 @@
 -- A whole record written again is the same bytes, so that no two have the same fields.
 use mathlib.Core.Path.{_≡_, refl, sym, ap, ap₂, _∙_}
-use mathlib.Core.Bool.{Bool, true, false, cond, not}
+use mathlib.Core.Logic.{_↔_}
+use mathlib.Core.Bool.{Bool, true, false, cond, not, true≢false}
 use mathlib.Core.List.{List, [], _∷_, _++_}
 use Prim.Native.Nat.{ℕ, zero, suc, _+_, _^_, _≤_, _<_}
 use native.Mathlib.Nat.{le-of-eq, le-refl}
@@ -16,7 +17,9 @@ use Rattle.card_format.proofs.Fields.{allowed-at}
 use Rattle.card_format.specs.Reading.{present}
 use Rattle.card_format.proofs.Lists.{take-filled}
 use Rattle.card_format.proofs.Bytes.{cond-le, length-one, byte-lt, bytesOf-numbers, map-bit}
-use Rattle.records.specs.Fields.{recordFields, recordField, recordFieldCount, bitCount, bitOf, startOf, numbersAt, wordCountOf, recordNumbers, recordBytes}
+use Rattle.records.specs.declared.Optional.{Optional}
+use Rattle.records.specs.declared.Optional.the-variants.{Absent, Value}
+use Rattle.records.specs.Fields.{recordFields, recordField, recordFieldCount, bitCount, bitOf, extentAt, startOf, numbersAt, wordCountOf, recordNumbers, recordBytes}
 use Rattle.records.specs.Reading.{isWhole, Whole, optional, recordOf, noRecord, readingRecord}
 use Rattle.records.specs.Writing.{given, wordCount, numbersOf, isGiven, fieldBytes, encodedTo, encoded}
 use Rattle.records.proofs.Fields.{each-field, bit-below, start-suc, start-before, length-numbersAt, Form, whole-form, always, count-number}
@@ -26,10 +29,6 @@ given-optional : (xs : List ℕ) → length xs ≤ 1 → given (optional xs) ≡
 given-optional [] h = refl
 given-optional (x ∷ []) h = refl
 given-optional (x ∷ y ∷ xs) h = absurd (omega arith)
-
-cond-one : (b : Bool) → cond b 1 0 ≤ 1
-cond-one true = le-refl 1
-cond-one false = omega arith
 
 -- numbers that stand, or none
 stands : (b : Bool) (xs : List ℕ) → length xs ≡ cond b 1 0 → not (same xs []) ≡ b
@@ -48,7 +47,7 @@ module _ (bytes : List ℕ) (f : Form bytes) where
   single k one here = length-one _ (length-numbersAt c bytes k ∙ ap₂ (λ (b : Bool) (n : ℕ). cond b n 0) here one)
 
   maybe : (k : ℕ) → recordField c k .count ≡ 1 → given (optional (recordNumbers bytes k)) ≡ recordNumbers bytes k
-  maybe k one = given-optional _ (rw (length-numbersAt c bytes k, one) (cond-one (present bytes (bitOf k))))
+  maybe k one = given-optional _ (rw (length-numbersAt c bytes k, one) (cond-le (present bytes (bitOf k)) 1))
 
   words-given : given (optional (recordNumbers bytes 4)) ≡ recordNumbers bytes 4
   unfolding recordField recordFields
@@ -85,7 +84,7 @@ module _ (bytes : List ℕ) (f : Form bytes) where
       one k e = stands (present bytes (bitOf k)) _ (length-numbersAt c bytes k ∙ ap (λ (n : ℕ). cond (present bytes (bitOf k)) n 0) e)
 
   bytes-same : Bytes bytes → (k : ℕ) → k < recordFieldCount
-      → fieldBytes (recordOf bytes) k ≡ take (cond (present bytes (bitOf k)) (extent (recordField c k)) 0) (drop (startOf c bytes k) bytes)
+      → fieldBytes (recordOf bytes) k ≡ take (extentAt c bytes k) (drop (startOf c bytes k) bytes)
   unfolding fieldBytes numbersAt
   bytes-same b k l = rw (given-same (bitOf k) (bit-below k l), numbers-same k l, count-given) (go (present bytes (bitOf k)) refl)
     where
@@ -148,6 +147,25 @@ unfolding startOf sum recordField recordFields
 whole-short bytes w =
     let f = whole-form bytes w in
     let c = wordCountOf bytes in
-    let longest = sum-mono recordFieldCount (λ j. cond (present bytes (bitOf j)) (extent (recordField c j)) 0) (λ j. extent (recordField c j))
-    (λ j l. cond-le (present bytes (bitOf j)) (extent (recordField c j))) in
+    let longest = sum-mono recordFieldCount (extentAt c bytes) (λ j. extent (recordField c j)) (λ j l. cond-le (present bytes (bitOf j)) (extent (recordField c j))) in
     omega (arith, f .ends, longest, count-few bytes f)
+
+-- ---- what lacks is absent, and nothing else is
+
+abbrev isValue : Optional → Bool
+isValue Absent = false
+isValue (Value x) = true
+
+absent-exactly : (b : Bool) (xs : List ℕ) → length xs ≡ cond b 1 0 → (optional xs ≡ Absent) ↔ (b ≡ false)
+absent-exactly true [] e = absurd (omega arith)
+absent-exactly true (x ∷ xs) e = (λ q. absurd (true≢false (ap isValue q)), λ q. absurd (true≢false q))
+absent-exactly false [] e = (λ q. refl, λ q. refl)
+absent-exactly false (x ∷ xs) e = absurd (omega arith)
+
+pub read-absent : (bytes : List ℕ) → Whole bytes → let r = readingRecord bytes .values in
+    ((r .ties ≡ Absent) ↔ (present bytes 2 ≡ false)) × ((r .taken ≡ Absent) ↔ (present bytes 3 ≡ false)) × ((r .words ≡ Absent) ↔ (present bytes 4 ≡ false))
+unfolding recordOf recordField recordFields
+read-absent bytes w =
+    let c = wordCountOf bytes in
+    rw (reading-whole bytes w)
+    (absent-exactly _ _ (length-numbersAt c bytes 2), absent-exactly _ _ (length-numbersAt c bytes 3), absent-exactly _ _ (length-numbersAt c bytes 4))

@@ -38,9 +38,13 @@ recordField c k = getD (recordFields c) k (row 0 0 0 0 [])
 abbrev pub bitOf : ℕ → ℕ
 bitOf k = getD (0 ∷ 1 ∷ 2 ∷ 3 ∷ 4 ∷ 4 ∷ []) k 0
 
+-- the bytes that field k takes: none where it lacks
+abbrev pub extentAt : ℕ → List ℕ → ℕ → ℕ
+extentAt c bytes k = cond (present bytes (bitOf k)) (extent (recordField c k)) 0
+
 -- where field k starts: after the map and the given fields before it
 unfoldable pub startOf : ℕ → List ℕ → ℕ → ℕ
-startOf c bytes k = 1 + sum k (λ j. cond (present bytes (bitOf j)) (extent (recordField c j)) 0)
+startOf c bytes k = 1 + sum k (extentAt c bytes)
 
 -- the numbers of field k; none where it lacks
 unfoldable pub numbersAt : ℕ → List ℕ → ℕ → List ℕ

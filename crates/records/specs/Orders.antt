@@ -22,7 +22,7 @@ abbrev pub heard : ℕ → Bool → ℕ → ℕ → Order
 heard cab whole truck shovel =
     cond whole (cond (eqb cab truck) (Shovel shovel) (Refused (truckMismatch .number))) (Refused (malformedRecord .number))
 
--- two whole records with the same truck and shovel: all that a cab can tell them apart by
+-- two whole records with the same truck and shovel: alike in all that a cab can tell records apart by
 pub record SameOrder (a b : List ℕ) : Type 0 where
   pub wholeA : Whole a
   pub wholeB : Whole b

@@ -3,7 +3,7 @@ use mathlib.Core.Path.{_≡_}
 use mathlib.Core.Bool.{Bool, true, cond, not}
 use mathlib.Core.List.{List, [], _∷_, _++_}
 use Prim.Native.Nat.{ℕ, zero, suc, _^_}
-use lib.ListN.{length, getD, take}
+use lib.ListN.{length, getD, take, drop}
 use Rattle.cycle.specs.Notation.{sum, every}
 use Rattle.card_format.specs.Fields.{bytesOf, allowed, same}
 use Rattle.records.specs.declared.Optional.{Optional}
@@ -43,6 +43,10 @@ encodedTo r (suc k) = encodedTo r k ++ fieldBytes r k
 
 abbrev pub encoded : Record → List ℕ
 encoded r = encodedTo r recordFieldCount
+
+-- a page with a record at its front: bytes past it are as they were
+abbrev pub recordedOn : List ℕ → List ℕ → List ℕ
+recordedOn left page = left ++ drop (length left) page
 
 -- fields that a record can hold: each number has room, the count is allowed, and the state has no words past it
 pub record Fits (r : Record) : Type 0 where

@@ -30,28 +30,28 @@ fn replay_bytes(line: &[u8], call: Call, bytes: &[u8], n: usize) {
     if bytes.len() <= n {
         return answer::print_syntax();
     }
-    let card = &bytes[0..n];
+    let given = &bytes[0..n];
     match call {
-        Call::Check => cards::replay_check(line, card),
-        Call::Read => cards::replay_read(line, card),
-        Call::Step => states::replay_moved(line, Move::Step, card),
-        Call::Back => states::replay_moved(line, Move::Back, card),
-        Call::Draw => states::replay_moved(line, Move::Draw, card),
-        Call::Words => states::replay_words(line, card),
-        Call::Strip => strips::replay_strip(line, card),
-        Call::Pick => states::replay_asked(line, Ask::Pick, card),
-        Call::Margin => states::replay_asked(line, Ask::Margin, card),
-        Call::Recorded => states::replay_recorded(line, card),
-        Call::Desk => lines::replay_desk(line, card),
-        Call::Cab => lines::replay_cab(line, card),
+        Call::Check => cards::replay_check(line, given),
+        Call::Read => cards::replay_read(line, given),
+        Call::Step => states::replay_moved(line, Move::Step, given),
+        Call::Back => states::replay_moved(line, Move::Back, given),
+        Call::Draw => states::replay_moved(line, Move::Draw, given),
+        Call::Words => states::replay_words(line, given),
+        Call::Strip => strips::replay_strip(line, given),
+        Call::Pick => states::replay_asked(line, Ask::Pick, given),
+        Call::Margin => states::replay_asked(line, Ask::Margin, given),
+        Call::Recorded => states::replay_recorded(line, given),
+        Call::Desk => lines::replay_desk(line, given),
+        Call::Cab => lines::replay_cab(line, given),
     }
 }
 
 // A call on the bytes in field k.
 fn replay_on(line: &[u8], call: Call, k: usize) {
-    let card = list::bytes_of(line::field(line, k));
-    let bytes = card.bytes;
-    replay_bytes(line, call, &bytes, card.count);
+    let found = list::bytes_of(line::field(line, k));
+    let bytes = found.bytes;
+    replay_bytes(line, call, &bytes, found.count);
 }
 
 // A call on the card or the record in field 1.

@@ -1,6 +1,7 @@
 // The calls for C and whatever can call C (include/tiedraw.h): thin, under their plain names. A slice is a pointer and a length there.
 ghost use mathlib.Core.Path.{_≡_};
-ghost use Prim.Native.Nat.{_^_, _<_};
+ghost use mathlib.Core.List.{List};
+ghost use Prim.Native.Nat.{ℕ, _^_, _<_};
 ghost use lib.ListN.{length};
 ghost use Rattle.tsc.specs.Coverage.{IsState, stepBack};
 ghost use Rattle.card_format.specs.Reading.{cardOf};
@@ -10,6 +11,7 @@ ghost use Rattle.fills.specs.Fills.{fillRefusal, filled, filledState};
 ghost use Rattle.picks.specs.Picks.{picking, picked};
 ghost use Rattle.c_answers.specs.Answers.{drawn, choice, IsMarginAnswer, readCard, given, writtenFrom, pageFrom};
 ghost use Rattle.c_answers.specs.Records.{readRecord, toldTo};
+ghost use Rattle.records.specs.Orders.{SameOrder};
 ghost use Rattle.recorded_picks.specs.Recorded.{recordedPicking, recordedState, recordedPage};
 ghost use Rattle.version.specs.Version.{versionNumber};
 use c_answers::CardReading;
@@ -141,10 +143,11 @@ pub extern "C" fn tiedraw_read_record(bytes: &[u8]) -> RecordAnswer
     recorded::record_of(record::read::read_record(bytes))
 }
 
-// The shovel of a record, for the cab of a truck, or refusal 20 or 21.
+// The shovel of a record, for the cab of a truck, or refusal 20 or 21. THE CAB LEARNS NOTHING ELSE, as of record::order.
 #[no_mangle]
 pub extern "C" fn tiedraw_order(truck: u16, bytes: &[u8]) -> OrderAnswer
-    ensures { λ r. ⌜ r ≡ toldTo truck (now (bytes .entry)) ⌝ }
+    ensures answer { λ r. ⌜ r ≡ toldTo truck (now (bytes .entry)) ⌝ }
+    ensures alone { λ r. ⌜ ((other : List ℕ) → SameOrder (now (bytes .entry)) other → r ≡ toldTo truck other) ⌝ }
 {
     recorded::order_of(order::order_for(truck, bytes))
 }

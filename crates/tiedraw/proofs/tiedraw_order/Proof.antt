@@ -11,7 +11,10 @@ order-of-requires : tie.Need-order-of-requires
 order-of-requires c κs = search needs
 
 returns : tie.Need-returns
-returns c = c .order-of .ensures ∙ ap orderAnswer (c .before .order-for .ensures .0)
+returns c =
+    let e = c .order-of .ensures in
+    let told = c .before .order-for .ensures in
+    (e ∙ ap orderAnswer (told .0), λ other h. e ∙ ap orderAnswer (told .1 other h))
 
 pub tiedraw-order-spec : {M : Type 1} → statement M
 tiedraw-order-spec = tie.close (tie.spec order-for-requires order-of-requires returns)

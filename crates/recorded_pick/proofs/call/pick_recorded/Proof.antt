@@ -8,7 +8,8 @@ use Rattle.tsc.specs.declared.State.{State}
 use Rattle.tsc.specs.Constants.{mostWords}
 use Rattle.card_format.proofs.Lists.{take-filled}
 use Rattle.records.specs.Fields.{recordBytes}
-use Rattle.recorded_picks.specs.Recorded.{recordLeft, recordedOn}
+use Rattle.records.specs.Writing.{recordedOn}
+use Rattle.recorded_picks.specs.Recorded.{recordLeft}
 use Rattle.recorded_picks.proofs.Recorded.{told-pick, told-small, word-few, call-refused, call-made}
 use Rattle.recorded_pick.proofs.Page.{has-room, no-room}
 use Rattle.recorded_pick.proofs.call.pick_recorded.Statement.{statement}

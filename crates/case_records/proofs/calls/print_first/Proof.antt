@@ -4,8 +4,8 @@ use Prim.Native.Nat.{_-_, _≤_}
 use lib.ListN.{length}
 use native.Mathlib.Omega.{arith}
 use Rattle.tsc.specs.Constants.{mostWords}
-use Rattle.case_records.proofs.calls.print_words.Statement.{statement}
-use Rattle.case_records.proofs.calls.print_words.Tie as tie
+use Rattle.case_records.proofs.calls.print_first.Statement.{statement}
+use Rattle.case_records.proofs.calls.print_first.Tie as tie
 
 abbrev Inv-loop : tie.InvT-loop
 Inv-loop m state k₀ k = (k ≤ mostWords) × (length (state .words) ≡ mostWords)
@@ -37,8 +37,8 @@ loop-again c = (omega arith, c .before .before .loop .inv .1)
 returns : tie.Need-returns Inv-loop μ-loop
 returns c = tt
 
-pub print-words-spec : {M : Type 1} → statement M
-print-words-spec =
+pub print-first-spec : {M : Type 1} → statement M
+print-first-spec =
     tie.close
     (tie.spec
     Inv-loop
