@@ -12,8 +12,8 @@
  *
  * Given that, whatever bytes and numbers are handed over, a call returns with an answer, or with the refusal number
  * of the first check that applies. A card's fields are checked in turn, each by 1, 2, 3, and 4 at the table's place;
- * then come 5 to 21 in order, but that a recorded pick tells 16 after 18. A refusal changes nothing: state, strip and page are as they were lent, and the other
- * fields of the answer are 0.
+ * then come 5 to 21 in order, but that a recorded pick tells 16 after 18. A refusal changes nothing: state, strip and
+ * page are as they were lent, and the other fields of the answer are 0.
  *
  * Calls keep nothing, allocate nothing and use no global data, so that any number of threads may call at once, each
  * on a state of its own. The library needs memcpy and memset of the C library, and nothing else. It is compiled for
@@ -113,8 +113,8 @@ typedef struct {
 } tiedraw_margin_answer;
 typedef struct { size_t length; uint8_t refusal; } tiedraw_written;
 
-/* The fields of a record. A field may lack where it has a flag: that is 1 where it is given, and where it is 0 the
-   field's number says nothing. `state` has as many words as `words` says, and zeros past them. */
+/* The fields of a record. A field may lack where it has a flag: that is 1 where it is given. Where it is 0, so is the
+   number beside it, which then says nothing. `state` has as many words as `words` says, and zeros past them. */
 typedef struct tiedraw_record {
     uint32_t state[TIEDRAW_MOST_WORDS];
     uint16_t truck, shovel;
@@ -173,7 +173,7 @@ tiedraw_choice tiedraw_pick_recorded(const uint8_t *card, size_t card_len, uint3
 tiedraw_record_reading tiedraw_read_record(const uint8_t *record, size_t record_len);
 
 /* The shovel of a record, alone, for the cab of a truck; or refusal 20, or 21 where the record is of another truck.
-   Proved: from two records of the same truck and shovel every cab hears the same, whatever else they hold. */
+   Proved: from two whole records of the same truck and shovel every cab hears the same, whatever else they hold. */
 tiedraw_order_answer tiedraw_order(uint16_t truck, const uint8_t *record, size_t record_len);
 
 /* How near the pick was: the smallest change of one shovel's time that would send the truck elsewhere from this state,

@@ -110,7 +110,18 @@ static uint16_t pick_again(const tiedraw_record *record, const uint16_t *shovels
     travel_times(times, shovels, record->truck);
     tiedraw_choice again = tiedraw_pick(card, sizeof card, state, WORDS, shovels, SHOVELS, times, SHOVELS);
     stop_unless(again.refusal == 0 && again.shovel == record->shovel, "the pick made again is another");
+    stop_unless(again.ties == record->ties && again.taken == record->taken, "the pick made again is another");
     return again.shovel;
+}
+
+/* The desk reads the shift's records and makes each pick again; and a record of another pit, which lacks some fields. */
+static void look_into(uint8_t records[][RECORD_BYTES], int count, const uint16_t *shovels) {
+    for (int i = 0; i < count; i++) {
+        tiedraw_record record = read_at_desk(records[i], RECORD_BYTES);
+        printf("the desk: picked again, shovel %u\n", pick_again(&record, shovels));
+    }
+    const uint8_t of_another_pit[] = {0x03, 9, 0, 12, 0};
+    read_at_desk(of_another_pit, sizeof of_another_pit);
 }
 
 /* The library is the one that this was compiled for; the card is accepted, and written again it is the same bytes. */
@@ -194,12 +205,7 @@ int main(void) {
         }
         words += choice.taken;
     }
-    for (int i = 0; i < ties; i++) {
-        tiedraw_record record = read_at_desk(records[i], RECORD_BYTES);
-        printf("the desk: picked again, shovel %u\n", pick_again(&record, standby.shovels));
-    }
-    const uint8_t of_another_pit[] = {0x03, 9, 0, 12, 0};
-    read_at_desk(of_another_pit, sizeof of_another_pit);
+    look_into(records, ties, standby.shovels);
 
     for (int i = 0; i < words; i++)
         stop_unless(tiedraw_step_back(card, sizeof card, server.state, WORDS) == 0, "a step back was refused");

@@ -3,7 +3,7 @@
 use mathlib.Core.Path.{_≡_}
 use mathlib.Core.Logic.{_↔_, _≢_}
 use mathlib.Core.Bool.{true, false}
-use mathlib.Core.List.{List, [], _∷_, _++_, map}
+use mathlib.Core.List.{List, [], _∷_, _++_}
 use Prim.Native.Nat.{ℕ, suc, _+_, _-_, _*_, _/_, _%_, _^_, _≤_, _<_}
 use lib.Dec.{eqb}
 use lib.ListN.{length, getD, take, drop}
@@ -50,7 +50,7 @@ use Rattle.records.specs.Reading.{isWhole, Whole, recordChecks, recordOf, noRec
 use Rattle.records.specs.Writing.{stateOf, encoded, Fits, fullRecord, recordedOn}
 use Rattle.records.specs.Orders.{orderChecks, orderFor, heard, SameOrder}
 use Rattle.recorded_picks.specs.Recorded.{Halves, recordedChecks, recordedPicking, recordedState, recordLeft, recordedPage}
-use Rattle.recorded_picks.specs.Shift.{Dispatch, outcomes, endState, pagesAfter, AlikeDispatches}
+use Rattle.recorded_picks.specs.Shift.{Dispatch, pagesLent, outcomes, endState, pagesAfter, AlikeDispatches}
 
 -- ---- demand 1: whatever card, state, page or shovel list is handed over, the call ends with an answer or the paper's refusal number, and a refusal leaves
 -- state and page as lent. (That every call ends is part of its proof.)
@@ -284,8 +284,8 @@ pub record CabAndDesk : Type 0 where
       × (recordedPage bytes xs shovels₂ times₂ truck page ≡ recordedPage bytes xs shovels times truck page)
   pub shift : (bytes xs : List ℕ) (dispatches dispatches₂ : List Dispatch) → AlikeDispatches dispatches dispatches₂
       → (outcomes bytes xs dispatches₂ ≡ outcomes bytes xs dispatches) × (endState bytes xs dispatches₂ ≡ endState bytes xs dispatches)
-  pub pages : (bytes xs : List ℕ) (dispatches dispatches₂ : List Dispatch) → AlikeDispatches dispatches dispatches₂ → let page = λ (d : Dispatch). d .page in
-      map page dispatches₂ ≡ map page dispatches → pagesAfter bytes xs dispatches₂ ≡ pagesAfter bytes xs dispatches
+  pub pages : (bytes xs : List ℕ) (dispatches dispatches₂ : List Dispatch) → AlikeDispatches dispatches dispatches₂
+      → pagesLent dispatches₂ ≡ pagesLent dispatches → pagesAfter bytes xs dispatches₂ ≡ pagesAfter bytes xs dispatches
   -- no record is longer than 40 bytes, and one is as long; the same fields, given and lacking, are the same bytes; and all fields that fit have a record
   pub short : (bytes : List ℕ) → Whole bytes → length bytes ≤ 40
   pub reached : (bytes : List ℕ) × Whole bytes × (length bytes ≡ 40)

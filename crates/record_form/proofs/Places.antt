@@ -22,13 +22,13 @@ use Rattle.records.proofs.Fields.{start-suc, Form, whole-form, always}
 
 -- ---- numbers by their bytes
 
-pub numbers-byte : (f : Field) (part : List ℕ) → f .count ≡ 1 → f .size ≡ 1 → numbers f part ≡ getD part 0 0 ∷ []
+numbers-byte : (f : Field) (part : List ℕ) → f .count ≡ 1 → f .size ≡ 1 → numbers f part ≡ getD part 0 0 ∷ []
 unfolding sum
 numbers-byte f part one s =
     let e : lowFirst 1 part ≡ getD part 0 0 = omega arith in
     numbers-one f part one ∙ ap (λ (s : ℕ). lowFirst s part ∷ []) s ∙ ap (λ (x : ℕ). x ∷ []) e
 
-pub numbers-half : (f : Field) (part : List ℕ) → f .count ≡ 1 → f .size ≡ 2 → numbers f part ≡ (getD part 0 0 + getD part 1 0 * 256) ∷ []
+numbers-half : (f : Field) (part : List ℕ) → f .count ≡ 1 → f .size ≡ 2 → numbers f part ≡ (getD part 0 0 + getD part 1 0 * 256) ∷ []
 unfolding sum
 numbers-half f part one s =
     let e : lowFirst 2 part ≡ getD part 0 0 + getD part 1 0 * 256 = omega arith in
@@ -44,7 +44,7 @@ module _ (bytes : List ℕ) where
   abbrev map : ℕ
   map = getD bytes 0 0
 
-  abbrev pub takenAt : ℕ
+  abbrev takenAt : ℕ
   takenAt = 5 + bit 2 map
 
   abbrev pub stateAt : ℕ
@@ -54,24 +54,24 @@ module _ (bytes : List ℕ) where
   flag-at k x = flagged (bit k map) x (bit-lt k map)
 
   module _ (low : map % 4 ≡ 3) (c : ℕ) where
-    pub start-shovel : startOf c bytes 1 ≡ 3
+    start-shovel : startOf c bytes 1 ≡ 3
     unfolding startOf sum recordField recordFields
     start-shovel = rw (always bytes low .0) refl
 
-    pub start-ties : startOf c bytes 2 ≡ 5
+    start-ties : startOf c bytes 2 ≡ 5
     unfolding startOf sum recordField recordFields
     start-ties = rw (always bytes low .0, always bytes low .1) refl
 
-    pub start-taken : startOf c bytes 3 ≡ takenAt
+    start-taken : startOf c bytes 3 ≡ takenAt
     unfolding startOf sum recordField recordFields
     start-taken = rw (always bytes low .0, always bytes low .1) (omega (arith, flag-at 2 1))
 
-    pub start-state : startOf c bytes 4 ≡ stateAt
+    start-state : startOf c bytes 4 ≡ stateAt
     unfolding startOf sum recordField recordFields
     start-state = rw (always bytes low .0, always bytes low .1) (omega (arith, flag-at 2 1, flag-at 3 1))
 
     -- the end, without a state and with one
-    pub end-none : bit 4 map ≡ 0 → startOf c bytes recordFieldCount ≡ stateAt
+    end-none : bit 4 map ≡ 0 → startOf c bytes recordFieldCount ≡ stateAt
     unfolding startOf sum recordField recordFields
     end-none z = rw (always bytes low .0, always bytes low .1, ap (λ (d : ℕ). eqb d 1) z) (omega (arith, flag-at 2 1, flag-at 3 1))
 
@@ -79,7 +79,7 @@ module _ (bytes : List ℕ) where
     unfolding recordField recordFields
     start-words o = start-suc c bytes 4 ∙ ap₂ (λ (x y : ℕ). x + y) start-state (ap (λ (d : ℕ). cond (eqb d 1) 1 0) o)
 
-    pub end-state : bit 4 map ≡ 1 → startOf c bytes recordFieldCount ≡ stateAt + 1 + 4 * c
+    end-state : bit 4 map ≡ 1 → startOf c bytes recordFieldCount ≡ stateAt + 1 + 4 * c
     unfolding startOf sum recordField recordFields
     end-state o = rw (always bytes low .0, always bytes low .1, ap (λ (d : ℕ). eqb d 1) o) (omega (arith, flag-at 2 1, flag-at 3 1))
 

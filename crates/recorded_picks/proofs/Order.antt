@@ -2,7 +2,7 @@
 -- records over a shift are the server's.
 use mathlib.Core.Path.{_≡_, refl, sym, ap, ap₂, _∙_}
 use mathlib.Core.Bool.{cond}
-use mathlib.Core.List.{List, [], _∷_, map}
+use mathlib.Core.List.{List, [], _∷_}
 use Prim.Native.Nat.{ℕ}
 use native.Mathlib.Decide.{ℕ-discrete}
 use borrow.Author.Tests.{eq-eqb, ne-eqb}
@@ -17,7 +17,7 @@ use Rattle.picks.specs.Picks.{pickRefusal}
 use Rattle.picks.proofs.Choice.{refusal-reordered, pick-order}
 use Rattle.records.specs.Writing.{recordedOn}
 use Rattle.recorded_picks.specs.Recorded.{recordedRefusal, recordedPicking, recordedState, recordLeft, recordedPage}
-use Rattle.recorded_picks.specs.Shift.{Dispatch, Outcome, answerTo, stateLeft, pageLeft, outcome, outcomes, endState, pagesAfter, SameDispatch, AlikeDispatches}
+use Rattle.recorded_picks.specs.Shift.{Dispatch, pagesLent, Outcome, answerTo, stateLeft, pageLeft, outcome, outcomes, endState, pagesAfter, SameDispatch, AlikeDispatches}
 use Rattle.recorded_picks.proofs.Recorded.{told-pick, told-room}
 
 -- a recorded pick's refusal, by the pick's and the room
@@ -85,12 +85,12 @@ withRecords [] pages = []
 withRecords (o ∷ os) [] = []
 withRecords (o ∷ os) (p ∷ pages) = recordedOn (o .left) p ∷ withRecords os pages
 
-pages-recorded : (bytes xs : List ℕ) (ds : List Dispatch) → pagesAfter bytes xs ds ≡ withRecords (outcomes bytes xs ds) (map (λ (d : Dispatch). d .page) ds)
+pages-recorded : (bytes xs : List ℕ) (ds : List Dispatch) → pagesAfter bytes xs ds ≡ withRecords (outcomes bytes xs ds) (pagesLent ds)
 unfolding pagesAfter withRecords outcomes recordedPage
 pages-recorded bytes xs [] = refl
 pages-recorded bytes xs (d ∷ ds) = ap (λ (rest : List (List ℕ)). pageLeft bytes xs d ∷ rest) (pages-recorded bytes (stateLeft bytes xs d) ds)
 
-pub standby-pages : (bytes xs : List ℕ) (ds es : List Dispatch) → AlikeDispatches ds es → let page = λ (d : Dispatch). d .page in
-    map page es ≡ map page ds → pagesAfter bytes xs es ≡ pagesAfter bytes xs ds
+pub standby-pages : (bytes xs : List ℕ) (ds es : List Dispatch) → AlikeDispatches ds es → pagesLent es ≡ pagesLent ds
+    → pagesAfter bytes xs es ≡ pagesAfter bytes xs ds
 standby-pages bytes xs ds es h e =
     pages-recorded bytes xs es ∙ ap₂ withRecords (standby-records bytes xs ds es h .0) e ∙ sym (pages-recorded bytes xs ds)

@@ -1,6 +1,6 @@
 -- Recorded picks one after the other, as over a shift: each begins with the state that the one before it left.
 use mathlib.Core.Path.{_≡_}
-use mathlib.Core.List.{List, [], _∷_}
+use mathlib.Core.List.{List, [], _∷_, map}
 use Prim.Native.Nat.{ℕ}
 use lib.ListN.{length}
 use Rattle.ties.specs.Order.{SameShovels}
@@ -13,6 +13,9 @@ pub record Dispatch : Type 0 where
   pub truck : ℕ
   pub request : Request
   pub page : List ℕ
+
+abbrev pub pagesLent : List Dispatch → List (List ℕ)
+pagesLent ds = map (λ (d : Dispatch). d .page) ds
 
 -- what it comes to from a state: the answer and the record, empty where none is left
 pub record Outcome : Type 0 where

@@ -167,5 +167,8 @@ pub read-absent : (bytes : List ℕ) → Whole bytes → let r = readingRecord b
 unfolding recordOf recordField recordFields
 read-absent bytes w =
     let c = wordCountOf bytes in
-    rw (reading-whole bytes w)
-    (absent-exactly _ _ (length-numbersAt c bytes 2), absent-exactly _ _ (length-numbersAt c bytes 3), absent-exactly _ _ (length-numbersAt c bytes 4))
+    rw (reading-whole bytes w) (
+      absent-exactly (present bytes 2) (recordNumbers bytes 2) (length-numbersAt c bytes 2),
+      absent-exactly (present bytes 3) (recordNumbers bytes 3) (length-numbersAt c bytes 3),
+      absent-exactly (present bytes 4) (recordNumbers bytes 4) (length-numbersAt c bytes 4),
+    )

@@ -38,7 +38,7 @@ module _ (r : Record) where
   length-fieldBytes k =
       length-cond (isGiven r (bitOf k)) _ ∙ ap (λ (n : ℕ). cond (isGiven r (bitOf k)) n 0) (length-bytesOf (recordField (wordCount r) k) _)
 
-  pub length-encodedTo : (k : ℕ) → length (encodedTo r k) ≡ 1 + sum k (λ j. cond (isGiven r (bitOf j)) (extent (recordField (wordCount r) j)) 0)
+  length-encodedTo : (k : ℕ) → length (encodedTo r k) ≡ 1 + sum k (λ j. cond (isGiven r (bitOf j)) (extent (recordField (wordCount r) j)) 0)
   unfolding encodedTo sum
   length-encodedTo zero = refl
   length-encodedTo (suc k) =

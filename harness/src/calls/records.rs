@@ -39,21 +39,14 @@ pub(super) fn library_pick(input: &Input) -> Observed {
 /// Of a field that lacks the header says nothing but that it does; beside a refusal everything is 0.
 fn desk_values(told: &RecordReading) -> Values {
     let record = &told.record;
-    let said = |given: u8, number: u64| match (given, told.refusal) {
-        (0, 0) => 0,
-        _ => number,
-    };
     let flags = [record.ties_given, record.taken_given, record.state_given];
     let numbers = [record.ties, record.taken, record.words];
     let optional = flags.into_iter().zip(numbers);
-    let state = record
-        .state
-        .map(|word| said(record.state_given, word.into()));
     row([record.truck, record.shovel]
         .map(u64::from)
         .into_iter()
-        .chain(optional.flat_map(|(given, number)| [given.into(), said(given, number.into())]))
-        .chain(state))
+        .chain(optional.flat_map(|(given, number)| [given.into(), number.into()]))
+        .chain(record.state.map(u64::from)))
 }
 
 pub(super) fn library_desk(record: &[u8]) -> Observed {
