@@ -6,8 +6,9 @@ ghost use Rattle.tsc.specs.Constants.{mostWords};
 ghost use Rattle.records.specs.Fields.{recordBytes};
 ghost use Rattle.records.specs.Writing.{recordedOn};
 ghost use Rattle.recorded_picks.specs.Recorded.{recordedPicking, recordedState, recordLeft, recordedPage};
-use super::room;
+use super::refusal;
 use picks::Pick;
+use record_write::room;
 use record_write::write;
 use state_words::lent;
 use tsc::State;
@@ -44,7 +45,7 @@ pub fn pick_recorded(
 {
     let m = state.len();
     if room::lacks_room(m, page.len()) {
-        let told = room::pick_refusal(card, state, shovels, times);
+        let told = refusal::pick_refusal(card, state, shovels, times);
         if told != 0 {
             return Pick::Refused(told);
         }

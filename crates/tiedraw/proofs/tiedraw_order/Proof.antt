@@ -1,14 +1,13 @@
 use mathlib.Core.Path.{ap, _∙_}
 use Rattle.c_answers.specs.Records.{orderAnswer}
-use borrow.Author.Needs.{needs}
 use Rattle.tiedraw.proofs.tiedraw_order.Statement.{statement}
 use Rattle.tiedraw.proofs.tiedraw_order.Tie as tie
 
 order-for-requires : tie.Need-order-for-requires
-order-for-requires c κs = search needs
+order-for-requires c κs = tt
 
 order-of-requires : tie.Need-order-of-requires
-order-of-requires c κs = search needs
+order-of-requires c κs = tt
 
 returns : tie.Need-returns
 returns c =

@@ -5,10 +5,10 @@ use Rattle.tiedraw.proofs.tiedraw_pick_recorded.Statement.{statement}
 use Rattle.tiedraw.proofs.tiedraw_pick_recorded.Tie as tie
 
 pick-recorded-requires : tie.Need-pick-recorded-requires
-pick-recorded-requires c κs = search needs
+pick-recorded-requires c κs = tt
 
 choice-of-requires : tie.Need-choice-of-requires
-choice-of-requires c κs = search needs
+choice-of-requires c κs = tt
 
 same-length : tie.Need-same-length
 same-length c = search needs

@@ -1,14 +1,13 @@
 use mathlib.Core.Path.{ap, _∙_}
 use Rattle.c_answers.specs.Records.{recordAnswer}
-use borrow.Author.Needs.{needs}
 use Rattle.tiedraw.proofs.tiedraw_read_record.Statement.{statement}
 use Rattle.tiedraw.proofs.tiedraw_read_record.Tie as tie
 
 read-record-requires : tie.Need-read-record-requires
-read-record-requires c κs = search needs
+read-record-requires c κs = tt
 
 record-of-requires : tie.Need-record-of-requires
-record-of-requires c κs = search needs
+record-of-requires c κs = tt
 
 returns : tie.Need-returns
 returns c = c .record-of .ensures ∙ ap recordAnswer (c .before .read-record .ensures)

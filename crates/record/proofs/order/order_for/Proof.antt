@@ -1,6 +1,5 @@
 use mathlib.Core.Path.{_≡_, sym, ap, _∙_}
 use mathlib.Core.List.{List}
-use borrow.Author.Needs.{needs}
 use borrow.Author.Tests.{not-true, not-false}
 use Prim.Native.Nat.{ℕ}
 use native.Mathlib.Omega.{arith}
@@ -29,7 +28,7 @@ unfolding recordOf
 truck-is c = c .half-at .ensures ∙ sym (truck-bytes _ (facts (c .before) .low))
 
 is-whole-requires : tie.Need-is-whole-requires
-is-whole-requires c κs = search needs
+is-whole-requires c κs = tt
 
 returns : tie.Need-returns
 returns c = alike _ _ (order-torn _ _ (sym (c .before .is-whole .ensures) ∙ not-true _ (c .if1 .taken)))

@@ -1,7 +1,6 @@
 use mathlib.Core.Path.{_≡_, refl, sym, ap, _∙_}
 use mathlib.Core.Bool.{cond}
 use mathlib.Core.List.{List, [], _∷_}
-use borrow.Author.Needs.{needs}
 use borrow.Author.Tests.{not-true, not-false}
 use Prim.Native.Nat.{ℕ, zero, suc, _+_, _*_, _≤_, _<_}
 use native.Mathlib.Nat.{le-of-eq}
@@ -36,10 +35,10 @@ within bytes at k e l = rw e (go (bit 4 (getD bytes 0 0)) refl (bit-lt 4 (getD b
     go (suc (suc d)) x h = absurd (omega arith)
 
 is-whole-requires : tie.Need-is-whole-requires
-is-whole-requires c κs = search needs
+is-whole-requires c κs = tt
 
 torn-requires : tie.Need-torn-requires
-torn-requires c κs = search needs
+torn-requires c κs = tt
 
 returns : tie.Need-returns
 returns c = c .torn .ensures ∙ sym (reading-torn _ (sym (c .before .before .is-whole .ensures) ∙ not-true _ (c .before .if1 .taken)))
@@ -48,7 +47,7 @@ shared-slice-read-map : tie.Need-shared-slice-read-map
 shared-slice-read-map c = omega (arith, facts (c .before) .long)
 
 state-at-requires : tie.Need-state-at-requires
-state-at-requires c κs = search needs
+state-at-requires c κs = tt
 
 state-of-requires : tie.Need-state-of-requires
 state-of-requires c κs =
@@ -67,7 +66,7 @@ optional-at-requires : tie.Need-optional-at-requires
 optional-at-requires c κs = (lit< tt, λ o. omega (arith, facts (c .before .before .before .before .before) .long))
 
 taken-at-requires : tie.Need-taken-at-requires
-taken-at-requires c κs = search needs
+taken-at-requires c κs = tt
 
 optional-at-requires-2 : tie.Need-optional-at-requires-2
 optional-at-requires-2 c κs = (lit< tt, λ o. omega (arith, facts (c .before .before .before .before .before .before .before) .long, c .taken-at .ensures))

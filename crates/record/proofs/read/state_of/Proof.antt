@@ -1,7 +1,6 @@
 use mathlib.Core.Path.{sym, ap, _∙_}
 use mathlib.Core.List.{List}
 use Prim.Native.Nat.{ℕ, _+_}
-use borrow.Author.Needs.{needs}
 use native.Mathlib.Omega.{arith}
 use lib.ListN.{getD, drop, length, length-drop, List·getD-eq-default}
 use Rattle.cycle.specs.Notation.{tabulate}
@@ -20,22 +19,22 @@ returns c =
     sym (ap (λ (m : ℕ). heldState (numbers (wordField m) (drop (at + 1) b))) (List·getD-eq-default b 0 (omega arith)))
 
 add-state-from : tie.Need-add-state-from
-add-state-from c = search needs
+add-state-from c = omega arith
 
 sub-state-from : tie.Need-sub-state-from
-sub-state-from c = search needs
+sub-state-from c = omega arith
 
 part-state-from-start : tie.Need-part-state-from-start
-part-state-from-start c = search needs
+part-state-from-start c = omega arith
 
 part-state-from-end : tie.Need-part-state-from-end
-part-state-from-end c = search needs
+part-state-from-end c = omega arith
 
 shared-slice-read-state-from : tie.Need-shared-slice-read-state-from
-shared-slice-read-state-from c = search needs
+shared-slice-read-state-from c = omega arith
 
 cast-state-from : tie.Need-cast-state-from
-cast-state-from c = search needs
+cast-state-from c = omega arith
 
 state-from-requires : tie.Need-state-from-requires
 state-from-requires c κs =

@@ -1,20 +1,19 @@
-use borrow.Author.Needs.{needs}
 use Prim.Native.Nat.{_+_}
 use native.Mathlib.Omega.{arith}
 use Rattle.record_form.proofs.form.half_at.Statement.{statement}
 use Rattle.record_form.proofs.form.half_at.Tie as tie
 
 shared-slice-read-result : tie.Need-shared-slice-read-result
-shared-slice-read-result c = search needs
+shared-slice-read-result c = omega arith
 
 cast-result : tie.Need-cast-result
 cast-result c = omega (arith, c .shared-slice-known .given (c .before .args .at))
 
 add-result : tie.Need-add-result
-add-result c = search needs
+add-result c = omega arith
 
 shared-slice-read-result-2 : tie.Need-shared-slice-read-result-2
-shared-slice-read-result-2 c = search needs
+shared-slice-read-result-2 c = omega arith
 
 cast-result-2 : tie.Need-cast-result-2
 cast-result-2 c = omega (arith, c .shared-slice-known2 .given (c .before .before .args .at + 1))
@@ -28,7 +27,7 @@ add-result-2 c =
     omega (arith, c .shared-slice-known2 .given (at + 1), c .before .shared-slice-known .given at)
 
 returns : tie.Need-returns
-returns c = search needs
+returns c = omega arith
 
 pub half-at-spec : {M : Type 1} → statement M
 half-at-spec =

@@ -1,5 +1,4 @@
 use mathlib.Core.Path.{_≡_, sym, ap, ap₂, _∙_}
-use borrow.Author.Needs.{needs}
 use Prim.Native.Nat.{ℕ, _+_, _*_, _%_, _<_}
 use native.Mathlib.Omega.{arith}
 use lib.Dec.{eqb}
@@ -32,7 +31,7 @@ count-is : (c : tie.After-byte-at2) → let b = c .before .before .before .befor
 count-is c = c .byte-at2 .ensures ∙ ap (λ (i : ℕ). getD (c .before .before .before .before .before .before .before .before .args .bytes .now) i 0) (at-is (c .before .before))
 
 byte-at-requires : tie.Need-byte-at-requires
-byte-at-requires c κs = search needs
+byte-at-requires c κs = tt
 
 returns : tie.Need-returns
 returns c = sym (not-low _ (λ e. c .if1 .taken (ap (λ (v : ℕ). v % 4) (c .before .byte-at .ensures) ∙ e)))
@@ -41,13 +40,13 @@ returns-2 : tie.Need-returns-2
 returns-2 c = sym (not-high _ (omega (arith, c .before .before .byte-at .ensures, c .if2 .taken)))
 
 state-at-requires : tie.Need-state-at-requires
-state-at-requires c κs = search needs
+state-at-requires c κs = tt
 
 cast-bit-of : tie.Need-cast-bit-of
-cast-bit-of c = search needs
+cast-bit-of c = omega arith
 
 bit-of-requires : tie.Need-bit-of-requires
-bit-of-requires c κs = search needs
+bit-of-requires c κs = omega arith
 
 returns-3 : tie.Need-returns-3
 returns-3 c =
@@ -55,13 +54,13 @@ returns-3 c =
     ap (eqb (length (c .before .before .before .before .before .before .before .args .bytes .now))) (at-is o) ∙ sym (whole-none _ (low (c .before .before .before)) (high (c .before .before .before)) (sym (bit-is o) ∙ c .if3 .taken))
 
 byte-at-requires-2 : tie.Need-byte-at-requires-2
-byte-at-requires-2 c κs = search needs
+byte-at-requires-2 c κs = tt
 
 cast-m : tie.Need-cast-m
-cast-m c = search needs
+cast-m c = omega arith
 
 cast-if4 : tie.Need-cast-if4
-cast-if4 c = search needs
+cast-if4 c = omega arith
 
 returns-4 : tie.Need-returns-4
 returns-4 c = sym (too-few _ (low (c .before .before .before .before .before)) (high (c .before .before .before .before .before)) (stands (c .before .before)) (omega (arith, count-is (c .before), c .if4 .taken)))
@@ -70,13 +69,13 @@ returns-5 : tie.Need-returns-5
 returns-5 c = sym (too-many _ (low (c .before .before .before .before .before .before)) (high (c .before .before .before .before .before .before)) (stands (c .before .before .before)) (omega (arith, count-is (c .before .before), c .if5 .taken)))
 
 add-result : tie.Need-add-result
-add-result c = search needs
+add-result c = omega arith
 
 mul-result : tie.Need-mul-result
-mul-result c = search needs
+mul-result c = omega arith
 
 add-result-2 : tie.Need-add-result-2
-add-result-2 c = search needs
+add-result-2 c = omega arith
 
 returns-6 : tie.Need-returns-6
 returns-6 c =

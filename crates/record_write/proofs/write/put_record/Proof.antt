@@ -1,7 +1,6 @@
 use mathlib.Core.Path.{refl, sym, ap, ap₂, _∙_}
 use mathlib.Core.List.{List, [], _∷_, _++_}
 use Prim.Native.Nat.{ℕ, _+_, _-_, _/_, _%_}
-use borrow.Author.Needs.{needs}
 use native.Mathlib.Omega.{arith}
 use lib.ListN.{length, take, drop}
 use Rattle.card_format.specs.Fields.{bytesOf}
@@ -13,40 +12,40 @@ use Rattle.record_write.proofs.write.put_record.Statement.{statement}
 use Rattle.record_write.proofs.write.put_record.Tie as tie
 
 cast-t9 : tie.Need-cast-t9
-cast-t9 c = search needs
+cast-t9 c = omega arith
 
 cast-t11 : tie.Need-cast-t11
-cast-t11 c = search needs
+cast-t11 c = omega arith
 
 cast-t13 : tie.Need-cast-t13
-cast-t13 c = search needs
+cast-t13 c = omega arith
 
 cast-t15 : tie.Need-cast-t15
-cast-t15 c = search needs
+cast-t15 c = omega arith
 
 cast-t17 : tie.Need-cast-t17
-cast-t17 c = search needs
+cast-t17 c = omega arith
 
 slice-aggregate-put-bytes : tie.Need-slice-aggregate-put-bytes
-slice-aggregate-put-bytes c = search needs
+slice-aggregate-put-bytes c = omega arith
 
 put-bytes-requires : tie.Need-put-bytes-requires
-put-bytes-requires c κs = search needs
+put-bytes-requires c κs = omega arith
 
 sub-put-words : tie.Need-sub-put-words
-sub-put-words c = search needs
+sub-put-words c = omega arith
 
 part-put-words-start : tie.Need-part-put-words-start
-part-put-words-start c = search needs
+part-put-words-start c = omega arith
 
 part-put-words-end : tie.Need-part-put-words-end
-part-put-words-end c = search needs
+part-put-words-end c = omega arith
 
 put-words-requires : tie.Need-put-words-requires
-put-words-requires c κs = search needs
+put-words-requires c κs = omega arith
 
 same-length : tie.Need-same-length
-same-length c = search needs
+same-length c = omega arith
 
 returns : tie.Need-returns
 returns c =

@@ -1,7 +1,6 @@
 use mathlib.Core.Path.{refl, sym, ap, _∙_}
 use mathlib.Core.List.{List}
 use Prim.Native.Nat.{ℕ, _≤_}
-use borrow.Author.Needs.{needs}
 use native.Mathlib.Omega.{arith}
 use lib.ListN.{length, take}
 use Rattle.tsc.specs.declared.State.{State}
@@ -20,13 +19,13 @@ roomy : (c : tie.Else1) → let a = c .before .before .before .before .before .b
 roomy c = has-room _ _ (sym (c .before .lacks-room .ensures) ∙ c .if1 .left)
 
 lacks-room-requires : tie.Need-lacks-room-requires
-lacks-room-requires c κs = search needs
+lacks-room-requires c κs = tt
 
 pick-refusal-requires : tie.Need-pick-refusal-requires
-pick-refusal-requires c κs = search needs
+pick-refusal-requires c κs = tt
 
 same-length : tie.Need-same-length
-same-length c = search needs
+same-length c = omega arith
 
 returns : tie.Need-returns
 returns c =
@@ -36,7 +35,7 @@ returns c =
     call-refused (a .card .now) (a .state .now) (a .shovels .now) (a .times .now) (a .truck) (a .page .now) _ ne (told-pick _ _ _ _ _ (λ z. ne (e ∙ z)) ∙ sym e)
 
 same-length-2 : tie.Need-same-length-2
-same-length-2 c = search needs
+same-length-2 c = omega arith
 
 returns-2 : tie.Need-returns-2
 returns-2 c =
@@ -49,16 +48,16 @@ load-requires : tie.Need-load-requires
 load-requires c κs = roomy (c .before) .0
 
 pick-requires : tie.Need-pick-requires
-pick-requires c κs = search needs
+pick-requires c κs = tt
 
 record-tie-requires : tie.Need-record-tie-requires
 record-tie-requires c κs = roomy (c .before .before .before .before .before .before .before)
 
 same-length-3 : tie.Need-same-length-3
-same-length-3 c = search needs
+same-length-3 c = omega arith
 
 same-length-4 : tie.Need-same-length-4
-same-length-4 c = search needs
+same-length-4 c = omega arith
 
 returns-3 : tie.Need-returns-3
 returns-3 c =

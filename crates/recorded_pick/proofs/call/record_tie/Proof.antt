@@ -16,7 +16,7 @@ counted : (s : tie.Start) → length (take (s .args .m) (s .args .held .words)) 
 counted s = length-take-le (s .args .m) (s .args .held .words) (omega (arith, sized s, s .pre .0))
 
 enum-known-picked : tie.Need-enum-known-picked
-enum-known-picked c = search needs
+enum-known-picked c = omega arith
 
 array-share-prefix-words : tie.Need-array-share-prefix-words
 array-share-prefix-words c = omega (arith, sized (c .before .before .before .before .before .before), c .before .before .before .before .before .before .pre .0)
@@ -28,10 +28,10 @@ put-record-requires : tie.Need-put-record-requires
 put-record-requires c κs = let s = c .before .before .before .before .before .before .before .before in (omega (arith, counted s, s .pre .0), omega (arith, counted s, s .pre .1))
 
 enum-told : tie.Need-enum-told
-enum-told c = search needs
+enum-told c = omega arith
 
 same-length : tie.Need-same-length
-same-length c = search needs
+same-length c = omega arith
 
 returns : tie.Need-returns
 returns c =

@@ -4,8 +4,8 @@ use Rattle.draws.specs.Calls.{refusalFor}
 use Rattle.draws.proofs.Opening.{Clear, told, clear}
 use Rattle.draws.proofs.Called.{accepted}
 use Rattle.picks.proofs.Picking.{told-call, told-later}
-use Rattle.recorded_pick.proofs.room.pick_refusal.Statement.{statement}
-use Rattle.recorded_pick.proofs.room.pick_refusal.Tie as tie
+use Rattle.recorded_pick.proofs.refusal.pick_refusal.Statement.{statement}
+use Rattle.recorded_pick.proofs.refusal.pick_refusal.Tie as tie
 
 -- what is told of the card and the state; past the test they are not refused
 refusal : (c : tie.After-call-refusal) → let a = c .before .before .before .before .before .before .args in c .call-refusal .result ≡ refusalFor (a .card .now) (a .state .now)
@@ -15,10 +15,10 @@ passing : (c : tie.Else1) → let a = c .before .before .before .before .before 
 passing c = clear _ _ (c .before .before .accept .result) (c .before .before .accept .ensures) (sym (refusal (c .before)) ∙ c .if1 .left)
 
 accept-requires : tie.Need-accept-requires
-accept-requires c κs = search needs
+accept-requires c κs = tt
 
 call-refusal-requires : tie.Need-call-refusal-requires
-call-refusal-requires c κs = search needs
+call-refusal-requires c κs = tt
 
 returns : tie.Need-returns
 returns c = told-call _ _ _ _ _ (refusal (c .before)) (c .if1 .taken)

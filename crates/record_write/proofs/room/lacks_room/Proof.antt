@@ -5,8 +5,8 @@ use borrow.Author.Tests.{lt-ltb, le-ltb}
 use lib.Dec.{ltb}
 use Rattle.tsc.specs.Constants.{mostWords}
 use Rattle.records.specs.Fields.{recordBytes}
-use Rattle.recorded_pick.proofs.room.lacks_room.Statement.{statement}
-use Rattle.recorded_pick.proofs.room.lacks_room.Tie as tie
+use Rattle.record_write.proofs.room.lacks_room.Statement.{statement}
+use Rattle.record_write.proofs.room.lacks_room.Tie as tie
 
 returns : tie.Need-returns
 returns c = let a = c .before .args in ap (λ (b : Bool). b || ltb (a .room) (recordBytes (a .m))) (sym (lt-ltb mostWords (a .m) (c .if1 .taken)))

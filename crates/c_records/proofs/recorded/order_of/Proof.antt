@@ -1,8 +1,8 @@
 use mathlib.Core.Path.{sym, ap}
 use Rattle.c_answers.specs.Records.{orderAnswer}
 use borrow.Author.Needs.{needs}
-use Rattle.c_structs.proofs.recorded.order_of.Statement.{statement}
-use Rattle.c_structs.proofs.recorded.order_of.Tie as tie
+use Rattle.c_records.proofs.recorded.order_of.Statement.{statement}
+use Rattle.c_records.proofs.recorded.order_of.Tie as tie
 
 enum-known-answer : tie.Need-enum-known-answer
 enum-known-answer c = search needs

@@ -1,24 +1,23 @@
-use borrow.Author.Needs.{needs}
-use Rattle.c_structs.proofs.recorded.record_of.Statement.{statement}
-use Rattle.c_structs.proofs.recorded.record_of.Tie as tie
+use Rattle.c_records.proofs.recorded.record_of.Statement.{statement}
+use Rattle.c_records.proofs.recorded.record_of.Tie as tie
 
 flag-of-requires : tie.Need-flag-of-requires
-flag-of-requires c κs = search needs
+flag-of-requires c κs = tt
 
 number-of-requires : tie.Need-number-of-requires
-number-of-requires c κs = search needs
+number-of-requires c κs = tt
 
 flag-of-requires-2 : tie.Need-flag-of-requires-2
-flag-of-requires-2 c κs = search needs
+flag-of-requires-2 c κs = tt
 
 number-of-requires-2 : tie.Need-number-of-requires-2
-number-of-requires-2 c κs = search needs
+number-of-requires-2 c κs = tt
 
 flag-of-requires-3 : tie.Need-flag-of-requires-3
-flag-of-requires-3 c κs = search needs
+flag-of-requires-3 c κs = tt
 
 number-of-requires-3 : tie.Need-number-of-requires-3
-number-of-requires-3 c κs = search needs
+number-of-requires-3 c κs = tt
 
 returns : tie.Need-returns
 returns c i =
