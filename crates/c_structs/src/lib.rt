@@ -1,4 +1,3 @@
 // The calls' answers made into the structs that C sees, which crate c_answers defines.
 pub mod answer;
 pub mod nearest;
-pub mod recorded;

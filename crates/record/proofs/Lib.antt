@@ -1,2 +1,3 @@
 -- Laws for reading records.
 pub mod Words
+pub mod Assembled

@@ -44,7 +44,7 @@ module _ (bytes : List ℕ) where
   abbrev map : ℕ
   map = getD bytes 0 0
 
-  abbrev takenAt : ℕ
+  abbrev pub takenAt : ℕ
   takenAt = 5 + bit 2 map
 
   abbrev pub stateAt : ℕ

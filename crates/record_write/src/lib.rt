@@ -1,2 +1,3 @@
-// Records of ties, written. What they mean is defined in crate records.
+// Records of ties, written, and the room that they need. What they mean is defined in crate records.
+pub mod room;
 pub mod write;

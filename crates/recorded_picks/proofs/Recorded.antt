@@ -1,12 +1,12 @@
 -- What the checks of a recorded pick come to, and what it answers and leaves then.
 use mathlib.Core.Path.{_≡_, refl, sym, ap, _∙_}
 use mathlib.Core.Logic.{_≢_}
-use mathlib.Core.Bool.{Bool, cond}
+use mathlib.Core.Bool.{Bool, true, false, cond, _||_, true≢false}
 use mathlib.Core.List.{List, []}
 use Prim.Native.Nat.{ℕ, _<_, _≤_}
 use native.Mathlib.Decide.{ℕ-discrete}
 use native.Mathlib.Omega.{arith}
-use borrow.Author.Tests.{lt-ltb, le-ltb, ne-eqb}
+use borrow.Author.Tests.{ltb-true, ltb-false, lt-ltb, le-ltb, ne-eqb}
 use lib.Dec.{ltb}
 use lib.ListN.{length}
 use Rattle.refusals.specs.Refusals.{firstOf}
@@ -19,9 +19,23 @@ use Rattle.picks.specs.declared.Pick.{Pick}
 use Rattle.picks.specs.declared.Pick.the-variants.{Refused}
 use Rattle.picks.specs.Picks.{pickChecks, pickRefusal, picking, picked}
 use Rattle.picks.proofs.Picking.{pick-passed, picking-refused}
-use Rattle.records.specs.Fields.{recordBytes}
+use Rattle.records.specs.Fields.{recordBytes, lacksRoom}
 use Rattle.records.specs.Writing.{recordedOn}
 use Rattle.recorded_picks.specs.Recorded.{recordedRefusal, recordedPicking, recordedState, recordLeft, recordedPage}
+
+-- ---- room
+
+neither : (a b : Bool) → (a || b) ≡ false → (a ≡ false) × (b ≡ false)
+neither true b e = absurd (true≢false e)
+neither false b e = (refl, e)
+
+pub has-room : (m room : ℕ) → {b : Bool} → b ≡ lacksRoom m room → b ≡ false → (m ≤ mostWords) × (recordBytes m ≤ room)
+has-room m room eb f = let n = neither _ _ (sym eb ∙ f) in (ltb-false mostWords m (n .0), ltb-false room (recordBytes m) (n .1))
+
+no-room : (m room : ℕ) → m ≤ mostWords → lacksRoom m room ≡ true → room < recordBytes m
+no-room m room few e = ltb-true room (recordBytes m) (sym (ap (λ (b : Bool). b || ltb room (recordBytes m)) (le-ltb mostWords m few)) ∙ e)
+
+-- ---- the checks
 
 -- a state of a pick that is not refused has the card's size
 module _ (bytes xs shovels times : List ℕ) where
@@ -90,6 +104,20 @@ unfolding recordedPage
 call-refused bytes xs shovels times truck page r ne e =
     let a = recorded-refused bytes xs shovels times (length page) r ne e in
     (sym (a .0), (sym (a .1), sym (ap (λ (p : Pick). recordedOn (recordLeft truck xs p) page) (a .0))))
+
+-- by what the pick refuses, r; or, where that is 0, by 16
+module _ (bytes xs shovels times : List ℕ) (truck : ℕ) (page : List ℕ) {r : ℕ} (e : r ≡ pickRefusal bytes xs shovels times) where
+  pub call-told : r ≢ 0 → (Refused r ≡ recordedPicking bytes xs shovels times (length page)) × ((xs ≡ recordedState bytes xs shovels times (length page))
+      × (page ≡ recordedPage bytes xs shovels times truck page))
+  call-told ne = call-refused bytes xs shovels times truck page r ne (told-pick bytes xs shovels times (length page) (λ z. ne (e ∙ z)) ∙ sym e)
+
+  pub call-small : r ≡ 0 → {b : Bool} → b ≡ lacksRoom (length xs) (length page) → b ≡ true
+      → (Refused 16 ≡ recordedPicking bytes xs shovels times (length page)) × ((xs ≡ recordedState bytes xs shovels times (length page))
+      × (page ≡ recordedPage bytes xs shovels times truck page))
+  call-small z eb t =
+      let none = sym e ∙ z in
+      let small = no-room (length xs) (length page) (word-few bytes xs shovels times none) (sym eb ∙ t) in
+      call-refused bytes xs shovels times truck page 16 (λ e. absurd (omega arith)) (told-small bytes xs shovels times (length page) none small)
 
 -- made: the pick answers p and leaves ys, and its record is put on the page
 pub call-made : (bytes xs shovels times : List ℕ) (truck : ℕ) (page : List ℕ) {p : Pick} {ys left : List ℕ} → recordBytes (length xs) ≤ length page

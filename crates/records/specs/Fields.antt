@@ -1,7 +1,8 @@
 -- The fields of a record (document 02, Seven). The first byte is the map; bytes past the end count as 0.
-use mathlib.Core.Bool.{cond}
+use mathlib.Core.Bool.{Bool, cond, _||_}
 use mathlib.Core.List.{List, [], _∷_}
 use Prim.Native.Nat.{ℕ, _+_, _*_}
+use lib.Dec.{ltb}
 use lib.ListN.{getD, drop}
 use Rattle.cycle.specs.Notation.{sum}
 use Rattle.tsc.specs.Constants.{fewestWords, mostWords}
@@ -60,3 +61,7 @@ recordNumbers bytes k = numbersAt (wordCountOf bytes) bytes k
 -- the bytes of a record that has every field, with a state of m words
 abbrev pub recordBytes : ℕ → ℕ
 recordBytes m = 8 + 4 * m
+
+-- whether a page of `room` bytes has none for it, or no state has so many words
+abbrev pub lacksRoom : ℕ → ℕ → Bool
+lacksRoom m room = ltb mostWords m || ltb room (recordBytes m)

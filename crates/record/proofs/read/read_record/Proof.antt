@@ -1,21 +1,17 @@
-use mathlib.Core.Path.{_≡_, refl, sym, ap, _∙_}
-use mathlib.Core.Bool.{cond}
-use mathlib.Core.List.{List, [], _∷_}
+use mathlib.Core.Path.{_≡_, refl, sym, _∙_}
+use mathlib.Core.List.{List, []}
 use borrow.Author.Tests.{not-true, not-false}
 use Prim.Native.Nat.{ℕ, zero, suc, _+_, _*_, _≤_, _<_}
 use native.Mathlib.Nat.{le-of-eq}
 use native.Mathlib.Omega.{arith}
 use lib.Dec.{lit<}
-use lib.ListN.{length, getD, drop}
+use lib.ListN.{length, getD}
 use Rattle.cycle.specs.Notation.{bit}
 use Rattle.cycle.proofs.Bits.{bit-lt}
-use Rattle.card_format.specs.Fields.{numbers}
-use Rattle.card_format.specs.Reading.{present}
-use Rattle.records.specs.declared.Optional.{Optional}
-use Rattle.records.specs.Reading.{Whole, optional, heldState, recordOf}
-use Rattle.records.proofs.Reading.{reading-torn, reading-whole}
-use Rattle.records.specs.Fields.{wordField}
-use Rattle.record_form.proofs.Places.{stateAt, Known, known, truck-bytes, shovel-bytes, ties-byte, taken-byte, words-byte, words-bytes}
+use Rattle.records.specs.Reading.{Whole}
+use Rattle.records.proofs.Reading.{reading-torn}
+use Rattle.record_form.proofs.Places.{stateAt, Known, known}
+use Rattle.record.proofs.Assembled.{assembled}
 use Rattle.record.proofs.read.read_record.Statement.{statement}
 use Rattle.record.proofs.read.read_record.Tie as tie
 
@@ -75,22 +71,9 @@ optional-at-requires-3 : tie.Need-optional-at-requires-3
 optional-at-requires-3 c κs = (lit< tt, λ o. omega (arith, facts (c .before .before .before .before .before .before .before .before) .ends o, c .before .before .before .before .before .before .state-at .ensures))
 
 returns-2 : tie.Need-returns-2
-unfolding recordOf
 returns-2 c =
-    let o = c .before .before .before .before .before .before .before .before .before in
-    let k = facts o in
-    let low = k .low in
-    let b = c .before .before .before .before .before .before .before .before .before .before .before .before .args .bytes .now in
-    let at = c .before .before .before .before .before .before .before .state-at .ensures in
-    let optionalAt : ℕ → ℕ → Optional = λ j at. optional (cond (present b j) (getD b at 0 ∷ []) []) in
-    let truck = c .before .before .before .before .before .half-at .ensures ∙ sym (truck-bytes b low) in
-    let shovel = c .before .before .before .before .half-at2 .ensures ∙ sym (shovel-bytes b low) in
-    let ties = c .before .before .before .optional-at .ensures ∙ ap optional (sym (ties-byte b low)) in
-    let taken = c .before .optional-at2 .ensures ∙ ap (optionalAt 3) (c .before .before .taken-at .ensures) ∙ ap optional (sym (taken-byte b low)) in
-    let words = c .optional-at3 .ensures ∙ ap (optionalAt 4) at ∙ ap optional (sym (words-byte b low)) in
-    let state = c .before .before .before .before .before .before .state-of .ensures ∙ ap (λ (i : ℕ). heldState (numbers (wordField (getD b i 0)) (drop (i + 1) b))) at ∙ ap heldState (sym (words-bytes b k)) in
-    (λ i. record { refusal = 0; values = record { truck = truck i; shovel = shovel i; ties = ties i; taken = taken i; words = words i; state = state i } })
-    ∙ sym (reading-whole b (whole o))
+    assembled (c .before .before .before .before .before .before .before .before .before .before .before .before .args .bytes .now) (whole (c .before .before .before .before .before .before .before .before .before)) (c .before .before .before .before .before .half-at .ensures) (c .before .before .before .before .half-at2 .ensures) (c .before .before .before .optional-at .ensures)
+    (c .before .before .taken-at .ensures) (c .before .optional-at2 .ensures) (c .before .before .before .before .before .before .before .state-at .ensures) (c .optional-at3 .ensures) (c .before .before .before .before .before .before .state-of .ensures)
 
 pub read-record-spec : {M : Type 1} → statement M
 read-record-spec =

@@ -1,4 +1,4 @@
-use mathlib.Core.Path.{refl, sym, ap, _∙_}
+use mathlib.Core.Path.{refl, ap, _∙_}
 use mathlib.Core.List.{List}
 use Prim.Native.Nat.{ℕ, _≤_}
 use native.Mathlib.Omega.{arith}
@@ -9,14 +9,13 @@ use Rattle.card_format.proofs.Lists.{take-filled}
 use Rattle.records.specs.Fields.{recordBytes}
 use Rattle.records.specs.Writing.{recordedOn}
 use Rattle.recorded_picks.specs.Recorded.{recordLeft}
-use Rattle.recorded_picks.proofs.Recorded.{told-pick, told-small, word-few, call-refused, call-made}
-use Rattle.recorded_pick.proofs.Page.{has-room, no-room}
+use Rattle.recorded_picks.proofs.Recorded.{has-room, call-told, call-small, call-made}
 use Rattle.recorded_pick.proofs.call.pick_recorded.Statement.{statement}
 use Rattle.recorded_pick.proofs.call.pick_recorded.Tie as tie
 
 -- past the first test the page has room
 roomy : (c : tie.Else1) → let a = c .before .before .before .before .before .before .before .args in (length (a .state .now) ≤ mostWords) × (recordBytes (length (a .state .now)) ≤ length (a .page .now))
-roomy c = has-room _ _ (sym (c .before .lacks-room .ensures) ∙ c .if1 .left)
+roomy c = let a = c .before .before .before .before .before .before .before .args in has-room (length (a .state .now)) (length (a .page .now)) (c .before .lacks-room .ensures) (c .if1 .left)
 
 lacks-room-requires : tie.Need-lacks-room-requires
 lacks-room-requires c κs = tt
@@ -30,9 +29,7 @@ same-length c = omega arith
 returns : tie.Need-returns
 returns c =
     let a = c .before .before .before .before .before .before .before .before .before .before .args in
-    let e = c .before .pick-refusal .ensures in
-    let ne = c .if2 .taken in
-    call-refused (a .card .now) (a .state .now) (a .shovels .now) (a .times .now) (a .truck) (a .page .now) _ ne (told-pick _ _ _ _ _ (λ z. ne (e ∙ z)) ∙ sym e)
+    call-told (a .card .now) (a .state .now) (a .shovels .now) (a .times .now) (a .truck) (a .page .now) (c .before .pick-refusal .ensures) (c .if2 .taken)
 
 same-length-2 : tie.Need-same-length-2
 same-length-2 c = omega arith
@@ -40,9 +37,8 @@ same-length-2 c = omega arith
 returns-2 : tie.Need-returns-2
 returns-2 c =
     let a = c .before .before .before .before .before .before .before .before .before .before .args in
-    let z = sym (c .before .pick-refusal .ensures) ∙ c .if2 .left in
-    call-refused (a .card .now) (a .state .now) (a .shovels .now) (a .times .now) (a .truck) (a .page .now) 16 (λ e. absurd (omega arith))
-    (told-small _ _ _ _ _ z (no-room (length (a .state .now)) (length (a .page .now)) (word-few (a .card .now) (a .state .now) (a .shovels .now) (a .times .now) z) (sym (c .before .before .before .before .lacks-room .ensures) ∙ c .before .before .before .if1 .taken)))
+    call-small (a .card .now) (a .state .now) (a .shovels .now) (a .times .now) (a .truck) (a .page .now) (c .before .pick-refusal .ensures) (c .if2 .left)
+    (c .before .before .before .before .lacks-room .ensures) (c .before .before .before .if1 .taken)
 
 load-requires : tie.Need-load-requires
 load-requires c κs = roomy (c .before) .0
