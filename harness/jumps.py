@@ -4,10 +4,10 @@
 
 A loop end is a conditional jump of which one way stays in the innermost loop around it and the other leaves that loop; a
 loop has one. That it goes backward is not enough: compilers put the end of a branch before its start. Held to this are
-one step and one draw as a whole, which step, draw and pick must call, the loops of many steps, which fill and margin must
-call, those of the step back, and whatever these call. One branch in each of three functions is let pass, on the card.
-Between two words that a pick tries, in a loop or one behind the other, it may stop at several places, and has the one
-division that makes a rank; it branches nowhere else.
+one step and one draw as a whole, which step, draw and the pick must call, the loops of many steps, which fill and margin
+must call, those of the step back, and whatever these call. One branch in each of three functions is let pass, on the card.
+A recorded pick must call the pick. Between two words that it tries, in a loop or one behind the other, it may stop at
+several places, and has the one division that makes a rank; it branches nowhere else.
 """
 
 import collections
@@ -18,11 +18,19 @@ import sys
 STEP = "stepping::step::next_state"
 DRAW = "outputs::next::next_output"
 ROW = "outputs::row::fill_words"
-CALLERS = {"tiedraw_step": STEP, DRAW: STEP, "tiedraw_draw": DRAW, "tiedraw_fill": ROW, "tiedraw_margin": ROW}
+# A pick asks of each word whether it decides, and divides by the number of ties.
+TRIED = "pick::call::pick"
+CALLERS = {
+    "tiedraw_step": STEP,
+    DRAW: STEP,
+    "tiedraw_draw": DRAW,
+    "tiedraw_fill": ROW,
+    "tiedraw_margin": ROW,
+    "tiedraw_pick": TRIED,
+    "tiedraw_pick_recorded": TRIED,
+}
 # The loops held are those of so many instructions or more: the smaller ones of a step back check card and state.
 LOOPED = {ROW: 0, "tiedraw_step_back": 60}
-# A pick asks of each word whether it decides, and divides by the number of ties.
-TRIED = "tiedraw_pick"
 OUTSIDE = ["memcpy", "memset"]
 # The branches let pass, one in each function: it asks the card, never the state, whether it has more than four words, and
 # which of two filters.

@@ -58,7 +58,7 @@ def found(**changed):
 class Jumps(unittest.TestCase):
     def test_loops_and_calls_pass(self):
         self.assertIsNone(found())
-        self.assertIsNone(found(tiedraw_pick=TWO_TRIES))
+        self.assertIsNone(found(pick__call__pick=TWO_TRIES))
 
     def test_a_step_that_asks_the_card_twice(self):
         self.assertIsNone(found(stepping__step__next_state=WORDS + "ret"))
@@ -91,15 +91,15 @@ class Jumps(unittest.TestCase):
         self.assertIn("does not call", found(tiedraw_fill=LOOP))
 
     def test_a_pick_that_branches_between_words(self):
-        self.assertIn("a branch", found(tiedraw_pick=f"1: {DRAWN}{BRANCH}dec %ecx\njne 1b\nret"))
-        self.assertIn("a branch", found(tiedraw_pick=f"{DRAWN}{BRANCH}{DRAWN}ret"))
+        self.assertIn("a branch", found(pick__call__pick=f"1: {DRAWN}{BRANCH}dec %ecx\njne 1b\nret"))
+        self.assertIn("a branch", found(pick__call__pick=f"{DRAWN}{BRANCH}{DRAWN}ret"))
 
     def test_a_pick_that_divides_more_than_once(self):
-        self.assertIn("2 divisions", found(tiedraw_pick=f"1: {DRAWN}div %ecx\ndiv %ecx\ndec %ecx\njne 1b\nret"))
+        self.assertIn("2 divisions", found(pick__call__pick=f"1: {DRAWN}div %ecx\ndiv %ecx\ndec %ecx\njne 1b\nret"))
 
     def test_what_is_not_there(self):
-        self.assertIn("not in the archive", found(tiedraw_pick=None))
-        self.assertIn("does not call", found(tiedraw_pick=LOOP))
+        self.assertIn("not in the archive", found(pick__call__pick=None))
+        self.assertIn("does not call", found(pick__call__pick=LOOP))
         self.assertIn("no loop", found(tiedraw_step_back="ret"))
         self.assertIn("no loop", found(tiedraw_step_back=LOOP.replace(LONG, "")))
 
