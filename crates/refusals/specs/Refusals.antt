@@ -76,6 +76,15 @@ malformedRecord = numbered 20 tt  -- torn
 abbrev pub truckMismatch : Refusal
 truckMismatch = numbered 21 tt  -- other truck
 
+abbrev pub stripTooLong : Refusal
+stripTooLong = numbered 22 tt  -- strip too long
+
+abbrev pub stripWordTooWide : Refusal
+stripWordTooWide = numbered 23 tt  -- strip bits
+
+abbrev pub bitPageTooSmall : Refusal
+bitPageTooSmall = numbered 24 tt  -- bit page
+
 -- a refusal and whether its condition holds
 pub record Check : Type 0 where
   pub refusal : Refusal

@@ -42,3 +42,9 @@ pub const NO_SUCH_CHANGE: u8 = 19;
 pub const MALFORMED_RECORD: u8 = 20;
 // other truck
 pub const TRUCK_MISMATCH: u8 = 21;
+// strip too long
+pub const STRIP_TOO_LONG: u8 = 22;
+// strip bits
+pub const STRIP_WORD_TOO_WIDE: u8 = 23;
+// bit page
+pub const BIT_PAGE_TOO_SMALL: u8 = 24;

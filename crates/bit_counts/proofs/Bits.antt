@@ -1,0 +1,60 @@
+-- The bits of a strip: how many, one strip after the other, and read back.
+use mathlib.Core.Path.{_≡_, refl, sym, ap, ap₂, _∙_}
+use mathlib.Core.List.{List, [], _∷_, _++_, map, append-assoc, map-append}
+use Prim.Native.Nat.{ℕ, zero, suc, _+_, _-_, _*_, _/_, _%_, _^_, _≤_, _<_}
+use native.Mathlib.Nat.{mod-eq-of-lt, mul-zero, mul-suc}
+use native.Mathlib.Decide.{ℕ-discrete}
+use native.Mathlib.Omega.{arith}
+use lib.ListN.{length, getD, take, drop, length-append, length-map, List·getD-map}
+use lib.Seq.{take-at, drop-at}
+use Rattle.cycle.specs.Notation.{bit}
+use Rattle.cycle.proofs.Bits.{bit-lt}
+use Rattle.cycle.proofs.Digits.{fromDigits-suc, fromDigits-of}
+use Rattle.bit_counts.specs.Bits.{wordBits, bitsOf, digit, text, numberIn, numbersIn}
+
+pub length-wordBits : (n w : ℕ) → length (wordBits n w) ≡ n
+unfolding wordBits
+length-wordBits zero w = refl
+length-wordBits (suc n) w = ap suc (length-wordBits n w)
+
+pub length-bitsOf : (n : ℕ) (strip : List ℕ) → length (bitsOf n strip) ≡ n * length strip
+unfolding bitsOf
+length-bitsOf n [] = sym (mul-zero n)
+length-bitsOf n (w ∷ ws) =
+    length-append (wordBits n w) (bitsOf n ws) ∙ omega (arith, length-wordBits n w, length-bitsOf n ws, mul-suc n (length ws))
+
+pub bitsOf-append : (n : ℕ) (s t : List ℕ) → bitsOf n (s ++ t) ≡ bitsOf n s ++ bitsOf n t
+unfolding bitsOf
+bitsOf-append n [] t = refl
+bitsOf-append n (w ∷ ws) t = ap (λ (r : List ℕ). wordBits n w ++ r) (bitsOf-append n ws t) ∙ sym (append-assoc (wordBits n w) (bitsOf n ws) (bitsOf n t))
+
+-- entry i is bit n - 1 - i
+pub wordBits-at : (n w i : ℕ) → i < n → getD (wordBits n w) i 0 ≡ bit (n - 1 - i) w
+unfolding wordBits
+wordBits-at zero w i l = absurd (omega arith)
+wordBits-at (suc n) w zero l = ap (λ (j : ℕ). bit j w) (omega arith)
+wordBits-at (suc n) w (suc i) l = wordBits-at n w i (omega arith) ∙ ap (λ (j : ℕ). bit j w) (omega arith)
+
+-- ---- THE BITS READ BACK ARE THE WORDS
+
+word-back : (n w : ℕ) → numberIn (text (wordBits n w)) ≡ w % 2 ^ n
+unfolding wordBits numberIn
+word-back zero w = omega arith
+word-back (suc n) w =
+    let size : length (text (wordBits n w)) ≡ n = length-map (wordBits n w) digit ∙ length-wordBits n w in
+    let value : digit (bit n w) - 48 ≡ bit n w = omega arith in
+    ap₂ (λ (x y : ℕ). x + y) (ap₂ (λ (x y : ℕ). x * 2 ^ y) value size) (word-back n w ∙ sym (fromDigits-of 2 n w (omega arith)))
+    ∙ sym (fromDigits-suc 2 n (λ i. bit i w)) ∙ fromDigits-of 2 (suc n) w (omega arith)
+
+pub read-back : (n : ℕ) (strip rest : List ℕ) → ((k : ℕ) → k < length strip → getD strip k 0 < 2 ^ n)
+    → numbersIn n (length strip) (text (bitsOf n strip) ++ rest) ≡ strip
+unfolding bitsOf numbersIn
+read-back n [] rest h = refl
+read-back n (w ∷ ws) rest h =
+    let front = text (wordBits n w) in
+    let size : length front ≡ n = length-map (wordBits n w) digit ∙ length-wordBits n w in
+    let parts : text (wordBits n w ++ bitsOf n ws) ++ rest ≡ front ++ (text (bitsOf n ws) ++ rest)
+        = ap (λ (t : List ℕ). t ++ rest) (map-append digit (wordBits n w) (bitsOf n ws)) ∙ append-assoc front (text (bitsOf n ws)) rest in
+    ap₂ (λ (x : ℕ) (xs : List ℕ). x ∷ xs)
+    (ap numberIn (ap (take n) parts ∙ take-at front _ n size) ∙ word-back n w ∙ mod-eq-of-lt (h 0 (omega arith)))
+    (ap (numbersIn n (length ws)) (ap (drop n) parts ∙ drop-at front _ n size) ∙ read-back n ws rest (λ k l. h (suc k) (omega arith)))
