@@ -54,7 +54,7 @@ read-back n (w ∷ ws) rest h =
     let front = text (wordBits n w) in
     let size : length front ≡ n = length-map (wordBits n w) digit ∙ length-wordBits n w in
     let parts : text (wordBits n w ++ bitsOf n ws) ++ rest ≡ front ++ (text (bitsOf n ws) ++ rest)
-        = ap (λ (t : List ℕ). t ++ rest) (map-append digit (wordBits n w) (bitsOf n ws)) ∙ append-assoc front (text (bitsOf n ws)) rest in
+    = ap (λ (t : List ℕ). t ++ rest) (map-append digit (wordBits n w) (bitsOf n ws)) ∙ append-assoc front (text (bitsOf n ws)) rest in
     ap₂ (λ (x : ℕ) (xs : List ℕ). x ∷ xs)
     (ap numberIn (ap (take n) parts ∙ take-at front _ n size) ∙ word-back n w ∙ mod-eq-of-lt (h 0 (omega arith)))
     (ap (numbersIn n (length ws)) (ap (drop n) parts ∙ drop-at front _ n size) ∙ read-back n ws rest (λ k l. h (suc k) (omega arith)))

@@ -98,24 +98,24 @@ module _ (bits : List ℕ) where
       ap (λ (i : ℕ). meeting p (take (length bits - j) (reverse bits)) + meeting p (take i bits)) (sym others) ∙ meeting-back p bits (length bits - j) (omega arith)
 
   -- how far the total is above the lowest sum, and below the highest
-  abbrev fall : ℕ
+  abbrev pub fall : ℕ
   fall = natAbs (balance bits +ℤ pos (trough bits))
 
-  fall-is : fall + zeros bits ≡ ones bits + trough bits
+  pub fall-is : fall + zeros bits ≡ ones bits + trough bits
   fall-is =
       let t = trough bits in
       let s = difference-size (balance bits +ℤ pos t) (ones bits + t) (zeros bits + 0)
-          (difference-plus (balance bits) (pos t) (ones bits) (zeros bits) t 0 (balance-difference bits) (omega arith)) in
+      (difference-plus (balance bits) (pos t) (ones bits) (zeros bits) t 0 (balance-difference bits) (omega arith)) in
       omega (arith, s, ends .1)
 
-  abbrev rise : ℕ
+  abbrev pub rise : ℕ
   rise = natAbs (pos (peak bits) -ℤ balance bits)
 
-  rise-is : rise + ones bits ≡ peak bits + zeros bits
+  pub rise-is : rise + ones bits ≡ peak bits + zeros bits
   rise-is =
       let p = peak bits in
       let s = difference-size (pos p -ℤ balance bits) (p + zeros bits) (0 + ones bits)
-          (difference-minus (pos p) (balance bits) p 0 (ones bits) (zeros bits) (omega arith) (balance-difference bits)) in
+      (difference-minus (pos p) (balance bits) p 0 (ones bits) (zeros bits) (omega arith) (balance-difference bits)) in
       omega (arith, s, ends .0)
 
   -- the sum of the last bits
@@ -187,8 +187,8 @@ module _ (bits : List ℕ) (b : ℕ) where
   largest-next g =
       ap (λ (n : ℕ). largest n (λ k. g (runningSum more k))) more-length
       ∙ ap₂ max
-        (largest-ext (length bits) _ _ (λ k l. ap (λ (s : List ℕ). g (balance s)) (take-append-le k bits (b ∷ []) l)))
-        (ap (λ (s : List ℕ). g (balance s)) (take-all (suc (length bits)) more (omega (arith, more-length))))
+      (largest-ext (length bits) _ _ (λ k l. ap (λ (s : List ℕ). g (balance s)) (take-append-le k bits (b ∷ []) l)))
+      (ap (λ (s : List ℕ). g (balance s)) (take-all (suc (length bits)) more (omega (arith, more-length))))
 
   pub peak-next : peak more ≡ max (peak bits) (above (balance more))
   unfolding peak

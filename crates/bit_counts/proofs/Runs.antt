@@ -23,9 +23,9 @@ runs-next x b bits =
     let p : ℕ → Bool = λ k. not (eqb (getD (x ∷ more) k 0) (getD more k 0)) in
     let n : length more ≡ suc (length bits) = length-append bits (b ∷ []) ∙ omega arith in
     let before = count-ext (length bits) p (λ k. not (eqb (getD (x ∷ bits) k 0) (getD bits k 0)))
-        (λ k l. ap₂ (λ (y z : ℕ). not (eqb y z)) (List·getD-append (x ∷ bits) (b ∷ []) 0 k (omega arith)) (List·getD-append bits (b ∷ []) 0 k l)) in
+    (λ k l. ap₂ (λ (y z : ℕ). not (eqb y z)) (List·getD-append (x ∷ bits) (b ∷ []) 0 k (omega arith)) (List·getD-append bits (b ∷ []) 0 k l)) in
     let last : one (p (length bits)) ≡ one (not (eqb (getD (x ∷ bits) (length bits) 0) b))
-        = ap₂ (λ (y z : ℕ). one (not (eqb y z))) (List·getD-append (x ∷ bits) (b ∷ []) 0 (length bits) (omega arith)) (getD-append-seam bits b [] 0) in
+    = ap₂ (λ (y z : ℕ). one (not (eqb y z))) (List·getD-append (x ∷ bits) (b ∷ []) 0 (length bits) (omega arith)) (getD-append-seam bits b [] 0) in
     omega (arith, ap (λ (n : ℕ). count n p) n, count-next (length bits) p, before, last)
 
 -- there are no more runs than bits

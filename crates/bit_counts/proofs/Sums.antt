@@ -36,7 +36,7 @@ module _ (p : ℕ → Bool) where
       let a = take (length bits - k) bits in
       let b = drop (length bits - k) bits in
       let parts : reverse bits ≡ reverse b ++ reverse a
-          = ap reverse (sym (take-append-drop (length bits - k) bits)) ∙ reverseAux-append a b [] ∙ reverseAux-eq b (reverse a) in
+      = ap reverse (sym (take-append-drop (length bits - k) bits)) ∙ reverseAux-append a b [] ∙ reverseAux-eq b (reverse a) in
       let size : length (reverse b) ≡ k = length-reverse b ∙ length-drop (length bits - k) bits ∙ omega arith in
       let front : take k (reverse bits) ≡ reverse b = ap (take k) parts ∙ take-at (reverse b) (reverse a) k size in
       omega (

@@ -1,0 +1,2 @@
+-- What is kept while bits are counted.
+pub mod Tally
