@@ -9,14 +9,19 @@ use lib.ListN.{length, getD, drop}
 use Rattle.cycle.proofs.Every.{every-at}
 use Rattle.refusals.specs.Refusals.{firstOf, NoneApplies}
 use Rattle.refusals.proofs.Refusals.{first-left, first-right, first-both, none-first}
+use Rattle.tsc.specs.declared.Card.{Card}
+use Rattle.tsc.specs.Constants.{widestWidth}
+use Rattle.card_format.specs.declared.Reading.{Reading}
 use Rattle.card_format.specs.Reading.{cardOf}
-use Rattle.card_format.specs.Verdict.{cardChecks, verdict}
+use Rattle.card_format.specs.Verdict.{cardChecks, verdict, accepting}
+use Rattle.card_format.proofs.Verdict.{accepted-card, accepting-passed}
+use Rattle.bit_counts.specs.declared.Counts.{Counts}
 use Rattle.bit_counts.specs.declared.BitCounts.{BitCounts}
 use Rattle.bit_counts.specs.declared.BitCounts.the-variants.{Counted, Refused}
 use Rattle.bit_counts.specs.Bits.{bitsOf, text, numbersIn}
 use Rattle.bit_counts.specs.Counts.{countsOf}
 use Rattle.bit_counts.specs.Calls.{mostStripWords, stripChecks, stripBits, bitRefusal, countingBits, bitPage}
-use Rattle.bit_counts.proofs.Bits.{read-back}
+use Rattle.bit_counts.proofs.Bits.{length-bitsOf, read-back}
 
 -- a strip that is not refused, on a page with room
 pub record Fits (n : ℕ) (strip : List ℕ) (room : ℕ) : Type 0 where
@@ -52,22 +57,43 @@ module _ (bytes strip page : List ℕ) where
   unfolding countingBits bitPage
   bits-passed z = rw z (refl, refl)
 
-  -- refused by the card; by the strip; by neither
-  pub refused-card : (r : ℕ) → r ≡ verdict bytes → r ≢ 0 → Promised (Refused r) page
-  unfolding verdict bitRefusal
-  refused-card r e ne = bits-refused r ne (e ∙ sym (first-left (cardChecks bytes) (stripChecks (cardOf bytes .width) strip room) (λ z. ne (e ∙ z))))
+  -- from what is found of the card: refused by the card; by the strip; by neither
+  module _ (r : Reading) (e : r ≡ accepting bytes) where
+    found : r .refusal ≡ verdict bytes
+    unfolding accepting
+    found = ap (λ (r : Reading). r .refusal) e
 
-  module _ (z : verdict bytes ≡ 0) where
-    told : firstOf (stripChecks (cardOf bytes .width) strip room) ≡ bitRefusal bytes strip room
+    pub refused-card : r .refusal ≢ 0 → Promised (Refused (r .refusal)) page
     unfolding verdict bitRefusal
-    told = sym (first-right (cardChecks bytes) (stripChecks (cardOf bytes .width) strip room) z)
+    refused-card ne =
+        bits-refused (r .refusal) ne (found ∙ sym (first-left (cardChecks bytes) (stripChecks (cardOf bytes .width) strip room) (λ z. ne (found ∙ z))))
 
-    pub refused-strip : (r : ℕ) → r ≡ firstOf (stripChecks (cardOf bytes .width) strip room) → r ≢ 0 → Promised (Refused r) page
-    refused-strip r e ne = bits-refused r ne (e ∙ told)
+    module _ (z : r .refusal ≡ 0) where
+      accepted : (verdict bytes ≡ 0) × (r .card ≡ cardOf bytes)
+      accepted = accepting-passed bytes r e z
 
-    pub counted : firstOf (stripChecks (cardOf bytes .width) strip room) ≡ 0 → let bits = stripBits bytes strip in
-        Promised (Counted (countsOf bits)) (text bits ++ drop (length bits) page)
-    counted s = bits-passed (sym told ∙ s)
+      told : firstOf (stripChecks (r .card .width) strip room) ≡ bitRefusal bytes strip room
+      unfolding verdict bitRefusal
+      told =
+          ap (λ (c : Card). firstOf (stripChecks (c .width) strip room)) (accepted .1)
+          ∙ sym (first-right (cardChecks bytes) (stripChecks (cardOf bytes .width) strip room) (accepted .0))
+
+      pub refused-strip : (t : ℕ) → t ≡ firstOf (stripChecks (r .card .width) strip room) → t ≢ 0 → Promised (Refused t) page
+      refused-strip t te ne = bits-refused t ne (te ∙ told)
+
+      pub found-narrow : r .card .width ≤ widestWidth
+      found-narrow = rw (accepted .1) (accepted-card bytes (accepted .0) .narrow)
+
+      pub counted : firstOf (stripChecks (r .card .width) strip room) ≡ 0 → (v : Counts) (p : List ℕ) → let bits = bitsOf (r .card .width) strip in
+          v ≡ countsOf bits → p ≡ text bits ++ drop (r .card .width * length strip) page → Promised (Counted v) p
+      counted s v p ve pe =
+          let bits = bitsOf (r .card .width) strip in
+          let same = ap (λ (c : Card). bitsOf (c .width) strip) (accepted .1) in
+          let done = bits-passed (sym told ∙ s) in (
+            ap Counted (ve ∙ ap countsOf same) ∙ done .0,
+            pe ∙ ap (λ (n : ℕ). text bits ++ drop n page) (sym (length-bitsOf (r .card .width) strip))
+                ∙ ap (λ (b : List ℕ). text b ++ drop (length b) page) same ∙ done .1,
+          )
 
   -- THE BITS ON THE PAGE READ BACK ARE THE WORDS
   pub page-back : bitRefusal bytes strip room ≡ 0 → numbersIn (cardOf bytes .width) (length strip) (bitPage bytes strip page) ≡ strip

@@ -6,7 +6,7 @@ ghost use Rattle.tsc.specs.Constants.{mostWords};
 ghost use Rattle.refusals.specs.Refusals.{firstOf};
 ghost use Rattle.stepping.specs.State.{holding};
 ghost use Rattle.state_words.specs.Checks.{stateChecks};
-use card_fields::field;
+use card_fields::width;
 use tsc::MOST_WORDS;
 use tsc::State;
 
@@ -17,12 +17,8 @@ pub fn state_refusal(m: u8, n: u8, state: &[u32]) -> u8
     if state.len() != m as usize {
         return refusals::WORD_COUNT;
     }
-    let mut k = 0;
-    while k < state.len() {
-        if field::exceeds(state[k], n as u32) {
-            return refusals::WORD_TOO_WIDE;
-        }
-        k += 1;
+    if !width::all_fit(state, n as u32) {
+        return refusals::WORD_TOO_WIDE;
     }
     0
 }

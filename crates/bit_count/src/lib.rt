@@ -1,0 +1,2 @@
+// Bits of a strip of words counted for callers. What is answered is defined in crate bit_counts.
+pub mod call;
