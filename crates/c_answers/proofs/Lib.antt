@@ -2,4 +2,5 @@
 pub mod Given
 pub mod Refused
 pub mod Records
+pub mod Counts
 pub mod RoundTrip

@@ -84,3 +84,13 @@ pub struct OrderAnswer {
     pub shovel: u16,
     pub refusal: u8,
 }
+
+// What a count of bits answers, tiedraw_bit_counts: 0 and the four integers, or the refusal and zeros.
+#[repr(C)]
+pub struct BitCountsAnswer {
+    pub balance: i32,
+    pub forward: u32,
+    pub backward: u32,
+    pub runs: u32,
+    pub refusal: u8,
+}

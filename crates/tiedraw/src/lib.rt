@@ -11,9 +11,12 @@ ghost use Rattle.fills.specs.Fills.{fillRefusal, filled, filledState};
 ghost use Rattle.picks.specs.Picks.{picking, picked};
 ghost use Rattle.c_answers.specs.Answers.{drawn, choice, IsMarginAnswer, readCard, given, writtenFrom, pageFrom};
 ghost use Rattle.c_answers.specs.Records.{readRecord, toldTo};
+ghost use Rattle.c_answers.specs.Counts.{countedFor};
+ghost use Rattle.bit_counts.specs.Calls.{bitPage};
 ghost use Rattle.records.specs.Orders.{SameOrder};
 ghost use Rattle.recorded_picks.specs.Recorded.{recordedPicking, recordedState, recordedPage};
 ghost use Rattle.version.specs.Version.{versionNumber};
+use c_answers::BitCountsAnswer;
 use c_answers::CardReading;
 use c_answers::Choice;
 use c_answers::DrawnWord;
@@ -21,6 +24,7 @@ use c_answers::MarginAnswer;
 use c_answers::OrderAnswer;
 use c_answers::RecordAnswer;
 use c_answers::WrittenLength;
+use c_counts::counted;
 use c_records::recorded;
 use c_structs::answer;
 use c_structs::nearest;
@@ -163,6 +167,15 @@ pub extern "C" fn tiedraw_margin(
     ensures { λ r. ⌜ IsMarginAnswer (now (card .entry)) (now (state .entry)) (now (shovels .entry)) (now (times .entry)) r ⌝ }
 {
     nearest::margin_of(margin::call::margin(card, state, shovels, times))
+}
+
+// The bits of the strip at the front of the page, as text, and what the NIST tests count of them; or refusal 1 to 9 or 22 to 24 and zeros.
+#[no_mangle]
+pub extern "C" fn tiedraw_count_bits(card: &[u8], strip: &[u32], page: &mut [u8]) -> BitCountsAnswer
+    ensures answer { λ r. ⌜ r ≡ countedFor (now (card .entry)) (now (strip .entry)) (length (now (page .entry))) ⌝ }
+    ensures page { λ r. ⌜ now (page .exit) ≡ bitPage (now (card .entry)) (now (strip .entry)) (now (page .entry)) ⌝ }
+{
+    counted::counts_of(bit_count::call::bit_counts(card, strip, page))
 }
 
 // The length of the card written, or refusal 2, 6 to 9 or 16. A table longer than the array is refused by 2, and a shorter one counts as followed by zeros.
