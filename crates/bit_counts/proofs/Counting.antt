@@ -2,10 +2,12 @@
 use mathlib.Core.Path.{_≡_, refl, sym, ap, _∙_}
 use mathlib.Core.Logic.{_≢_}
 use mathlib.Core.List.{List, _++_}
-use Prim.Native.Nat.{ℕ, _*_, _^_, _≤_, _<_}
+use Prim.Native.Nat.{ℕ, _+_, _-_, _*_, _^_, _≤_, _<_}
 use borrow.Author.Tests.{ne-eqb, ltb-true, ltb-false, not-false}
 use lib.Dec.{ltb}
 use lib.ListN.{length, getD, drop}
+use lib.Seq.{drop-at}
+use Rattle.cycle.specs.Notation.{bit}
 use Rattle.cycle.proofs.Every.{every-at}
 use Rattle.refusals.specs.Refusals.{firstOf, NoneApplies}
 use Rattle.refusals.proofs.Refusals.{first-left, first-right, first-both, none-first}
@@ -18,10 +20,10 @@ use Rattle.card_format.proofs.Verdict.{accepted-card, accepting-passed}
 use Rattle.bit_counts.specs.declared.Counts.{Counts}
 use Rattle.bit_counts.specs.declared.BitCounts.{BitCounts}
 use Rattle.bit_counts.specs.declared.BitCounts.the-variants.{Counted, Refused}
-use Rattle.bit_counts.specs.Bits.{bitsOf, text, numbersIn}
+use Rattle.bit_counts.specs.Bits.{bitsOf, digit, text, numbersIn}
 use Rattle.bit_counts.specs.Counts.{countsOf}
 use Rattle.bit_counts.specs.Calls.{mostStripWords, stripChecks, stripBits, bitRefusal, countingBits, bitPage}
-use Rattle.bit_counts.proofs.Bits.{length-bitsOf, read-back}
+use Rattle.bit_counts.proofs.Bits.{length-bitsOf, length-text, digit-on, read-back}
 
 -- a strip that is not refused, on a page with room
 pub record Fits (n : ℕ) (strip : List ℕ) (room : ℕ) : Type 0 where
@@ -95,10 +97,27 @@ module _ (bytes strip page : List ℕ) where
                 ∙ ap (λ (b : List ℕ). text b ++ drop (length b) page) same ∙ done .1,
           )
 
-  -- THE BITS ON THE PAGE READ BACK ARE THE WORDS
-  pub page-back : bitRefusal bytes strip room ≡ 0 → numbersIn (cardOf bytes .width) (length strip) (bitPage bytes strip page) ≡ strip
-  unfolding bitRefusal
-  page-back z =
-      let n = cardOf bytes .width in
-      let fits = strip-fits n strip room (first-both (cardChecks bytes) (stripChecks n strip room) z .1) in
-      ap (numbersIn n (length strip)) (sym (bits-passed z .1)) ∙ read-back n strip (drop (length (stripBits bytes strip)) page) (fits .narrow)
+  -- on a page that is not refused
+  module _ (z : bitRefusal bytes strip room ≡ 0) where
+    abbrev n : ℕ
+    n = cardOf bytes .width
+
+    fits : Fits n strip room
+    unfolding bitRefusal
+    fits = strip-fits n strip room (first-both (cardChecks bytes) (stripChecks n strip room) z .1)
+
+    page-is : bitPage bytes strip page ≡ text (stripBits bytes strip) ++ drop (n * length strip) page
+    page-is = sym (bits-passed z .1) ∙ ap (λ (m : ℕ). text (stripBits bytes strip) ++ drop m page) (length-bitsOf n strip)
+
+    -- EACH WORD'S TOP BIT FIRST
+    pub page-digits : (k i : ℕ) → k < length strip → i < n → getD (bitPage bytes strip page) (n * k + i) 0 ≡ digit (bit (n - 1 - i) (getD strip k 0))
+    page-digits k i l h = ap (λ (p : List ℕ). getD p (n * k + i) 0) page-is ∙ digit-on n strip (drop (n * length strip) page) k i l h
+
+    -- THE BITS ON THE PAGE READ BACK ARE THE WORDS, and bytes past them are untouched
+    pub page-back : numbersIn n (length strip) (bitPage bytes strip page) ≡ strip
+    page-back = ap (numbersIn n (length strip)) page-is ∙ read-back n strip (drop (n * length strip) page) (fits .narrow)
+
+    pub page-rest : drop (n * length strip) (bitPage bytes strip page) ≡ drop (n * length strip) page
+    page-rest =
+        ap (drop (n * length strip)) page-is
+        ∙ drop-at (text (stripBits bytes strip)) _ (n * length strip) (length-text (stripBits bytes strip) ∙ length-bitsOf n strip)

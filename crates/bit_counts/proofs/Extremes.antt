@@ -173,6 +173,15 @@ pub backward-bounds : (bits : List ℕ) → (natAbs (balance bits) ≤ furthest 
 backward-bounds bits =
     (omega (arith, ap natAbs (balance-back bits), forward-lower (reverse bits)), omega (arith, length-reverse bits, forward-upper (reverse bits)))
 
+-- each sum is as near to zero as that, and one is as far
+pub furthest-is : (bits : List ℕ) → ((k : ℕ) → k ≤ length bits → natAbs (runningSum bits k) ≤ furthest bits)
+    × ((k : ℕ) × (k ≤ length bits) × (natAbs (runningSum bits k) ≡ furthest bits))
+unfolding furthest
+furthest-is bits =
+    let f : ℕ → ℕ = λ k. natAbs (runningSum bits k) in
+    let r = largest-at (length bits) f in
+    (largest-ge (length bits) f, (r .0, r .1, sym (r .2)))
+
 -- ---- a bit more
 
 module _ (bits : List ℕ) (b : ℕ) where

@@ -5,12 +5,12 @@ use Prim.Native.Nat.{ℕ, zero, suc, _+_, _-_, _*_, _≤_, _<_}
 use native.Mathlib.Nat.{mul-zero, mul-suc, mul-le-mul-left}
 use native.Mathlib.Numerals.{add-one}
 use native.Mathlib.Omega.{arith}
-use lib.ListN.{length, getD, take, drop, length-map}
+use lib.ListN.{length, getD, take, drop}
 use lib.Seq.{take-suc, drop-cons, drop-length, length-take-le}
 use Rattle.cycle.specs.Notation.{All, bit}
 use Rattle.cycle.proofs.Bits.{bit-lt}
 use Rattle.bit_counts.specs.Bits.{wordBits, bitsOf, digit, text}
-use Rattle.bit_counts.proofs.Bits.{length-wordBits, length-bitsOf, bitsOf-append, wordBits-at}
+use Rattle.bit_counts.proofs.Bits.{length-wordBits, length-bitsOf, bitsOf-append, wordBits-at, length-text, text-at}
 use Rattle.bit_tally.specs.declared.tally.Tally.{Tally}
 use Rattle.bit_tally.specs.Tally.{withBit, tallied}
 
@@ -30,14 +30,6 @@ strip-bits n [] = tt
 strip-bits n (w ∷ ws) = all-append (wordBits n w) (bitsOf n ws) (word-bits n w) (strip-bits n ws)
 
 -- ---- a word
-
-pub length-text : (bits : List ℕ) → length (text bits) ≡ length bits
-length-text bits = length-map bits digit
-
-text-at : (bits : List ℕ) (i : ℕ) → i < length bits → getD (text bits) i 0 ≡ digit (getD bits i 0)
-text-at [] i l = absurd (omega arith)
-text-at (b ∷ bs) zero l = refl
-text-at (b ∷ bs) (suc i) l = text-at bs i (omega arith)
 
 -- with `left` bits to go, the next one is bit left - 1
 pub digit-at : (n w left i : ℕ) → 0 < left → i + left ≡ n → digit (bit (left - 1) w) ≡ getD (text (wordBits n w)) i 0

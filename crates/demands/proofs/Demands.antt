@@ -56,7 +56,13 @@ use Rattle.records.specs.Writing.{recordedOn}
 use Rattle.recorded_picks.specs.Recorded.{recordedRefusal, recordedPicking, recordedState, recordLeft, recordedPage}
 use Rattle.recorded_picks.proofs.Order.{recorded-order, page-order, standby-records, standby-pages}
 use Rattle.recorded_picks.proofs.Desk.{page-left, page-kept, record-read, record-replayed}
-use Rattle.demands.specs.Demands.{ByTable, nothing, AnsweredOrRefused, Ready, Published, Undone, SameBytes, SameLots, AcceptedIffCovers, FilledAsDrawn, FairRanks, NearestChange, UpToEightWords, NoEarlyRepeat, CabAndDesk, Demands}
+use Rattle.bit_counts.specs.Calls.{bitRefusal, countingBits, bitPage}
+use Rattle.bit_counts.proofs.Sums.{balance-parity, balance-bound}
+use Rattle.bit_counts.proofs.Extremes.{forward-extremes, backward-extremes, furthest-is, forward-bounds, backward-bounds}
+use Rattle.bit_counts.proofs.Runs.{runs-bound}
+use Rattle.bit_counts.proofs.Counting.{page-digits, page-back, page-rest}
+use Rattle.bit_counts.proofs.Examples.{examples-hold, no-bits}
+use Rattle.demands.specs.Demands.{ByTable, nothing, AnsweredOrRefused, Ready, Published, Undone, SameBytes, SameLots, AcceptedIffCovers, FilledAsDrawn, FairRanks, NearestChange, UpToEightWords, NoEarlyRepeat, CabAndDesk, BitsCounted, Demands}
 
 -- ---- demand 1
 
@@ -76,7 +82,7 @@ by-table : {A : Type 0} {refused : ℕ → A} {checks : List Check} {lent : List
 by-table {refused} {lent} {good} = by-first (λ b r. (cond b (good .0) (refused r), cond b (good .1) lent)) (λ r. refl)
 
 pub answered-or-refused : AnsweredOrRefused
-unfolding verdict reading writing pageAfter rewriting pageRewritten refusalFor stepped steppedBack drawing fillRefusal filled filledState pickRefusal picking picked recordedRefusal recordedPicking recordedState recordedPage readingRecord orderFor
+unfolding verdict reading writing pageAfter rewriting pageRewritten refusalFor stepped steppedBack drawing fillRefusal filled filledState pickRefusal picking picked recordedRefusal recordedPicking recordedState recordedPage readingRecord orderFor bitRefusal countingBits bitPage
 answered-or-refused =
     record {
       ofCheck = λ bytes. by-first (λ b r. (r, nothing)) (λ r. refl);
@@ -94,6 +100,7 @@ answered-or-refused =
           by-first (λ b r. (answer b r, (cond b (picked bytes xs shovels times) xs, recordedOn (recordLeft truck xs (answer b r)) page))) (λ r. refl);
       ofReadRecord = λ bytes. by-first (λ b r. (record { refusal = r; values = cond b (recordOf bytes) noRecord }, nothing)) (λ r. refl);
       ofOrder = λ truck bytes. by-first (λ b r. (cond b (Order.Shovel (recordOf bytes .shovel)) (Order.Refused r), nothing)) (λ r. refl);
+      ofBitCounts = λ bytes strip page. by-table;
       ofMargin = λ bytes xs shovels times m h n. margin-refused bytes xs shovels times n m .0 h;
     }
 
@@ -267,6 +274,26 @@ cab-and-desk =
       written = λ r f. (encoded-whole r f, encoded-back r f);
     }
 
+-- ---- document 02, Eight
+
+pub bits-counted : BitsCounted
+unfolding bitRefusal
+bits-counted =
+    record {
+      topBitFirst = λ bytes strip page n. page-digits bytes strip page (first-none _ n);
+      readBack = λ bytes strip page n. page-back bytes strip page (first-none _ n);
+      untouched = λ bytes strip page n. page-rest bytes strip page (first-none _ n);
+      examples = examples-hold;
+      none = no-bits;
+      furthestSum = furthest-is;
+      parity = balance-parity;
+      bound = balance-bound;
+      forward = forward-bounds;
+      backward = backward-bounds;
+      fewRuns = runs-bound;
+      onePass = λ bits. (forward-extremes bits, backward-extremes bits);
+    }
+
 -- ---- the whole
 
 pub demands : Demands
@@ -284,4 +311,5 @@ demands =
       requestFive = up-to-eight-words;
       requestSix = no-early-repeat;
       requestSeven = cab-and-desk;
+      requestEight = bits-counted;
     }

@@ -3,9 +3,10 @@
 use mathlib.Core.Path.{_≡_}
 use mathlib.Core.Logic.{_↔_, _≢_}
 use mathlib.Core.Bool.{true, false}
-use mathlib.Core.List.{List, [], _∷_, _++_}
-use Prim.Native.Nat.{ℕ, suc, _+_, _-_, _*_, _/_, _%_, _^_, _≤_, _<_}
+use mathlib.Core.List.{List, [], _∷_, _++_, reverse}
+use Prim.Native.Nat.{ℕ, suc, _+_, _-_, _*_, _/_, _%_, _^_, _≤_, _<_, max}
 use lib.Dec.{eqb}
+use lib.IntN.{pos, natAbs, _+ℤ_, _-ℤ_}
 use lib.ListN.{length, getD, take, drop}
 use Rattle.refusals.specs.Refusals.{noSuchChange, Check, firstOf, NoneApplies}
 use Rattle.cycle.specs.Notation.{count, All, iterate, bit}
@@ -50,6 +51,11 @@ use Rattle.records.specs.Reading.{isWhole, Whole, recordChecks, recordOf, noRec
 use Rattle.records.specs.Writing.{stateOf, encoded, Fits, fullRecord, recordedOn}
 use Rattle.records.specs.Orders.{orderChecks, orderFor, heard, SameOrder}
 use Rattle.recorded_picks.specs.Recorded.{Halves, recordedChecks, recordedPicking, recordedState, recordLeft, recordedPage}
+use Rattle.bit_counts.specs.declared.BitCounts.the-variants as BitCounts
+use Rattle.bit_counts.specs.Bits.{text, numbersIn}
+use Rattle.bit_counts.specs.Counts.{balance, runningSum, furthest, runs, countsOf, peak, trough}
+use Rattle.bit_counts.specs.Calls.{stripBits, bitChecks, countingBits, bitPage}
+use Rattle.bit_counts.specs.Examples.{ExamplesHold}
 use Rattle.recorded_picks.specs.Shift.{Dispatch, pagesLent, outcomes, endState, pagesAfter, AlikeDispatches}
 
 -- ---- demand 1: whatever card, state, page or shovel list is handed over, the call ends with an answer or the paper's refusal number, and a refusal leaves
@@ -94,6 +100,9 @@ pub record AnsweredOrRefused : Type 0 where
       (record { refusal = 0; values = recordOf bytes }, nothing) (readingRecord bytes, nothing)
   pub ofOrder : (truck : ℕ) (bytes : List ℕ) →
       ByTable Order.Refused (orderChecks truck bytes) nothing (Order.Shovel (recordOf bytes .shovel), nothing) (orderFor truck bytes, nothing)
+  pub ofBitCounts : (bytes strip page : List ℕ) → let bits = stripBits bytes strip in
+      ByTable BitCounts.Refused (bitChecks bytes strip (length page)) page
+      (BitCounts.Counted (countsOf bits), text bits ++ drop (length bits) page) (countingBits bytes strip (length page), bitPage bytes strip page)
   -- a margin is refused as the pick is; where it is not, document 02, Four, below
   pub ofMargin : (bytes xs shovels times : List ℕ) (m : Margin) → IsMargin bytes xs shovels times m → let r = firstOf (pickChecks bytes xs shovels times) in
       r ≢ 0 → m ≡ Margin.Refused r
@@ -292,6 +301,35 @@ pub record CabAndDesk : Type 0 where
   pub unique : (a b : List ℕ) → Bytes a → Bytes b → Whole a → Whole b → recordOf a ≡ recordOf b → a ≡ b
   pub written : (r : Record) → Fits r → Whole (encoded r) × (recordOf (encoded r) ≡ r)
 
+-- ---- document 02, Eight: the words of a strip as ASCII 0 and 1, each word's top bit first, n bits a word, and four integers: ones minus zeros with its sign; the
+-- largest distance from zero of the running sum, read forward and read backward; the number of runs. All four are 0 for no bits. Page bytes past the last bit
+-- are untouched
+
+pub record BitsCounted : Type 0 where
+  -- bit n - 1 - i of word k stands at place n k + i
+  pub topBitFirst : (bytes strip page : List ℕ) → NoneApplies (bitChecks bytes strip (length page)) → let n = cardOf bytes .width in
+      (k i : ℕ) → k < length strip → i < n → getD (bitPage bytes strip page) (n * k + i) 0 ≡ 48 + bit (n - 1 - i) (getD strip k 0)
+  -- the bits on the page read back are the words
+  pub readBack : (bytes strip page : List ℕ) → NoneApplies (bitChecks bytes strip (length page))
+      → numbersIn (cardOf bytes .width) (length strip) (bitPage bytes strip page) ≡ strip
+  pub untouched : (bytes strip page : List ℕ) → NoneApplies (bitChecks bytes strip (length page)) → let n = cardOf bytes .width * length strip in
+      drop n (bitPage bytes strip page) ≡ drop n page
+  -- the standard's worked examples, and no bits
+  pub examples : ExamplesHold
+  pub none : countsOf [] ≡ record { balance = pos 0; forward = 0; backward = 0; runs = 0 }
+  -- no running sum is further from zero than is told, and one is as far; backward, of the bits reversed
+  pub furthestSum : (bits : List ℕ) → ((k : ℕ) → k ≤ length bits → natAbs (runningSum bits k) ≤ furthest bits)
+      × ((k : ℕ) × (k ≤ length bits) × (natAbs (runningSum bits k) ≡ furthest bits))
+  -- the integers agree with each other and with the number of bits
+  pub parity : (bits : List ℕ) → natAbs (balance bits) % 2 ≡ length bits % 2
+  pub bound : (bits : List ℕ) → natAbs (balance bits) ≤ length bits
+  pub forward : (bits : List ℕ) → (natAbs (balance bits) ≤ furthest bits) × (furthest bits ≤ length bits)
+  pub backward : (bits : List ℕ) → (natAbs (balance bits) ≤ furthest (reverse bits)) × (furthest (reverse bits) ≤ length bits)
+  pub fewRuns : (bits : List ℕ) → runs bits ≤ length bits
+  -- one pass suffices: both distances follow from the total and from how far the running sum, read forward, comes above zero and below
+  pub onePass : (bits : List ℕ) → (furthest bits ≡ max (peak bits) (trough bits))
+      × (furthest (reverse bits) ≡ max (natAbs (balance bits +ℤ pos (trough bits))) (natAbs (pos (peak bits) -ℤ balance bits)))
+
 -- ---- the whole
 
 pub record Demands : Type 0 where
@@ -307,3 +345,4 @@ pub record Demands : Type 0 where
   pub requestFive : UpToEightWords
   pub requestSix : NoEarlyRepeat
   pub requestSeven : CabAndDesk
+  pub requestEight : BitsCounted

@@ -8,11 +8,11 @@ use Rattle.tsc.specs.Constants.{widestWidth}
 use Rattle.cycle.proofs.Bits.{bit-lt}
 use Rattle.card_format.proofs.Lists.{over, over-suc, length-over}
 use Rattle.bit_counts.specs.Bits.{wordBits, digit, text}
-use Rattle.bit_counts.proofs.Bits.{length-wordBits}
+use Rattle.bit_counts.proofs.Bits.{length-wordBits, length-text}
 use Rattle.bit_tally.specs.declared.tally.Tally.{Tally}
 use Rattle.bit_tally.specs.Tally.{withBit, tallied, HasRoom}
 use Rattle.bit_tally.proofs.Room.{room-bit, room-less}
-use Rattle.bit_tally.proofs.Text.{length-text, digit-at, bit-next, no-bits}
+use Rattle.bit_tally.proofs.Text.{digit-at, bit-next, no-bits}
 use Rattle.bit_tally.proofs.count.put_word.Statement.{statement}
 use Rattle.bit_tally.proofs.count.put_word.Tie as tie
 

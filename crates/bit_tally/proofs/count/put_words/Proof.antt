@@ -9,11 +9,11 @@ use Rattle.tsc.specs.Constants.{widestWidth}
 use Rattle.card_format.proofs.Lists.{part-rest, put-next, length-front}
 use Rattle.bit_counts.specs.Bits.{wordBits, bitsOf, text}
 use Rattle.bit_counts.specs.Calls.{mostStripWords}
-use Rattle.bit_counts.proofs.Bits.{length-wordBits, length-bitsOf}
+use Rattle.bit_counts.proofs.Bits.{length-wordBits, length-text}
 use Rattle.bit_tally.specs.declared.tally.Tally.{Tally}
 use Rattle.bit_tally.specs.Tally.{base, noBits, tallied, HasRoom}
 use Rattle.bit_tally.proofs.Room.{few-bits, room-bits, room-less, room-first}
-use Rattle.bit_tally.proofs.Text.{word-bits, length-text, word-next, text-next, length-words, no-words, all-counted, place-next, place-room, places-left}
+use Rattle.bit_tally.proofs.Text.{word-bits, word-next, text-next, length-words, no-words, all-counted, place-next, place-room, places-left}
 use Rattle.bit_tally.proofs.count.put_words.Statement.{statement}
 use Rattle.bit_tally.proofs.count.put_words.Tie as tie
 
