@@ -13,7 +13,7 @@ use Rattle.bit_counts.specs.Bits.{wordBits, bitsOf, digit, text, numberI
 pub length-wordBits : (n w : ℕ) → length (wordBits n w) ≡ n
 unfolding wordBits
 length-wordBits zero w = refl
-length-wordBits (suc n) w = ap suc (length-wordBits n w)
+length-wordBits (suc n) w = ap suc (length-wordBits n _)
 
 pub length-bitsOf : (n : ℕ) (strip : List ℕ) → length (bitsOf n strip) ≡ n * length strip
 unfolding bitsOf

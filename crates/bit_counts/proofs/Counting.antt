@@ -2,44 +2,28 @@
 use mathlib.Core.Path.{_≡_, refl, sym, ap, _∙_}
 use mathlib.Core.Logic.{_≢_}
 use mathlib.Core.List.{List, _++_}
-use Prim.Native.Nat.{ℕ, _+_, _-_, _*_, _^_, _≤_, _<_}
-use borrow.Author.Tests.{ne-eqb, ltb-true, ltb-false, not-false}
-use lib.Dec.{ltb}
+use Prim.Native.Nat.{ℕ, _+_, _-_, _*_, _≤_, _<_}
+use borrow.Author.Tests.{ne-eqb}
 use lib.ListN.{length, getD, drop}
 use lib.Seq.{drop-at}
 use Rattle.cycle.specs.Notation.{bit}
-use Rattle.cycle.proofs.Every.{every-at}
-use Rattle.refusals.specs.Refusals.{firstOf, NoneApplies}
-use Rattle.refusals.proofs.Refusals.{first-left, first-right, first-both, none-first}
+use Rattle.refusals.specs.Refusals.{firstOf}
+use Rattle.refusals.proofs.Refusals.{first-left, first-right, first-both}
 use Rattle.tsc.specs.declared.Card.{Card}
 use Rattle.tsc.specs.Constants.{widestWidth}
 use Rattle.card_format.specs.declared.Reading.{Reading}
 use Rattle.card_format.specs.Reading.{cardOf}
 use Rattle.card_format.specs.Verdict.{cardChecks, verdict, accepting}
 use Rattle.card_format.proofs.Verdict.{accepted-card, accepting-passed}
+use Rattle.bit_strip.specs.Strip.{stripChecks}
+use Rattle.bit_strip.proofs.Strip.{Fits, strip-fits}
 use Rattle.bit_counts.specs.declared.Counts.{Counts}
 use Rattle.bit_counts.specs.declared.BitCounts.{BitCounts}
 use Rattle.bit_counts.specs.declared.BitCounts.the-variants.{Counted, Refused}
 use Rattle.bit_counts.specs.Bits.{bitsOf, digit, text, numbersIn}
 use Rattle.bit_counts.specs.Counts.{countsOf}
-use Rattle.bit_counts.specs.Calls.{mostStripWords, stripChecks, stripBits, bitRefusal, countingBits, bitPage}
+use Rattle.bit_counts.specs.Calls.{stripBits, bitRefusal, countingBits, bitPage}
 use Rattle.bit_counts.proofs.Bits.{length-bitsOf, length-text, digit-on, read-back}
-
--- a strip that is not refused, on a page with room
-pub record Fits (n : ℕ) (strip : List ℕ) (room : ℕ) : Type 0 where
-  pub short : length strip ≤ mostStripWords
-  pub narrow : (k : ℕ) → k < length strip → getD strip k 0 < 2 ^ n
-  pub enough : n * length strip ≤ room
-
-pub strip-fits : (n : ℕ) (strip : List ℕ) (room : ℕ) → firstOf (stripChecks n strip room) ≡ 0 → Fits n strip room
-unfolding stripChecks NoneApplies
-strip-fits n strip room z =
-    let h = none-first (stripChecks n strip room) z in
-    record {
-      short = ltb-false mostStripWords (length strip) (h .0);
-      narrow = λ k l. ltb-true _ _ (every-at (length strip) (λ k. ltb (getD strip k 0) (2 ^ n)) (not-false _ (h .1 .0)) k l);
-      enough = ltb-false room (n * length strip) (h .1 .1 .0);
-    }
 
 module _ (bytes strip page : List ℕ) where
   abbrev room : ℕ

@@ -9,7 +9,7 @@ use Rattle.bit_counts.specs.Examples.{examples, ExamplesHold}
 
 pub examples-hold : ExamplesHold
 unfolding examples sum count wordBits bitsOf balance largest furthest runs countsOf
-examples-hold = (refl, (refl, (refl, tt)))
+examples-hold = (refl, (refl, (refl, (refl, tt))))
 
 -- all four are 0 for no bits
 pub no-bits : countsOf [] ≡ record { balance = pos 0; forward = 0; backward = 0; runs = 0 }

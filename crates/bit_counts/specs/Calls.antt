@@ -1,29 +1,17 @@
 -- What a count of bits answers and leaves on the page (document 02, Eight), for any bytes, words and page.
-use mathlib.Core.Bool.{not, cond}
-use mathlib.Core.List.{List, [], _∷_, _++_}
-use Prim.Native.Nat.{ℕ, _*_, _^_}
-use lib.Dec.{eqb, ltb}
-use lib.ListN.{length, getD, drop}
-use Rattle.cycle.specs.Notation.{every}
-use Rattle.refusals.specs.Refusals.{Check, check, firstOf, stripTooLong, stripWordTooWide, bitPageTooSmall}
+use mathlib.Core.Bool.{cond}
+use mathlib.Core.List.{List, _++_}
+use Prim.Native.Nat.{ℕ}
+use lib.Dec.{eqb}
+use lib.ListN.{length, drop}
+use Rattle.refusals.specs.Refusals.{Check, firstOf}
 use Rattle.card_format.specs.Reading.{cardOf}
 use Rattle.card_format.specs.Verdict.{cardChecks}
+use Rattle.bit_strip.specs.Strip.{stripChecks}
 use Rattle.bit_counts.specs.declared.BitCounts.{BitCounts}
 use Rattle.bit_counts.specs.declared.BitCounts.the-variants.{Counted, Refused}
 use Rattle.bit_counts.specs.Bits.{bitsOf, text}
 use Rattle.bit_counts.specs.Counts.{countsOf}
-
--- the most words of a strip
-abbrev pub mostStripWords : ℕ
-mostStripWords = 16384
-
--- conditions 22 to 24 of a strip and a page of `room` bytes: too many words; a word of 2^n or more; fewer than n bytes for each word
-unfoldable pub stripChecks : ℕ → List ℕ → ℕ → List Check
-stripChecks n strip room =
-    check stripTooLong (ltb mostStripWords (length strip))
-    ∷ check stripWordTooWide (not (every (length strip) (λ k. ltb (getD strip k 0) (2 ^ n))))
-    ∷ check bitPageTooSmall (ltb room (n * length strip))
-    ∷ []
 
 module _ (bytes strip : List ℕ) where
   -- the bits of the strip, by the card's width

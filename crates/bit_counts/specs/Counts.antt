@@ -21,6 +21,11 @@ balance (b ∷ bs) = sign b +ℤ balance bs
 abbrev pub runningSum : List ℕ → ℕ → ℤ
 runningSum bits k = balance (take k bits)
 
+-- how far a sum is above zero
+abbrev pub above : ℤ → ℕ
+above (pos n) = n
+above (negsuc n) = 0
+
 -- the largest of f 0, f 1, .., f n
 unfoldable pub largest : ℕ → (ℕ → ℕ) → ℕ
 largest zero f = f 0
@@ -39,11 +44,7 @@ runs (b ∷ bs) = 1 + count (length bs) (λ k. not (eqb (getD (b ∷ bs) k 0) (g
 unfoldable pub countsOf : List ℕ → Counts
 countsOf bits = record { balance = balance bits; forward = furthest bits; backward = furthest (reverse bits); runs = runs bits }
 
--- ---- what one pass finds: how far the running sum comes above zero, and how far below
-
-abbrev pub above : ℤ → ℕ
-above (pos n) = n
-above (negsuc n) = 0
+-- ---- what one pass finds: how far the running sum comes above zero, and below
 
 unfoldable pub peak : List ℕ → ℕ
 peak bits = largest (length bits) (λ k. above (runningSum bits k))

@@ -1,7 +1,7 @@
 // What is refused of a strip and the page for its bits.
 ghost use mathlib.Core.Path.{_≡_};
 ghost use Rattle.refusals.specs.Refusals.{firstOf};
-ghost use Rattle.bit_counts.specs.Calls.{stripChecks};
+ghost use Rattle.bit_strip.specs.Strip.{stripChecks};
 use card_fields::width;
 
 // The most words of a strip.

@@ -1,2 +1,2 @@
-// Strips of words whose bits are to be counted: refusals 22 to 24. When they are told is defined in crate bit_counts.
+// Strips of words whose bits are to be counted: refusals 22 to 24. When they are told is defined in specs/.
 pub mod check;

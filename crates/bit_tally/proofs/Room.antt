@@ -10,7 +10,7 @@ use lib.ListN.{length}
 use Rattle.cycle.specs.Notation.{All, one}
 use Rattle.cycle.proofs.Count.{one-le}
 use Rattle.tsc.specs.Constants.{widestWidth}
-use Rattle.bit_counts.specs.Calls.{mostStripWords}
+use Rattle.bit_strip.specs.Strip.{mostStripWords}
 use Rattle.bit_tally.specs.declared.tally.Tally.{Tally}
 use Rattle.bit_tally.specs.Tally.{base, noBits, withBit, tallied, HasRoom}
 

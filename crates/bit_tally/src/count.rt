@@ -6,7 +6,7 @@ ghost use lib.ListN.{length, drop};
 ghost use Rattle.tsc.specs.Constants.{widestWidth};
 ghost use Rattle.bit_counts.specs.Bits.{wordBits, bitsOf, digit, text};
 ghost use Rattle.bit_counts.specs.Counts.{countsOf};
-ghost use Rattle.bit_counts.specs.Calls.{mostStripWords};
+ghost use Rattle.bit_strip.specs.Strip.{mostStripWords};
 ghost use Rattle.bit_tally.specs.Tally.{noBits, tallied, HasRoom};
 use super::tally;
 use super::tally::Tally;
@@ -29,11 +29,11 @@ fn put_word(t: Tally, word: u32, n: u32, part: &mut [u8]) -> Tally
 {
     let mut tally = t;
     let mut left = n;
-    let mut i = 0;
+    let mut i: u32 = 0;
     while 0 < left {
         left -= 1;
         let bit = mask::bit_of(word, left);
-        part[i] = digit_of(bit);
+        part[i as usize] = digit_of(bit);
         tally = tally::with_bit(tally, bit);
         i += 1;
     }

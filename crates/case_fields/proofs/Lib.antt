@@ -1,2 +1,2 @@
-mod Parts
+pub mod Parts
 mod Folds

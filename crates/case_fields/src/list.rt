@@ -53,7 +53,8 @@ pub fn with_number(list: Numbers, value: u64, most: u32) -> Numbers
     longer
 }
 
-fn is_nothing(field: &[u8]) -> bool
+// Whether a field is the sign of an empty list.
+pub fn is_nothing(field: &[u8]) -> bool
     ensures { λ r. ⌜ r ≡ isNothing (now (field .entry)) ⌝ }
 {
     if field.len() == 1 {

@@ -4,8 +4,8 @@ ghost use lib.ListN.{replicate};
 use super::line;
 use bytes::scan;
 
-// One more than the most bytes of input, 4 MiB.
-const SIZE: usize = 4194305;
+// One more than the most bytes of input, 5 MiB.
+const SIZE: usize = 5242881;
 
 fn replay_all(input: &[u8]) {
     let mut at = 0;
@@ -18,7 +18,7 @@ fn replay_all(input: &[u8]) {
 
 // Zeros, on the stack, of which a program has 8 MiB. In a function of its own, so that no other proof sees so many.
 fn buffer() -> [u8; SIZE]
-    ensures { λ r. ⌜ r ≡ replicate 4194305 0 ⌝ }
+    ensures { λ r. ⌜ r ≡ replicate 5242881 0 ⌝ }
 {
     [0; SIZE]
 }

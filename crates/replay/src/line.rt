@@ -1,5 +1,6 @@
 // A line of the input, by its word. All of it is read before the call is made, and a line that is no case is answered by syntax.
 use case_answers::answer;
+use case_bits::bits;
 use case_cards::cards;
 use case_fields::line;
 use case_fields::list;
@@ -18,6 +19,7 @@ enum Call {
     Draw,
     Words,
     Strip,
+    Nist,
     Pick,
     Margin,
     Recorded,
@@ -39,6 +41,7 @@ fn replay_bytes(line: &[u8], call: Call, bytes: &[u8], n: usize) {
         Call::Draw => states::replay_moved(line, Move::Draw, given),
         Call::Words => states::replay_words(line, given),
         Call::Strip => strips::replay_strip(line, given),
+        Call::Nist => bits::replay_nist(line, given),
         Call::Pick => states::replay_asked(line, Ask::Pick, given),
         Call::Margin => states::replay_asked(line, Ask::Margin, given),
         Call::Recorded => states::replay_recorded(line, given),
@@ -96,6 +99,9 @@ fn replay_case(line: &[u8]) {
     }
     if check::same(word, b"strip") {
         return replay_call(line, Call::Strip);
+    }
+    if check::same(word, b"nist") {
+        return replay_call(line, Call::Nist);
     }
     if check::same(word, b"pick") {
         return replay_call(line, Call::Pick);

@@ -1,8 +1,9 @@
 use mathlib.Core.Path.{_≡_, sym, _∙_}
 use lib.ListN.{length}
 use Rattle.refusals.specs.Refusals.{firstOf}
-use Rattle.bit_counts.specs.Calls.{stripChecks}
-use Rattle.bit_counts.proofs.Counting.{strip-fits, refused-card, refused-strip, found-narrow, counted}
+use Rattle.bit_strip.specs.Strip.{stripChecks}
+use Rattle.bit_strip.proofs.Strip.{strip-fits}
+use Rattle.bit_counts.proofs.Counting.{refused-card, refused-strip, found-narrow, counted}
 use borrow.Author.Needs.{needs}
 use Rattle.bit_count.proofs.call.bit_counts.Statement.{statement}
 use Rattle.bit_count.proofs.call.bit_counts.Tie as tie

@@ -3,7 +3,7 @@ use native.Mathlib.Nat.{mul-le-mul, le-of-lt, lt-of-le-of-lt}
 use borrow.Author.Tests.{lt-ltb, le-ltb, not-true, not-false}
 use lib.Dec.{lit<}
 use Rattle.refusals.specs.Refusals.{firstOf}
-use Rattle.bit_counts.specs.Calls.{mostStripWords, stripChecks}
+use Rattle.bit_strip.specs.Strip.{mostStripWords, stripChecks}
 use Rattle.bit_strip.proofs.check.strip_refusal.Statement.{statement}
 use Rattle.bit_strip.proofs.check.strip_refusal.Tie as tie
 

@@ -55,6 +55,9 @@ narrow c = subst (λ (b : ℕ). b < 2) (sym (c .bit-of .ensures)) (bit-lt _ _)
 digit-of-requires : tie.Need-digit-of-requires Inv-loop μ-loop
 digit-of-requires c κs = narrow c
 
+cast-part : tie.Need-cast-part Inv-loop μ-loop
+cast-part c = let p = c .before .before .before .loop .inv in omega (arith, p .places, p .narrow)
+
 slice-write-part : tie.Need-slice-write-part Inv-loop μ-loop
 slice-write-part c = let p = c .before .before .before .loop .inv in omega (arith, kept p, p .places, p .room)
 
@@ -115,6 +118,7 @@ put-word-spec =
     sub-left
     bit-of-requires
     digit-of-requires
+    cast-part
     slice-write-part
     with-bit-requires
     add-i

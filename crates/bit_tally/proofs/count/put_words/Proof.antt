@@ -8,7 +8,7 @@ use lib.Seq.{take-all, drop-length}
 use Rattle.tsc.specs.Constants.{widestWidth}
 use Rattle.card_format.proofs.Lists.{part-rest, put-next, length-front}
 use Rattle.bit_counts.specs.Bits.{wordBits, bitsOf, text}
-use Rattle.bit_counts.specs.Calls.{mostStripWords}
+use Rattle.bit_strip.specs.Strip.{mostStripWords}
 use Rattle.bit_counts.proofs.Bits.{length-wordBits, length-text}
 use Rattle.bit_tally.specs.declared.tally.Tally.{Tally}
 use Rattle.bit_tally.specs.Tally.{base, noBits, tallied, HasRoom}

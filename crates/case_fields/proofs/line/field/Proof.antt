@@ -46,7 +46,7 @@ returns c =
     let line = c .before .before .before .before .before .before .args .line .now in
     let l = c .before .before .before .before .loop in
     let f = c .before .before .find in
-    let next = parts-find blank line (l .at) (f .result) (omega arith) (f .ensures .0) (f .ensures .1) in
+    let next = parts-find blank line (l .at) (f .result) (omega arith) (f .ensures .0) in
     let none = parts-end blank line (f .result + 1) (omega (arith, c .before .if1 .taken)) in
     let gone : drop (f .result) line ≡ [] = drop-of-length-le line {i = f .result} (omega (arith, c .before .if1 .taken)) in
     ap (take (length line - f .result)) gone ∙ take-nil (length line - f .result)
@@ -66,7 +66,7 @@ loop-again c =
     let line = c .before .before .before .before .before .args .line .now in
     let l = c .before .before .before .loop in
     let f = c .before .find in
-    let next = parts-find blank line (l .at) (f .result) (omega arith) (f .ensures .0) (f .ensures .1) in
+    let next = parts-find blank line (l .at) (f .result) (omega arith) (f .ensures .0) in
     (omega (arith, c .if1 .left), l .inv .1 ∙ later _ _ _ (l .left) next (omega arith))
 
 find-requires-2 : tie.Need-find-requires-2 Inv-loop μ-loop
@@ -86,7 +86,7 @@ returns-2 c =
     let line = c .before .before .before .before .before .args .line .now in
     let l = c .before .before .before .loop in
     let f = c .before .find2 in
-    let next = parts-find blank line (l .at) (f .result) (omega arith) (f .ensures .0) (f .ensures .1) in
+    let next = parts-find blank line (l .at) (f .result) (omega arith) (f .ensures .0) in
     let e : l .left ≡ 0 = omega arith in
     sym (l .inv .1 ∙ ap (λ (i : ℕ). getD (partsFrom blank line (l .at)) i []) e ∙ ap (λ (ps : List (List ℕ)). getD ps 0 []) next)
 

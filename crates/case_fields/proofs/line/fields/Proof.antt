@@ -33,7 +33,7 @@ loop-again : tie.Need-loop-again Inv-loop μ-loop
 loop-again c =
     let line = c .before .before .before .before .args .line .now in
     let l = c .before .before .loop in
-    let next = parts-find blank line (l .at) (c .find .result) (omega arith) (c .find .ensures .0) (c .find .ensures .1) in
+    let next = parts-find blank line (l .at) (c .find .result) (omega arith) (c .find .ensures .0) in
     (omega arith, omega arith, omega (arith, l .inv .2, ap length next))
 
 returns : tie.Need-returns Inv-loop μ-loop

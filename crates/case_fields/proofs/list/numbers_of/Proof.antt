@@ -66,7 +66,7 @@ loop-again c =
     let l = made .before .before .loop in
     let value = numeral (baseOf (a .hex)) in
     let f = made .find in
-    let next = parts-find comma (a .field .now) (l .at) (f .result) (omega arith) (f .ensures .0) (f .ensures .1) in
+    let next = parts-find comma (a .field .now) (l .at) (f .result) (omega arith) (f .ensures .0) in
     (omega arith, gather-next (a .most) value (l .list) (c .with-number .result) _ _ _ _ (c .with-number .ensures) (c .before .number-of .ensures) next ∙ l .inv .1)
 
 returns-2 : tie.Need-returns-2 Inv-loop μ-loop

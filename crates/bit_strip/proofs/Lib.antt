@@ -1,0 +1,2 @@
+-- Laws of strips.
+pub mod Strip

@@ -1,0 +1,2 @@
+-- Refusals 22 to 24.
+pub mod Strip

@@ -1,0 +1,2 @@
+-- Laws for the reader of a strip.
+mod Words
