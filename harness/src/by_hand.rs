@@ -3,6 +3,7 @@
 //! a pick is, for the library's margin. Written for cards of up to M words with E = 2^M entries, so that a small card does not
 //! pay for the largest; no loop over the words asks the card how many it has.
 
+pub mod bits;
 pub mod records;
 
 use reference::{mask, Card};

@@ -1,5 +1,6 @@
 //! The calls, by the library and by the second program, and everything that a caller can observe of them.
 
+pub mod bits;
 mod promises;
 pub mod records;
 
@@ -13,7 +14,7 @@ use std::hint::black_box;
 use std::iter::once;
 use tiedraw::{ffi, MOST_TAKEN};
 
-pub const CALLS: [&str; 12] = [
+pub const CALLS: [&str; 13] = [
     "check",
     "step",
     "step_back",
@@ -26,14 +27,17 @@ pub const CALLS: [&str; 12] = [
     "recpick",
     "desk",
     "cab",
+    "nist",
 ];
 const PICK: usize = 5;
-/// those before it are made on each input; it and those of records have inputs of their own
+/// those before it are made on each input; it, those of records and the counts of bits have inputs of their own
 pub const MARGIN: usize = 8;
 /// those of records
 const RECPICK: usize = 9;
 const DESK: usize = 10;
 const CAB: usize = 11;
+/// the counts of bits
+pub const NIST: usize = 12;
 
 /// The numbers that a call answers, and zeros behind them: at most the reader's, seven and the table.
 type Values = [u64; 7 + TABLE_ENTRIES];
@@ -45,7 +49,7 @@ struct Observed {
     values: Values,
     refusal: u8,
     lent: Vec<u32>,
-    /// empty but for the fill; of a recorded pick, the page
+    /// empty but for the fill and the counts; of a recorded pick, the page
     strip: Vec<u32>,
     around: bool,
 }
@@ -80,6 +84,8 @@ macro_rules! eight {
 
 /// what stands around lent words
 const GUARD: u32 = 0xa5c3_96e1;
+/// and around lent bytes
+const GUARD_BYTE: u8 = 0xa5;
 
 /// Lends a copy of the words between guards, and gives back the words after the call, and whether
 /// the guards are as they were. An empty slice is lent as null.
@@ -117,6 +123,7 @@ fn library(call: usize, input: &Input) -> Observed {
         "recpick" => return records::library_pick(input),
         "desk" => return records::library_desk(&input.records.record),
         "cab" => return records::library_cab(input.records.cab, &input.records.record),
+        "nist" => return bits::library_counts(input),
         _ => {}
     }
     let (card, n) = (shared(&input.card), input.card.len());
@@ -192,7 +199,7 @@ fn library_margin(input: &Input) -> Observed {
 }
 
 fn library_write(v: &Card, page: &[u8]) -> Observed {
-    let (answer, lent, around) = lend(page, 0xa5, |page, room| unsafe {
+    let (answer, lent, around) = lend(page, GUARD_BYTE, |page, room| unsafe {
         ffi::tiedraw_write(
             v.words,
             v.width,
@@ -245,6 +252,7 @@ fn second_program(call: usize, input: &Input) -> Observed {
         "recpick" => return records::second_pick(input),
         "desk" => return records::second_desk(&input.records.record),
         "cab" => return records::second_cab(input.records.cab, &input.records.record),
+        "nist" => return bits::second_counts(input),
         _ => return second_write(&input.values, &input.page),
     };
     expected(answer, state)
@@ -334,6 +342,7 @@ fn untouched(name: &str, input: &Input, after: &Observed) -> bool {
         "fill" => after.lent == input.state && after.strip == input.strip,
         "recpick" => after.lent == input.state && after.strip == widened(&input.page),
         "desk" | "cab" => after.lent == widened(&input.records.record),
+        "nist" => after.lent == widened(&input.page) && after.strip == input.strip,
         _ => after.lent == input.state,
     }
 }

@@ -1,7 +1,8 @@
 //! Random inputs: cards valid and damaged, states and lists of right and wrong size, strips and spans, values and pages for the writer;
-//! and inputs for the margin, which the second program finds by trying, so that each takes long. Those for records are in a file of
-//! their own.
+//! and inputs for the margin, which the second program finds by trying, so that each takes long. Those for records and for counts of
+//! bits are in files of their own.
 
+mod bits;
 mod records;
 
 use crate::random::Random;
@@ -23,7 +24,7 @@ pub struct Input {
     pub times: Vec<u32>,
     /// for the writer; the table has any number of entries
     pub values: Card,
-    /// for the writer, or for a recorded pick
+    /// for the writer, for a recorded pick, or for the counts of bits
     pub page: Vec<u8>,
     /// empty but in inputs for records
     pub records: Records,

@@ -1,6 +1,7 @@
 //! The library compared with the second program, by running: random inputs, both sides' calls, and the comparison; and
 //! timed beside Rust.
 
+pub mod bit_subjects;
 pub mod by_hand;
 pub mod calls;
 pub mod inputs;

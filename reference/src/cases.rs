@@ -2,10 +2,11 @@
 //!
 //! The walks (`step`, `back`, `draw`, `words`), the picks, the cards (`check`, `read`), the writer
 //! (`write`), the form of a line, the strips (`strip`), the fair ranks of picks, the margins
-//! (`margin`), the cards of five to eight words and the records (`recpick`, `desk`, `cab`) have a
-//! module each, in the order in which they came, so that earlier cases stay as they are. States
-//! that go on from case to case come from this crate's own calls.
+//! (`margin`), the cards of five to eight words, the records (`recpick`, `desk`, `cab`) and the counts
+//! of bits (`nist`) have a module each, in the order in which they came, so that earlier cases stay as
+//! they are. States that go on from case to case come from this crate's own calls.
 
+mod bits;
 mod cards;
 mod large;
 mod margins;
@@ -17,6 +18,7 @@ mod syntax;
 mod walks;
 mod writes;
 
+use crate::replay::commas;
 use crate::{mask, next, Card};
 
 /// Document 01's cards P1 and P2 and the program's, in hex.
@@ -121,6 +123,11 @@ fn bytes(hex: &str) -> Vec<u8> {
     crate::replay::card(hex.as_bytes()).expect("pairs of hex digits")
 }
 
+/// Words in hex, no longer than need be.
+fn short(words: &[u32]) -> String {
+    commas(words.iter().map(|word| format!("{word:x}")))
+}
+
 /// All cases, a line each.
 pub fn cases() -> Vec<u8> {
     let mut maker = Maker::new();
@@ -134,6 +141,7 @@ pub fn cases() -> Vec<u8> {
     margins::make(&mut maker);
     large::make(&mut maker);
     records::make(&mut maker);
+    bits::make(&mut maker);
     maker.lines
 }
 
@@ -179,19 +187,20 @@ mod tests {
         ]
     }
 
-    /// Those of recorded picks, desk and cab.
-    fn refusals_of_records() -> [(&'static str, Vec<u8>); 3] {
+    /// Those of recorded picks, desk and cab, and of counts.
+    fn refusals_of_others() -> [(&'static str, Vec<u8>); 4] {
         [
             ("recpick", (1..=16).chain([18]).collect()),
             ("desk", vec![20]),
             ("cab", vec![20, 21]),
+            ("nist", (1..=9).chain(22..=24).collect()),
         ]
     }
 
     #[test]
     fn every_refusal_of_every_call() {
         let rows = answered();
-        for (call, refusals) in refusals_of_calls().into_iter().chain(refusals_of_records()) {
+        for (call, refusals) in refusals_of_calls().into_iter().chain(refusals_of_others()) {
             let word = if call == "check" {
                 "verdict"
             } else {
@@ -209,8 +218,8 @@ mod tests {
         assert!(rows.iter().all(|(_, answer)| !answer.contains("CHANGED")));
     }
 
-    /// As many as the programs had that these cases replace, and more picks; strips, margins and
-    /// records are new.
+    /// As many as the programs had that these cases replace, and more picks; strips, margins, records
+    /// and counts are new.
     #[test]
     fn enough_of_each() {
         let rows = answered();
@@ -244,8 +253,10 @@ mod tests {
         assert!(count("desk", "truck") >= 120 && count("desk", "") >= 600);
         assert!(count("cab", "shovel") >= 120 && count("cab", "refused 21") >= 120);
         assert!(count("cab", "") >= 600);
+        assert!(count("nist", "counts") >= 500 && count("nist", "") >= 800);
+        assert!(count("nist", "refused 23") >= 100 && count("nist", "refused 24") >= 100);
         assert!(rows.iter().filter(|row| row.1 == "syntax").count() >= 1_000);
-        assert!(cases().len() < 4_000_000);
+        assert!(cases().len() < 4_300_000);
     }
 
     /// The words that a pick took, by the case `words`: all but the last are passed over, the last

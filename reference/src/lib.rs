@@ -5,6 +5,7 @@
 //! the card and the refusal numbers; document 02 has the requests after that. Kept plain: column
 //! by column, as document 002 (12) says.
 
+pub mod bits;
 pub mod cases;
 pub mod fill;
 #[cfg(test)]

@@ -18,18 +18,22 @@
 //! | `recpick CARD STATE SHOVELS TIMES TRUCK PAGELEN` | `shovel S ties K taken T page HEX state w,..` |
 //! | `desk RECORD` | `truck N shovel S ties K taken T state w,..`, `absent` for one that lacks |
 //! | `cab TRUCK RECORD` | `shovel S` |
+//! | `nist CARD STRIP PAGELEN` | `counts BALANCE FORWARD BACKWARD RUNS page TEXT` |
 //!
 //! All but `check` may answer `refused V` instead, with ` CHANGED` behind it if the lent state,
-//! strip or page isn't as it was. A page is lent with every byte a5 and shown whole. A margin is
-//! lent the state to read only; S is the shovel whose time is changed by D, X that of the pick.
+//! strip or page isn't as it was. A page is lent with every byte a5 and shown whole; that of `nist`
+//! is lent with every byte `.` and shown as text. A margin is lent the state to read only; S is the
+//! shovel whose time is changed by D, X that of the pick.
 //!
 //! CARD and RECORD are pairs of hex digits, at most 600 of them. Lists have commas: STATE and STRIP
 //! are words of 32 bits in hex; SHOVELS, TIMES and T decimal numbers of 16, of 32 and of 8 bits. A
-//! list has at most 600 numbers, T at most the writer's 256; entries that are not given are 0. `-`
-//! is an empty string or list. C has 32 bits, in decimal or in hex after `0x`; PLACE and COUNT of
-//! `strip` have 32 bits, TRUCK has 16; COUNT of `words` is at most 1024, PAGELEN at most 600; all
-//! other single numbers have 8 bits. Hex digits may have either case, numbers leading zeros.
+//! list has at most 600 numbers, STRIP of `nist` at most 16,400, T at most the writer's 256; entries
+//! that are not given are 0. `-` is an empty string or list. C has 32 bits, in decimal or in hex
+//! after `0x`; PLACE and COUNT of `strip` have 32 bits, TRUCK has 16; COUNT of `words` is at most
+//! 1024, PAGELEN at most 600; all other single numbers have 8 bits. Hex digits may have either case,
+//! numbers leading zeros.
 
+mod bits;
 mod records;
 
 use crate::fill::call_fill;
@@ -38,13 +42,16 @@ use crate::pick::{call_pick, Picked};
 use crate::{
     accept_call, call_draw, call_step, call_step_back, call_write, check, read, Card, TABLE_ENTRIES,
 };
+use bits::counts_answer;
 use records::{cab_answer, desk_answer, recorded_answer};
 use std::fmt::Display;
 
 /// The most bytes of an input.
-pub const MOST_INPUT: usize = 4 << 20;
+pub const MOST_INPUT: usize = 5 << 20;
 /// The most bytes of a card, a record or a page, and the most numbers of a list.
 const MOST_LISTED: usize = 600;
+/// The most words of a strip whose bits are counted, some more than the call takes.
+const MOST_COUNTED: usize = 16_400;
 /// The most words of one case.
 const MOST_WORDS: usize = 1024;
 /// Every byte of a page as it is lent.
@@ -114,6 +121,11 @@ fn replay(line: &[u8]) -> Option<String> {
         }
         [b"desk", record] => desk_answer(&card(record)?),
         [b"cab", truck, record] => cab_answer(number(truck, 10)?, &card(record)?),
+        [b"nist", c, strip, page] => counts_answer(
+            &card(c)?,
+            &list(strip, 16, MOST_COUNTED)?,
+            limited(page, MOST_LISTED)?,
+        ),
         _ => return None,
     })
 }
@@ -526,6 +538,7 @@ write 2 2 1,2,3,0 1 2 1 1 1 10 = refused 16",
             pick 00 0,0,0,0 1|pick 00 0,0,0,0 1 1 1|write 2 2 1,2,3,0 1 2 1 1 1|\
             recpick|recpick 00 0,0,0,0 1 1 1|recpick 00 0,0,0,0 1 1 1 24 0|recpick 00 0,0,0,0 1 1  24|\
             desk|desk |desk 03 03|desk  03|Desk 03|cab|cab 1|cab 03|cab 1 03 03|cab 1  03|cab  03|\
+            nist|nist 00|nist 00 1|nist 00 1 32 0|nist 00  32|nist  1 32|nist 00 1 |Nist 00 1 32|\
             margin|margin 00 0,0,0,0 1|margin 00 0,0,0,0 1 1 1|margin 00 0,0,0,0  1|Margin 00 0 1 1|\
             write 2 2 1,2,3,0 1 2 1 1 1 12 0|chéck 00|check 00#";
         for line in lines.split('|') {
@@ -542,7 +555,7 @@ write 2 2 1,2,3,0 1 2 1 1 1 10 = refused 16",
     }
 
     /// Each decimal field, the largest number it takes, and whether it is a list.
-    const DECIMALS: [(&str, u64, bool); 21] = [
+    const DECIMALS: [(&str, u64, bool); 22] = [
         ("words 00 0,0,0,0 @", 1024, false),
         ("strip 00 0,0,0,0 1 @ 1", 4294967295, false),
         ("strip 00 0,0,0,0 1 0 @", 4294967295, false),
@@ -564,6 +577,7 @@ write 2 2 1,2,3,0 1 2 1 1 1 10 = refused 16",
         ("recpick 00 0,0,0,0 1 1 @ 24", 65535, false),
         ("recpick 00 0,0,0,0 1 1 1 @", 600, false),
         ("cab @ 0301020304", 65535, false),
+        ("nist 00 1 @", 600, false),
     ];
 
     #[test]
@@ -587,7 +601,13 @@ write 2 2 1,2,3,0 1 2 1 1 1 10 = refused 16",
 
     #[test]
     fn syntax_of_hex() {
-        for line in ["check @", "desk @", "cab 1 @", "recpick @ - - - 1 24"] {
+        for line in [
+            "check @",
+            "desk @",
+            "cab 1 @",
+            "recpick @ - - - 1 24",
+            "nist @ 1 32",
+        ] {
             assert_syntax(line, "- 00 aB Ab 0123456789abcdefABCDEF", false);
             assert_syntax(line, "0 000 0x00 0g -- 00, 00,00 +0 00- é", true);
         }
@@ -596,6 +616,7 @@ write 2 2 1,2,3,0 1 2 1 1 1 10 = refused 16",
             "strip 00 0,0,0,0 @ 0 0",
             "margin 00 @ 1 1",
             "recpick 00 @ 1 1 1 24",
+            "nist 00 @ 600",
         ] {
             assert_syntax(
                 line,
@@ -658,9 +679,14 @@ write 2 2 1,2,3,0 1 2 1 1 1 10 = refused 16",
                 format!("recpick 00 0,0,0,0 - {list} 1 24"),
                 format!("desk {card}"),
                 format!("cab 1 {card}"),
+                format!("nist {card} 1 32"),
             ] {
                 assert_eq!(text(&line) == "syntax", syntax, "{line}");
             }
+        }
+        for (count, syntax) in [(601, false), (16_400, false), (16_401, true)] {
+            let list = commas(vec![1; count]);
+            assert_syntax("nist 00 @ 600", &list, syntax);
         }
         let zeros = "0".repeat(5000);
         let line = format!("words 00 {zeros}1,2,3,4 {zeros}0");

@@ -1,5 +1,6 @@
 //! How long the library's calls take, beside Rust on the same machine in the same run. Prints nanoseconds a call, or a word of a fill, a table by numbers of words, and ratios.
 
+use harness::bit_subjects::counts;
 use harness::by_hand::{self, fill_by_columns, fill_by_joined_columns, fill_by_masks, Fill, State};
 use harness::jitter::steady;
 use harness::record_subjects::{cabs, desks, recorded_pick};
@@ -15,6 +16,8 @@ const CALLS: usize = 1_000_000;
 /// margins of 5 shovels, and of 64
 const MARGINS: usize = 100_000;
 const LONG_MARGINS: usize = 10_000;
+/// counts of bits
+const COUNTS: usize = 1_000;
 /// checks, draws and steps back for each number of words
 const ROW_CALLS: usize = 200_000;
 
@@ -159,6 +162,8 @@ const MOST_OF_LONG: f64 = 150.0;
 const MOST_OF_SHORT: f64 = 10.0;
 /// and of a recorded pick
 const MOST_OF_RECORDED: f64 = 1.5;
+/// counts of bits to Rust's
+const MOST_OF_COUNTS: f64 = 1.5;
 
 /// A ratio of two subjects, by their places, and the most that it may be, where there is a goal.
 struct Ratio {
@@ -333,6 +338,15 @@ impl Bench {
         }
     }
 
+    /// The counts of as many bits as there may be, beside Rust's.
+    fn add_counts(&mut self) {
+        let library = "counts: the bits of 16,384 words of 32 bits";
+        let rust = "Rust by hand, counts: the same, the card's width known";
+        let [library, rust] = counts([library, rust], COUNTS).map(|subject| self.add(subject));
+        let name = "counts to Rust by hand";
+        self.ratio(name, library, rust, Some(MOST_OF_COUNTS));
+    }
+
     /// The margins, and the picks that those of 5 shovels are held to; the recorded ones too.
     fn add_margins(&mut self) {
         for (name, list) in SHORT {
@@ -356,6 +370,7 @@ impl Bench {
         bench.add_draw(fill_p1, columns_p1);
         bench.add_margins();
         bench.add_readers();
+        bench.add_counts();
         bench.add_rows();
         bench.subjects.extend(others());
         bench

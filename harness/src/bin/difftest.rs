@@ -1,7 +1,8 @@
 //! The library against the second program on random inputs, and the check against walks counted out. `difftest SEED INPUTS`.
 
+use harness::calls::bits::{compare_bits, ToldBits, BITS};
 use harness::calls::records::{compare_records, ToldRecords, RECORDS};
-use harness::calls::{compare, compare_margin, Told, ToldMargin, CALLS, MARGIN, MARGINS};
+use harness::calls::{compare, compare_margin, Told, ToldMargin, CALLS, MARGIN, MARGINS, NIST};
 use harness::hex;
 use harness::inputs::{sound_form, Input};
 use harness::random::Random;
@@ -17,6 +18,8 @@ const BLOCK: usize = 1000;
 const OF_MARGIN: usize = 125;
 /// inputs of the records beside each block
 const OF_RECORDS: usize = 250;
+/// inputs of the counts of bits beside each block
+const OF_BITS: usize = 250;
 /// The sizes whose walks are counted out, and cards of each: up to 12 bits of a state with two to four words, up to 16 with
 /// five to eight.
 const WALKS: [(u8, u8, usize); 15] = [
@@ -40,7 +43,7 @@ const WALKS: [(u8, u8, usize); 15] = [
 const OF_WALKS: usize = 100;
 
 /// the last refusal's number
-const REFUSALS: usize = 21;
+const REFUSALS: usize = 24;
 
 /// The refusals that each call has, 0 for none: all of them must come up.
 const TELLS: [&[usize]; CALLS.len()] = [
@@ -56,6 +59,7 @@ const TELLS: [&[usize]; CALLS.len()] = [
     &[0, 1, 2, 3, 4, 5, 6, 7, 8, 9, 10, 11, 12, 13, 14, 15, 16, 18],
     &[0, 20],
     &[0, 20, 21],
+    &[0, 1, 2, 3, 4, 5, 6, 7, 8, 9, 22, 23, 24],
 ];
 
 /// For each call: answers, then refusals by their numbers.
@@ -64,7 +68,7 @@ type Answers = [[usize; REFUSALS + 1]; CALLS.len()];
 const SIZES: [&str; 2] = ["up to four words", "five to eight words"];
 
 /// How often each call told each refusal, how many picks passed over how many words, how many words were filled in, how many
-/// margins and records there were of each kind, and how many recorded picks with each number of ties.
+/// margins, records and counts there were of each kind, and how many recorded picks with each number of ties.
 #[derive(Default)]
 struct Tally {
     /// up to four words, and other cards; then five to eight words
@@ -79,6 +83,7 @@ struct Tally {
     records: [usize; RECORDS.len()],
     /// pairs of records that differ in all but truck and shovel
     twins: usize,
+    bits: [usize; BITS.len()],
 }
 
 /// Recorded picks by how many shovels were equally near, from 1 on: the first are those without a tie.
@@ -125,6 +130,7 @@ impl Tally {
         add_up(&mut self.small_pages.0, &other.small_pages.0);
         add_up(&mut self.records, &other.records);
         self.twins += other.twins;
+        add_up(&mut self.bits, &other.bits);
     }
 
     fn count_answer(&mut self, call: usize, refusal: u8, large: bool) {
@@ -165,6 +171,11 @@ impl Tally {
         self.twins += usize::from(told.twins);
     }
 
+    fn count_bits(&mut self, told: ToldBits) {
+        self.count_answer(NIST, told.refusal, told.large);
+        add_up(&mut self.bits, &told.kinds.map(usize::from));
+    }
+
     /// A refusal that a call never told, with either size of cards.
     fn untold(&self) -> Option<String> {
         for (size, answers) in SIZES.iter().zip(&self.told) {
@@ -190,7 +201,7 @@ impl Tally {
         no_pick.or(no_page).or(no_record).or(no_twins)
     }
 
-    /// What never came up: a refusal of a call, a number of words passed over, a kind of margin, or what records must have.
+    /// What never came up: a refusal of a call, a number of words passed over, a kind of margin or of counts, or what records must have.
     fn missing(&self) -> Option<String> {
         let empty = self.picks.iter().position(|&picks| picks == 0);
         let no_pick = empty.map(|column| match column {
@@ -200,7 +211,10 @@ impl Tally {
         let empty = self.margins.iter().position(|&margins| margins == 0);
         let no_margin = empty.map(|column| format!("no margin {}", MARGINS[column]));
         let no_record = self.missing_record();
-        self.untold().or(no_pick).or(no_margin).or(no_record)
+        let empty = self.bits.iter().position(|&inputs| inputs == 0);
+        let no_bits = empty.map(|kind| format!("no strip {}", BITS[kind]));
+        let missing = self.untold().or(no_pick).or(no_margin);
+        missing.or(no_record).or(no_bits)
     }
 
     /// How many words all picks passed over.
@@ -258,6 +272,10 @@ fn compare_block(seed: u64, block: usize) -> Result<Tally, String> {
     for _ in 0..OF_RECORDS {
         tally.count_records(told(Input::of_records(&mut random), compare_records)?);
     }
+    let mut random = Random::new(seed ^ 1 << 58, block as u64);
+    for _ in 0..OF_BITS {
+        tally.count_bits(told(Input::of_bits(&mut random), compare_bits)?);
+    }
     Ok(tally)
 }
 
@@ -293,6 +311,11 @@ fn print_records(total: &Tally) {
     println!("{:>9} {}", "", columns(&total.records));
 }
 
+fn print_bits(total: &Tally) {
+    println!("counts of no bits, of more zeros, as many, more ones, farther forward, backward, of one run, of neighbours that all differ, on a page with just room, with more, of 16,384 words of 32 bits; then refused for one word, one bit and one byte:");
+    println!("{:>9} {}", "", columns(&total.bits));
+}
+
 fn compare_inputs(seed: u64, inputs: usize) {
     let blocks = inputs.div_ceil(BLOCK);
     let mut total = Tally::default();
@@ -311,8 +334,13 @@ fn compare_inputs(seed: u64, inputs: usize) {
         blocks * OF_RECORDS,
         total.twins
     );
+    println!(
+        "{} strips whose bits were counted: no difference; also read back, reversed and flipped",
+        blocks * OF_BITS
+    );
     print_answers(&total);
     print_records(&total);
+    print_bits(&total);
     if let Some(missing) = total.missing() {
         println!("{missing}: too few inputs");
         exit(1);

@@ -4,15 +4,12 @@ use super::promises::{
     as_plain, demand, heard_alike, in_another_order, made_again, read_back, with_record_left,
 };
 use super::{compare_call, expected, is_large, lend, library, row, shared, widened, Observed};
-use super::{Values, CAB, DESK, GUARD, PICK, RECPICK};
+use super::{Values, CAB, DESK, GUARD, GUARD_BYTE, PICK, RECPICK};
 use crate::inputs::Input;
 use reference::record::{call_recorded_pick, order_for, read_record, Record};
 use reference::MOST_WORDS;
 use std::cmp::Ordering;
 use tiedraw::ffi::{tiedraw_order, tiedraw_pick_recorded, tiedraw_read_record, RecordReading};
-
-/// what stands around lent bytes
-const GUARD_BYTE: u8 = 0xa5;
 
 // ---- The library.
 

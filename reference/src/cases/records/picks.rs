@@ -3,7 +3,7 @@
 
 use super::super::picks::{random_list, CALLS, SHORT};
 use super::super::ranks::{find, lists, shovels_and_times, text};
-use super::super::{bytes, Maker, FULL, PROGRAM, REFUSED, TSC1, TSC2};
+use super::super::{bytes, short, Maker, FULL, PROGRAM, REFUSED, TSC1, TSC2};
 use super::NUMBERS;
 use crate::record::call_recorded_pick;
 use crate::replay::commas;
@@ -38,11 +38,6 @@ fn recorded(
     maker.line(format!(
         "recpick {card} {state} {shovels} {times} {truck} {page}"
     ));
-}
-
-/// Words in hex, no longer than need be.
-fn short(state: &[u32]) -> String {
-    commas(state.iter().map(|word| format!("{word:x}")))
 }
 
 /// Random values but for a card, a state, a list and a page.
