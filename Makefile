@@ -92,7 +92,7 @@ dist: ## a tar of what is installed, and its checksum, for servers without the R
 
 # ---- what is tested
 
-.PHONY: test check bindings run-test install-test jumps vectors store-vectors difftest bench loads
+.PHONY: test check bindings run-test install-test jumps vectors store-vectors difftest bench loads nist
 test: ## the gate: everything proved from nothing, must-fail edits tried, programs run
 	bash .ci/run
 
@@ -102,7 +102,7 @@ check: bindings example run-test install-test jumps vectors ## all that is no pr
 
 # what follows is run with the library just built
 bindings difftest bench: export TIEDRAW_LIB_DIR = $(CURDIR)/target/lib
-bindings difftest bench loads: export TIEDRAW_LIBRARY = $(CURDIR)/target/lib/libtiedraw.so
+bindings difftest bench loads nist: export TIEDRAW_LIBRARY = $(CURDIR)/target/lib/libtiedraw.so
 
 bindings: lib ## the tests of the Rust and Python bindings
 	cd bindings/rust && cargo test --quiet
@@ -137,6 +137,9 @@ bench: lib ## nanoseconds a call, beside Rust and beside bare ctypes in the same
 
 loads: lib ## the loads of six equal shovels by a word's remainder and by fair ranks, counted, and docs/pictures/loads.svg drawn anew
 	@PYTHONPATH=bindings/python python3 docs/pictures/loads.py
+
+nist: lib ## a million bits of P1 for the published suite of NIST SP 800-22, in target/nist/p1.txt, and their counts
+	@PYTHONPATH=bindings/python python3 tools/nist.py
 
 # ---- keeping the repository
 

@@ -12,7 +12,7 @@
  *
  * Given that, whatever bytes and numbers are handed over, a call returns with an answer, or with the refusal number
  * of the first check that applies. A card's fields are checked in turn, each by 1, 2, 3, and 4 at the table's place;
- * then come 5 to 21 in order, but that a recorded pick tells 16 after 18. A refusal changes nothing: state, strip and
+ * then come 5 to 24 in order, but that a recorded pick tells 16 after 18. A refusal changes nothing: state, strip and
  * page are as they were lent, and the other fields of the answer are 0.
  *
  * Calls keep nothing, allocate nothing and use no global data, so that any number of threads may call at once, each
@@ -33,17 +33,18 @@ extern "C" {
    tiedraw_version() / 1000 is TIEDRAW_VERSION_NUMBER / 1000; the shared library's name ends in those two numbers. */
 #define TIEDRAW_VERSION_MAJOR 0
 #define TIEDRAW_VERSION_MINOR 4
-#define TIEDRAW_VERSION_PATCH 1
+#define TIEDRAW_VERSION_PATCH 2
 #define TIEDRAW_VERSION_NUMBER (TIEDRAW_VERSION_MAJOR * 1000000 + TIEDRAW_VERSION_MINOR * 1000 + TIEDRAW_VERSION_PATCH)
 
-/* The most words of a state, entries of a table, bytes of an accepted card, shovels of a pick, words taken for it, and
-   bytes of a record. */
+/* The most words of a state, entries of a table, bytes of an accepted card, shovels of a pick, words taken for it,
+   bytes of a record, and words of a strip whose bits are counted. */
 #define TIEDRAW_MOST_WORDS 8
 #define TIEDRAW_TABLE_SIZE (1 << TIEDRAW_MOST_WORDS)
 #define TIEDRAW_MOST_CARD_BYTES 267
 #define TIEDRAW_MOST_SHOVELS 64
 #define TIEDRAW_MOST_TAKEN 16
 #define TIEDRAW_MOST_RECORD_BYTES (8 + 4 * TIEDRAW_MOST_WORDS)
+#define TIEDRAW_MOST_STRIP_WORDS 16384
 
 /*
  * A card is a map byte and then the fields whose bit is 1, from bit 0 up. m, n and C are the first, second and sixth.
@@ -73,27 +74,30 @@ extern "C" {
 
 /* Refusals: the number, the trade word before the colon, and when it is told. */
 enum tiedraw_refusal {
-    TIEDRAW_TRUNCATED = 1,           /* short: the bytes end before the map, or before the last byte of a field */
-    TIEDRAW_OUT_OF_RANGE = 2,        /* range: a field or table entry outside the allowed values */
-    TIEDRAW_REDUNDANT = 3,           /* idle: a field is given that equals its absent value */
-    TIEDRAW_TABLE_MISSING = 4,       /* tableless: m is not 4, and no table is given */
-    TIEDRAW_TRAILING_BYTES = 5,      /* long: bytes are left after the card's last field */
-    TIEDRAW_CONSTANT_TOO_WIDE = 6,   /* wide: C, given or absent, is 2^n or more */
-    TIEDRAW_NOT_SINGLE_CYCLE = 7,    /* broken ring: following the table from 0 doesn't pass all its entries and return */
-    TIEDRAW_EVEN_CONSTANT = 8,       /* even constant: C is even */
-    TIEDRAW_POWER_PARITY = 9,        /* powers: the odd power is even, or the even power is odd */
-    TIEDRAW_WORD_COUNT = 10,         /* word count: the state has not m words */
-    TIEDRAW_WORD_TOO_WIDE = 11,      /* high bits: a state word is 2^n or more */
-    TIEDRAW_LENGTH_MISMATCH = 12,    /* uneven: shovels and times differ in count */
-    TIEDRAW_NO_SHOVEL = 13,          /* no shovel: the list is empty */
-    TIEDRAW_TOO_MANY_SHOVELS = 14,   /* crowd: more than 64 shovels */
-    TIEDRAW_DUPLICATE_SHOVEL = 15,   /* twice: a shovel number stands twice */
-    TIEDRAW_BUFFER_TOO_SMALL = 16,   /* small page: the page has fewer bytes than the card or the record needs */
-    TIEDRAW_SPAN_OUT_OF_BOUNDS = 17, /* span: the place is past the strip's end, or the count does not fit behind it */
-    TIEDRAW_TOO_MANY_TIES = 18,      /* too many equals: more shovels have the least time than there are words, 2^n */
-    TIEDRAW_NO_SUCH_CHANGE = 19,     /* firm: no change of one shovel's time sends the truck elsewhere */
-    TIEDRAW_MALFORMED_RECORD = 20,   /* torn: a record's map, state count or length is not of the form above */
-    TIEDRAW_TRUCK_MISMATCH = 21      /* other truck: a cab asks for a record of another truck */
+    TIEDRAW_TRUNCATED = 1,            /* short: the bytes end before the map, or before the last byte of a field */
+    TIEDRAW_OUT_OF_RANGE = 2,         /* range: a field or table entry outside the allowed values */
+    TIEDRAW_REDUNDANT = 3,            /* idle: a field is given that equals its absent value */
+    TIEDRAW_TABLE_MISSING = 4,        /* tableless: m is not 4, and no table is given */
+    TIEDRAW_TRAILING_BYTES = 5,       /* long: bytes are left after the card's last field */
+    TIEDRAW_CONSTANT_TOO_WIDE = 6,    /* wide: C, given or absent, is 2^n or more */
+    TIEDRAW_NOT_SINGLE_CYCLE = 7,     /* broken ring: following the table from 0 doesn't pass all its entries and return */
+    TIEDRAW_EVEN_CONSTANT = 8,        /* even constant: C is even */
+    TIEDRAW_POWER_PARITY = 9,         /* powers: the odd power is even, or the even power is odd */
+    TIEDRAW_WORD_COUNT = 10,          /* word count: the state has not m words */
+    TIEDRAW_WORD_TOO_WIDE = 11,       /* high bits: a state word is 2^n or more */
+    TIEDRAW_LENGTH_MISMATCH = 12,     /* uneven: shovels and times differ in count */
+    TIEDRAW_NO_SHOVEL = 13,           /* no shovel: the list is empty */
+    TIEDRAW_TOO_MANY_SHOVELS = 14,    /* crowd: more than 64 shovels */
+    TIEDRAW_DUPLICATE_SHOVEL = 15,    /* twice: a shovel number stands twice */
+    TIEDRAW_BUFFER_TOO_SMALL = 16,    /* small page: the page has fewer bytes than the card or the record needs */
+    TIEDRAW_SPAN_OUT_OF_BOUNDS = 17,  /* span: the place is past the strip's end, or the count does not fit behind it */
+    TIEDRAW_TOO_MANY_TIES = 18,       /* too many equals: more shovels have the least time than there are words, 2^n */
+    TIEDRAW_NO_SUCH_CHANGE = 19,      /* firm: no change of one shovel's time sends the truck elsewhere */
+    TIEDRAW_MALFORMED_RECORD = 20,    /* torn: a record's map, state count or length is not of the form above */
+    TIEDRAW_TRUCK_MISMATCH = 21,      /* other truck: a cab asks for a record of another truck */
+    TIEDRAW_STRIP_TOO_LONG = 22,      /* strip too long: more than 16,384 words */
+    TIEDRAW_STRIP_WORD_TOO_WIDE = 23, /* strip bits: a strip word is 2^n or more */
+    TIEDRAW_BIT_PAGE_TOO_SMALL = 24   /* bit page: the page has fewer than n bytes for each strip word */
 };
 
 /* The eight values of a card. Table entries past 2^words are 0. */
@@ -123,6 +127,7 @@ typedef struct tiedraw_record {
 
 typedef struct { tiedraw_record record; uint8_t refusal; } tiedraw_record_reading;
 typedef struct { uint16_t shovel; uint8_t refusal; } tiedraw_order_answer;
+typedef struct { int32_t balance; uint32_t forward, backward, runs; uint8_t refusal; } tiedraw_bit_counts;
 
 /* The version of the library, as TIEDRAW_VERSION_NUMBER is of the header. */
 uint32_t tiedraw_version(void);
@@ -185,6 +190,18 @@ tiedraw_order_answer tiedraw_order(uint16_t truck, const uint8_t *record, size_t
 tiedraw_margin_answer tiedraw_margin(const uint8_t *card, size_t card_len, const uint32_t *state, size_t words,
                                      const uint16_t *shovels, size_t shovel_count, const uint32_t *times,
                                      size_t time_count);
+
+/* The words of a strip as bits, and what the tests of NIST SP 800-22 count in them. From the front of the page on each
+   word is written as n bytes, ASCII '0' and '1', its top bit (n - 1) first, as the published suite reads them; bytes
+   past the last bit are untouched. The card gives n, and no state is needed. `balance` is ones minus zeros (S_n,
+   frequency test); `forward` and `backward` are the largest distance from zero of the running sum of +1 for a one and
+   -1 for a zero, read from the first bit on and from the last bit back (z, cumulative sums test); `runs` is the number
+   of runs (V_n, runs test). All four are 0 for no bits, and probabilities are left to the suite. Proved: they are the
+   standard's integers of exactly the bits on the page, and these bits, read back, are the words; |balance| is at most
+   `forward` and at most `backward`, and these at most the number of bits; balance and that number are both even or
+   both odd. Or refusal 1 to 9 or 22 to 24. */
+tiedraw_bit_counts tiedraw_count_bits(const uint8_t *card, size_t card_len, const uint32_t *strip, size_t strip_len,
+                                      uint8_t *page, size_t page_len);
 
 /* Writes the card of these values at the front of the page, and answers its length; bytes past it are untouched. A
    field is written only where it differs from its absent value. The table has up to 256 entries

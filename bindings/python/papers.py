@@ -13,13 +13,19 @@ def from_hex(text):
     return bytes.fromhex(text.strip("-"))
 
 
-def lines(call):
-    """Of each case of a call: its fields, as they stand; and the answer, its fields by name or the refusal."""
+def split(call):
+    """Of each case of a call: its fields and those of the answer, as they stand."""
     for line in FILE.read_text(encoding="utf-8").splitlines():
         if line.startswith(f"{call} ") and not line.endswith(" => syntax"):
             (_, *fields), answer = (part.split(" ") for part in line.split(" => "))
-            told = dict(zip(answer[::2], answer[1::2]))
-            yield fields, int(told.get("refused", 0)) or told
+            yield fields, answer
+
+
+def lines(call):
+    """Of each case of a call: its fields, as they stand; and the answer, its fields by name or the refusal."""
+    for fields, answer in split(call):
+        told = dict(zip(answer[::2], answer[1::2]))
+        yield fields, int(told.get("refused", 0)) or told
 
 
 def cases(call):

@@ -123,6 +123,17 @@ class Named(unittest.TestCase):
             self.told(TypeError, "record: {3} is a set, which has no order", call, {3})
             self.told(TypeError, "record: None is not a row of numbers", call, None)
 
+    def test_words_whose_bits_are_counted(self):
+        self.told(ValueError, "words[1]: 4294967296 is more than 32 bits", tiedraw.bit_counts, b"\0", [0, 2**32])
+        self.told(ValueError, "words[0]: -1 is negative", tiedraw.bit_counts, b"\0", [-1])
+        self.told(TypeError, "words[0]: 1.0 is not a whole number", tiedraw.bit_counts, b"\0", [1.0])
+        self.told(TypeError, "words: '01' is text; numbers are asked for", tiedraw.bit_counts, b"\0", "01")
+        self.told(TypeError, "words: {0} is a set, which has no order", tiedraw.bit_counts, b"\0", {0})
+        self.told(TypeError, "words: 5 is not a row of numbers", tiedraw.bit_counts, b"\0", 5)
+        self.told(ValueError, "card[0]: 256 is more than 8 bits", tiedraw.bit_counts, [256], [0])
+        self.told(ValueError, "room: -1 is negative", tiedraw.bit_counts, b"\0", [0], -1)
+        self.told(TypeError, "room: 32.0 is not a whole number", tiedraw.bit_counts, b"\0", [0], 32.0)
+
     def test_no_bool_is_a_number(self):
         self.told(TypeError, "card[0]: False is not a whole number", tiedraw.check, [False])
         self.told(TypeError, "state[1]: True is not a whole number", tiedraw.draw, PROGRAM, [0, True])
@@ -172,6 +183,13 @@ class Rows(unittest.TestCase):
             self.assertEqual(tiedraw.order_for(Index(258), kind(RECORD)), 4)
         for record in [wide, memoryview(wide)]:
             self.assertEqual(tiedraw.read_record(record), (258, 4, 2, 1, (0, 0)))
+
+    def test_words_whose_bits_are_counted(self):
+        wide = array.array("L", [0, 3, 2])
+        for kind in [list, iter, bytes, Misjudged, lambda numbers: map(Index, numbers)]:
+            self.assertEqual(tiedraw.bit_counts(kind(PROGRAM), kind([0, 3, 2]), Index(6)).bits, b"001110")
+        for words in [wide, memoryview(wide)]:
+            self.assertEqual(tiedraw.bit_counts(PROGRAM, words).bits, b"001110")
 
     def test_whole_numbers_of_other_kinds(self):
         desk = tiedraw.Generator(PROGRAM, [Index(2), Index(3)])

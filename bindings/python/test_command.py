@@ -48,6 +48,34 @@ class Command(unittest.TestCase):
         self.assertEqual(self.printed("draw", PROGRAM, "0,0"), ["word 00000000", "state 00000001,00000002"])
         self.assertEqual(self.printed("draw", "00", "0,0,0,EDB77BDE", "--count", "0"), ["state " + "00000000," * 3 + "edb77bde"])
 
+    def test_bits(self):
+        for options, answer in {
+            ("0,0", "--count", "4"): ["balance -2", "forward 4", "backward 2", "runs 3", "state 00000002,00000000"],
+            ("2,3",): ["balance 2", "forward 2", "backward 2", "runs 1", "state 00000001,00000001"],
+            ("2,3", "--count", "0"): ["balance 0", "forward 0", "backward 0", "runs 0", "state 00000002,00000003"],
+        }.items():
+            self.assertEqual(self.printed("bits", PROGRAM, *options), answer)
+
+    def test_bits_in_a_file(self):
+        with tempfile.TemporaryDirectory() as folder:
+            file = pathlib.Path(folder, "bits.txt")
+            file.write_text("of another pit, and longer", encoding="utf-8")
+            printed = self.printed("bits", PROGRAM, "0,0", "--count", "4", "--file", str(file))
+            self.assertEqual(printed, self.printed("bits", PROGRAM, "0,0", "--count", "4"))
+            self.assertEqual(file.read_bytes(), b"00001110")
+            self.fails(2, "Is a directory", "bits", PROGRAM, "0,0", "--file", folder)
+            self.fails(2, "none/bits.txt: No such file", "bits", PROGRAM, "0,0", "--file", f"{folder}/none/bits.txt")
+
+    def test_the_longest_strip_of_bits(self):
+        most = tiedraw.MOST_STRIP_WORDS
+        desk = tiedraw.Generator(b"\0", [0] * 4)
+        counts = tiedraw.bit_counts(b"\0", desk.words(most))
+        lines = [f"{name} {getattr(counts, name)}" for name in ("balance", "forward", "backward", "runs")]
+        state = ",".join(f"{word:08x}" for word in desk.state)
+        self.assertEqual(self.printed("bits", "00", "0,0,0,0", "--count", str(most)), [*lines, f"state {state}"])
+        for count in (most + 1, 10**19):
+            self.fails(1, "refusal 22 (strip too long): ", "bits", "00", "0,0,0,0", "--count", str(count))
+
     def test_pick(self):
         for times, answer in {
             ("7=300", "4=300"): ["shovel 7", "ties 2", "taken 1", "state 00000001,00000001"],
@@ -115,7 +143,7 @@ class Command(unittest.TestCase):
         versions = [f"binding {tiedraw.__version__}", f"library {tiedraw.library_version()}"]
         self.assertEqual(self.printed("--version"), versions)
         told = "\n".join(self.printed("--help"))
-        commands = ["check", "read", "draw", "pick", "margin", "recpick", "desk", "cab", "new"]
+        commands = ["check", "read", "draw", "bits", "pick", "margin", "recpick", "desk", "cab", "new"]
         for text in [*commands, "words in hex with commas", "@FILE", "Exit status"]:
             self.assertIn(text, told)
         for command in commands:
@@ -126,6 +154,7 @@ class Command(unittest.TestCase):
         self.fails(1, "refusal 1 (short): ", "read", "")
         self.fails(1, "refusal 10 (word count): ", "draw", PROGRAM, "0")
         self.fails(1, "refusal 10 (word count): ", "draw", PROGRAM, "")
+        self.fails(1, "refusal 11 (high bits): ", "bits", PROGRAM, "0,4")
         self.fails(1, "refusal 13 (no shovel): ", "pick", PROGRAM, "0,0")
         self.fails(1, "refusal 15 (twice): ", "pick", PROGRAM, "0,0", "7=1", "7=2")
         self.fails(1, "refusal 18 (too many equals): ", "pick", PROGRAM, "0,0", "1=60", "2=60", "3=60", "4=60", "5=60")
@@ -149,6 +178,8 @@ class Command(unittest.TestCase):
             ("'' is not a word in hex", "draw", PROGRAM, "0,"),
             ("word 1: 4294967296 is more than 32 bits", "draw", PROGRAM, "0,100000000"),
             ("'-1' is not a whole number", "draw", PROGRAM, "0,0", "--count", "-1"),
+            ("'1.5' is not a whole number", "bits", PROGRAM, "0,0", "--count", "1.5"),
+            ("expected one argument", "bits", PROGRAM, "0,0", "--file"),
             ("'7' is not SHOVEL=SECONDS", "pick", PROGRAM, "0,0", "7"),
             ("SHOVEL: 65536 is more than 16 bits", "pick", PROGRAM, "0,0", "65536=1"),
             ("'1.5' is not a whole number", "pick", PROGRAM, "0,0", "7=1.5"),

@@ -12,9 +12,16 @@ HEADER = re.sub(r"/\*.*?\*/", "", (ROOT / "include/tiedraw.h").read_text(encodin
 FFI = (ROOT / "bindings/rust/src/ffi.rs").read_text(encoding="utf-8")
 
 BOUNDS = {"MOST_WORDS": 8, "TABLE_SIZE": 256}
-RUST = {"uint8_t": "u8", "uint16_t": "u16", "uint32_t": "u32", "size_t": "usize"}
-CTYPES = {"uint8_t": ctypes.c_uint8, "uint16_t": ctypes.c_uint16, "uint32_t": ctypes.c_uint32, "size_t": ctypes.c_size_t}
-OTHER_NAMES = {"Choice": "Chosen", "Record": "RecordFields"}  # in Python, where those are what a caller gets
+RUST = {"uint8_t": "u8", "uint16_t": "u16", "uint32_t": "u32", "int32_t": "i32", "size_t": "usize"}
+CTYPES = {
+    "uint8_t": ctypes.c_uint8,
+    "uint16_t": ctypes.c_uint16,
+    "uint32_t": ctypes.c_uint32,
+    "int32_t": ctypes.c_int32,
+    "size_t": ctypes.c_size_t,
+}
+# in Python, where those are what a caller gets
+OTHER_NAMES = {"Choice": "Chosen", "Record": "RecordFields", "BitCounts": "Counted"}
 
 
 def named(kind):

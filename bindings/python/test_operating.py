@@ -5,7 +5,7 @@ import pathlib
 import random
 import unittest
 
-from tiedraw import Generator, Refusal, Refused, check, new_card
+from tiedraw import Generator, Refusal, Refused, bit_counts, check, new_card
 
 OPERATING = pathlib.Path(__file__).resolve().parents[2] / "docs/OPERATING.md"
 SHORT = bytes.fromhex("b0 00 01 00 00 00 00")
@@ -33,6 +33,10 @@ class Measured(unittest.TestCase):
         starts = [[chance.getrandbits(32) for _ in range(4)] for _ in range(100)]
         self.assertGreater(sum(repeats(lots(SHORT, start, 2, 4_000), 16) for start in starts), 85)
 
+    def test_the_counts_of_its_bits(self):
+        counts = bit_counts(SHORT, Generator(SHORT, [0] * 4).words(15_625))
+        self.assertEqual(counts[:4], (-227_872, 227_872, 227_872, 168_021))
+
     def test_six_shovels_are_too_many_for_words_of_two_bits(self):
         desk = Generator(NARROW, [0, 0])
         with self.assertRaises(Refused) as caught:
@@ -48,7 +52,7 @@ class Measured(unittest.TestCase):
 class Typed(unittest.TestCase):
     def test_python_answers_as_shown(self):
         done = doctest.testfile(str(OPERATING), module_relative=False, encoding="utf-8")
-        self.assertEqual((done.failed, done.attempted), (0, 9))
+        self.assertEqual((done.failed, done.attempted), (0, 10))
 
 
 if __name__ == "__main__":

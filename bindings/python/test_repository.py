@@ -67,7 +67,7 @@ class Versions(unittest.TestCase):
 
 
 class Bounds(unittest.TestCase):
-    names = ["MOST_WORDS", "MOST_SHOVELS", "MOST_CARD_BYTES", "MOST_TAKEN"]
+    names = ["MOST_WORDS", "MOST_SHOVELS", "MOST_CARD_BYTES", "MOST_TAKEN", "MOST_STRIP_WORDS"]
 
     def same(self, number, found):
         self.assertEqual(found, [str(number)])
@@ -81,6 +81,7 @@ class Bounds(unittest.TestCase):
         self.same(tiedraw.MOST_SHOVELS, re.findall(r"\nmostShovels = (\d+)\n", text("crates/ties/specs/Ties.antt")))
         self.same(tiedraw.MOST_CARD_BYTES, re.findall(r"\nmostCardBytes = (\d+)\n", text("crates/card_format/specs/Fields.antt")))
         self.same(tiedraw.MOST_TAKEN, re.findall(r"\nmostTaken = (\d+)\n", text("crates/samples/specs/Samples.antt")))
+        self.same(tiedraw.MOST_STRIP_WORDS, re.findall(r"\nmostStripWords = (\d+)\n", text("crates/bit_strip/specs/Strip.antt")))
 
     def test_rust(self):
         for name in self.names:

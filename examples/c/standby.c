@@ -1,8 +1,8 @@
 /* A dispatch server and its standby, each with its own copy of the state and its own order of the list: they send every truck to
    the same shovel, and both leave the same record of each tie, of which the truck's cab shows the shovel and no more. First version
-   and card are looked at, and a simulation desk sees the lots of the shift beforehand; where one shovel is nearest, it is told how
-   firm that is; at the end the dispatcher's desk reads the records and makes their picks again, the lots are taken back one by
-   one, and bad input shows what a refusal is. */
+   and card are looked at, and a simulation desk sees the lots of the shift beforehand, and their words as bits; where one shovel is
+   nearest, it is told how firm that is; at the end the dispatcher's desk reads the records and makes their picks again, the lots
+   are taken back one by one, and bad input shows what a refusal is. */
 #include <inttypes.h>
 #include <stdio.h>
 #include <stdlib.h>
@@ -139,6 +139,15 @@ static void look_at_version_and_card(void) {
            reading.card.width, reading.card.constant);
 }
 
+/* What NIST's tests count in the bits of the words, which are left on the page for the published suite. */
+static void tell_bits(const uint32_t *strip) {
+    uint8_t page[32 * LOTS];
+    tiedraw_bit_counts counts = tiedraw_count_bits(card, sizeof card, strip, LOTS, page, sizeof page);
+    stop_unless(counts.refusal == 0, "a count of bits was refused");
+    printf("their words as bits: %.32s and so on, balance %" PRId32 ", furthest %" PRIu32 " and %" PRIu32 ", runs %" PRIu32 "\n",
+           (const char *)page, counts.balance, counts.forward, counts.backward, counts.runs);
+}
+
 /* The words of the next lots by one call, from a copy of the state: the four shovels other than 30 tie for six of the trucks, and
    four divides 2^32, so that no word is passed over. */
 static void look_ahead(const uint32_t *state) {
@@ -149,6 +158,7 @@ static void look_ahead(const uint32_t *state) {
     for (int i = 0; i < LOTS; i++)
         printf(" %" PRIu32, strip[i] % 4);
     printf("\n");
+    tell_bits(strip);
 }
 
 /* A bad card, no card, a strip without room, and more ties than a narrow card has words: each refused, and the state stays. */

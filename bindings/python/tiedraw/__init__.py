@@ -9,13 +9,15 @@
     choice, record = desk.pick_recorded(258, {7: 300, 4: 300})
     tiedraw.read_record(record)     # Record(truck=258, shovel=4, ties=2, taken=1, state=(2, 0))
     tiedraw.order_for(258, record)  # 4
+    tiedraw.bit_counts(desk.card, [0, 3, 2])  # BitCounts(balance=0, forward=2, backward=2, runs=3, bits=b'001110')
 
 A Generator holds an accepted card and a state of its size, so its draws and steps can't be refused. Many words at once
 cost least by Generator.words, or by Generator.fill into a buffer that is there already. Generator.margin tells how near a
 pick would be, and moves nothing. Generator.pick_recorded also gives the record of a tie, as bytes: read_record reads it
-for the desk, order_for tells a cab its shovel. The functions check, read, step, step_back, draw, fill, pick, pick_recorded,
-margin and write are the library's own; they take state and strip as sequences, and return new ones where these change.
-new_card makes a card for a pit. `python3 -m tiedraw --help` tells of the same on a command line.
+for the desk, order_for tells a cab its shovel. bit_counts gives words as bits for the tests of NIST SP 800-22, and what
+those count. The functions check, read, step, step_back, draw, fill, pick, pick_recorded, margin and write are the library's
+own; they take state and strip as sequences, and return new ones where these change. new_card makes a card for a pit.
+`python3 -m tiedraw --help` tells of the same on a command line.
 
 A refusal raises Refused. What can't be handed over raises TypeError if it is no whole number, ValueError if it is too
 wide or negative, and the error names it: `shovels[2]: 65536 is more than 16 bits`. A place or count of a fill that is too
@@ -26,6 +28,7 @@ the package stands in, or on the system.
 """
 
 from ._calls import (
+    bit_counts,
     check,
     draw,
     fill,
@@ -40,18 +43,28 @@ from ._calls import (
     write,
 )
 from ._generator import Generator
-from ._library import MOST_CARD_BYTES, MOST_RECORD_BYTES, MOST_SHOVELS, MOST_TAKEN, MOST_WORDS, library_version
+from ._library import (
+    MOST_CARD_BYTES,
+    MOST_RECORD_BYTES,
+    MOST_SHOVELS,
+    MOST_STRIP_WORDS,
+    MOST_TAKEN,
+    MOST_WORDS,
+    library_version,
+)
 from ._new_card import new_card
 from ._refusal import Refusal, Refused
-from ._values import Choice, Margin, Record, Recorded, Values
+from ._values import BitCounts, Choice, Margin, Record, Recorded, Values
 from ._version import __version__
 
 __all__ = [
     "MOST_CARD_BYTES",
     "MOST_RECORD_BYTES",
     "MOST_SHOVELS",
+    "MOST_STRIP_WORDS",
     "MOST_TAKEN",
     "MOST_WORDS",
+    "BitCounts",
     "Choice",
     "Generator",
     "Margin",
@@ -61,6 +74,7 @@ __all__ = [
     "Refused",
     "Values",
     "__version__",
+    "bit_counts",
     "check",
     "draw",
     "fill",

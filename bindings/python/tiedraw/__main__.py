@@ -7,10 +7,22 @@ import os
 import sys
 from typing import Any, Callable, Iterator
 
-from . import Generator, Refused, __version__, check, library_version, new_card, order_for, read, read_record
-from ._library import MOST_WORDS
+from . import Generator, Refused, __version__, bit_counts, check, library_version, new_card, order_for, read, read_record
+from ._library import MOST_STRIP_WORDS, MOST_WORDS
 from ._new_card import DEFAULT_WORDS, FEWEST_WORDS, NARROWEST, WIDEST, between
-from ._text import choice_lines, hex_bytes, number, record_lines, shovel_time, state_text, state_words, truck, value_lines
+from ._text import (
+    choice_lines,
+    count_lines,
+    hex_bytes,
+    number,
+    record_lines,
+    save,
+    shovel_time,
+    state_text,
+    state_words,
+    truck,
+    value_lines,
+)
 
 ABOUT = """\
 Tie draws for mine dispatch, proved. Each command prints one fact a line, a name and its value.
@@ -37,6 +49,16 @@ def _draw(options: argparse.Namespace) -> Iterator[str]:
     desk = Generator(options.card, options.state)
     for _ in range(options.count):
         yield f"word {desk.draw():08x}"
+    yield f"state {state_text(desk.state)}"
+
+
+def _bits(options: argparse.Namespace) -> Iterator[str]:
+    desk = Generator(options.card, options.state)
+    words = desk.words(min(options.count, MOST_STRIP_WORDS + 1))  # one too many is refused as any more are
+    counts = bit_counts(desk.card, words)
+    if options.file is not None:
+        save(options.file, counts.bits)
+    yield from count_lines(counts)
     yield f"state {state_text(desk.state)}"
 
 
@@ -112,7 +134,10 @@ def _parser() -> argparse.ArgumentParser:
     command(_check, "prints `accepted`, or the card is refused by 1 to 9", "CARD")
     command(_read, "prints the eight values of a card, or it is refused by 1 to 6", "CARD")
     draw = command(_draw, "prints the word of each draw, then the state after the last", "CARD", "STATE")
-    draw.add_argument("--count", metavar="N", type=_parsed(number), default=1, help="so many draws (default 1)")
+    bits = command(_bits, "draws words, and prints what NIST SP 800-22 counts in their bits, then the state", "CARD", "STATE")
+    for added in (draw, bits):
+        added.add_argument("--count", metavar="N", type=_parsed(number), default=1, help="so many draws (default 1)")
+    bits.add_argument("--file", metavar="FILE", help="the bits are written there, as 0 and 1, each word's top bit first")
     pick = command(_pick, "prints the shovel, the number of ties and of words taken, and the state after the pick", "CARD", "STATE")
     margin = command(_margin, "prints the smallest change of one time that sends the truck elsewhere, and that pick", "CARD", "STATE")
     recpick = command(_recpick, "picks for a truck, and prints also the record that a tie leaves", "CARD", "STATE", "TRUCK")

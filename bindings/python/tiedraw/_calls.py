@@ -7,10 +7,10 @@ from ctypes import c_uint8, c_uint16, c_uint32
 from typing import Any, Callable, SupportsIndex
 
 from . import _library
-from ._library import MOST_CARD_BYTES, MOST_RECORD_BYTES, Chosen, MarginAnswer
+from ._library import MOST_CARD_BYTES, MOST_RECORD_BYTES, MOST_STRIP_WORDS, Chosen, MarginAnswer
 from ._numbers import Numbers, row, seconds_row, span, truck_number, whole
 from ._refusal import unless_refused
-from ._values import Choice, Margin, Record, Recorded, Values
+from ._values import BitCounts, Choice, Margin, Record, Recorded, Values
 
 
 def check(card: Numbers) -> None:
@@ -140,6 +140,22 @@ def margin(card: Numbers, state: Numbers, shovels: Numbers, times: Numbers) -> M
     equally small changes the one of the lower shovel number is told, then lowered before raised.
     """
     return margin_of(_on_state(_library.margin, card, state, *_lists(shovels, times))[0])
+
+
+def bit_counts(card: Numbers, words: Numbers, room: SupportsIndex | None = None) -> BitCounts:
+    """The bits of words, each word's top bit first and as many as the card says, and what NIST SP 800-22 counts in them.
+
+    After all that check refuses, more than MOST_STRIP_WORDS words are refused by 22, and a word that is wider than the card
+    says by 23; and where room is given, of a page, fewer bytes than there are bits by 24.
+    """
+    lent = row(c_uint8, "card", card)
+    strip, count = row(c_uint32, "words", words)
+    most = 32 * min(count, MOST_STRIP_WORDS)  # more words are refused, and none is written
+    page = _page(most if room is None else room, most)
+    answer = _library.count_bits(*lent, strip, count, page, len(page))
+    unless_refused(answer.refusal)
+    bits = ctypes.string_at(page, count * _library.read(*lent).card.width)
+    return BitCounts(answer.balance, answer.forward, answer.backward, answer.runs, bits)
 
 
 def _arguments(name: str, value: Any) -> tuple[Any, ...]:

@@ -3,7 +3,7 @@
 from __future__ import annotations
 
 import ctypes
-from ctypes import POINTER, c_size_t, c_uint8, c_uint16, c_uint32
+from ctypes import POINTER, c_int32, c_size_t, c_uint8, c_uint16, c_uint32
 from typing import Any, Callable
 
 from ._load import load
@@ -16,6 +16,7 @@ MOST_SHOVELS = 64
 MOST_CARD_BYTES = 267
 MOST_TAKEN = 16
 MOST_RECORD_BYTES = 8 + 4 * MOST_WORDS
+MOST_STRIP_WORDS = 16384
 
 
 class Card(ctypes.Structure):
@@ -119,6 +120,21 @@ class OrderAnswer(ctypes.Structure):
     refusal: int
 
 
+class Counted(ctypes.Structure):
+    _fields_ = [
+        ("balance", c_int32),
+        ("forward", c_uint32),
+        ("backward", c_uint32),
+        ("runs", c_uint32),
+        ("refusal", c_uint8),
+    ]
+    balance: int
+    forward: int
+    backward: int
+    runs: int
+    refusal: int
+
+
 def library_version() -> str:
     """The version of the library that is loaded."""
     return VERSION
@@ -152,6 +168,7 @@ pick_recorded: Callable[..., Chosen] = call("tiedraw_pick_recorded", Chosen, _ON
 read_record: Callable[..., RecordReading] = call("tiedraw_read_record", RecordReading, _BYTES)
 order: Callable[..., OrderAnswer] = call("tiedraw_order", OrderAnswer, [c_uint16, *_BYTES])
 margin: Callable[..., MarginAnswer] = call("tiedraw_margin", MarginAnswer, _ON_STATE + _LISTS)
+count_bits: Callable[..., Counted] = call("tiedraw_count_bits", Counted, [*_BYTES, POINTER(c_uint32), c_size_t, *_BYTES])
 write: Callable[..., Written] = call(
     "tiedraw_write", Written, [c_uint8, c_uint8, *_BYTES, c_uint8, c_uint8, c_uint32, c_uint8, c_uint8, *_BYTES]
 )

@@ -34,6 +34,9 @@ class Refusal(enum.IntEnum):
     NO_SUCH_CHANGE = 19, "firm", "no change of one shovel's time sends the truck elsewhere"
     MALFORMED_RECORD = 20, "torn", "a record's map, state count or length is not of its form"
     TRUCK_MISMATCH = 21, "other truck", "the record is of another truck than the cab's"
+    STRIP_TOO_LONG = 22, "strip too long", "the strip has more than 16,384 words"
+    STRIP_WORD_TOO_WIDE = 23, "strip bits", "a strip word is wider than the card says"
+    BIT_PAGE_TOO_SMALL = 24, "bit page", "the page has fewer bytes than the strip has bits"
 
     def __new__(cls, number: int, trade_word: str, when: str) -> Refusal:
         self = int.__new__(cls, number)

@@ -1,4 +1,4 @@
-"""Cards, states, shovels and records as text, for the command line. What is no such text raises ValueError."""
+"""Cards, states, shovels, records and counts as text, for the command line. What is no such text raises ValueError."""
 
 from __future__ import annotations
 
@@ -8,12 +8,20 @@ from reprlib import repr as shown
 from typing import Iterable
 
 from ._numbers import truck_number, whole
-from ._values import Choice, Record, Values
+from ._values import BitCounts, Choice, Record, Values
 
 
 def _file(name: str) -> str:
     try:
         return Path(name).read_text(encoding="utf-8")
+    except OSError as error:
+        raise ValueError(f"{name}: {error.strerror}") from None
+
+
+def save(name: str, text: bytes) -> None:
+    """Into a file, in place of what it had."""
+    try:
+        Path(name).write_bytes(text)
     except OSError as error:
         raise ValueError(f"{name}: {error.strerror}") from None
 
@@ -65,6 +73,11 @@ def state_text(words: Iterable[int]) -> str:
 def choice_lines(choice: Choice) -> list[str]:
     """The name of each field, and the field."""
     return [f"{name} {value}" for name, value in choice._asdict().items()]
+
+
+def count_lines(counts: BitCounts) -> list[str]:
+    """The name of each count, and the count."""
+    return [f"{name} {value}" for name, value in counts._asdict().items() if name != "bits"]
 
 
 def record_lines(record: Record) -> list[str]:

@@ -1,4 +1,4 @@
-"""What the calls take and answer: the values of a card, the choice of a pick, its record, and how near it was."""
+"""What the calls take and answer: the values of a card, the choice of a pick, its record, how near it was, and counts of bits."""
 
 from __future__ import annotations
 
@@ -54,6 +54,21 @@ class Margin(NamedTuple):
     shovel: int
     ties: int
     taken: int
+
+
+class BitCounts(NamedTuple):
+    """The bits of words, and what the tests of NIST SP 800-22 count in them. All four counts are 0 where there are no bits.
+
+    `balance` is ones minus zeros (S_n, frequency test); `forward` and `backward` are the largest distance from zero of the
+    running sum of +1 for a one and -1 for a zero, read from the first bit on and from the last bit back (z, cumulative sums
+    test); `runs` is the number of runs (V_n, runs test). `bits` is ASCII 0 and 1, as the published suite reads them.
+    """
+
+    balance: int
+    forward: int
+    backward: int
+    runs: int
+    bits: bytes
 
 
 class Values(NamedTuple):

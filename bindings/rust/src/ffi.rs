@@ -77,6 +77,15 @@ pub struct OrderAnswer {
     pub refusal: u8,
 }
 
+#[repr(C)]
+pub struct BitCounts {
+    pub balance: i32,
+    pub forward: u32,
+    pub backward: u32,
+    pub runs: u32,
+    pub refusal: u8,
+}
+
 extern "C" {
     pub fn tiedraw_version() -> u32;
     pub fn tiedraw_check(card: *const u8, card_len: usize) -> u8;
@@ -130,6 +139,14 @@ extern "C" {
         times: *const u32,
         time_count: usize,
     ) -> MarginAnswer;
+    pub fn tiedraw_count_bits(
+        card: *const u8,
+        card_len: usize,
+        strip: *const u32,
+        strip_len: usize,
+        page: *mut u8,
+        page_len: usize,
+    ) -> BitCounts;
     pub fn tiedraw_write(
         words: u8,
         width: u8,

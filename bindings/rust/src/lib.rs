@@ -3,8 +3,8 @@
 //! [`Generator`] holds an accepted card and a state of its size, so that its draws, fills and steps can't be refused; a
 //! list of [`Shovel`]s can't have more numbers than times. [`Generator::margin`] tells how near a pick would be, and
 //! moves nothing. [`Generator::pick_recorded`] also gives the record of a tie, which [`read_record`] reads for the desk
-//! and [`order_for`] for a cab. The functions of this module are the library's own, on slices, for callers who keep card
-//! and state themselves.
+//! and [`order_for`] for a cab. [`Card::bit_counts`] gives words as bits for the tests of NIST SP 800-22, with their counts.
+//! The functions of this module are the library's own, on slices, for callers who keep card and state themselves.
 //!
 //! Every call panics where the library has another major or minor version than this binding ([`check_version`]).
 //!
@@ -20,11 +20,13 @@
 
 #![warn(missing_docs)]
 
+mod bits;
 pub mod ffi;
 mod record;
 mod refusal;
 mod version;
 
+pub use bits::{bit_counts, BitCounts};
 pub use record::{order_for, pick_recorded, read_record, Record, RecordBytes};
 pub use refusal::Refusal;
 pub use version::{check_version, library_version, Version, VersionMismatch, VERSION};
@@ -41,6 +43,8 @@ pub const MOST_SHOVELS: usize = 64;
 pub const MOST_TAKEN: usize = 16;
 /// No record has more bytes.
 pub const MOST_RECORD_BYTES: usize = 8 + 4 * MOST_WORDS;
+/// No strip whose bits are counted has more words.
+pub const MOST_STRIP_WORDS: usize = 16384;
 
 /// The card of TSC-1: every field absent.
 const TSC1: &[u8] = &[0];

@@ -44,6 +44,9 @@ refusals! {
     (NoSuchChange, "firm", "no change of one shovel's time sends the truck elsewhere"),
     (MalformedRecord, "torn", "a record's map, state count or length is not of its form"),
     (TruckMismatch, "other truck", "the record is of another truck than the cab's"),
+    (StripTooLong, "strip too long", "the strip has more than 16,384 words"),
+    (StripWordTooWide, "strip bits", "a strip word is wider than the card says"),
+    (BitPageTooSmall, "bit page", "the page has fewer bytes than the strip has bits"),
 }
 
 impl Refusal {
