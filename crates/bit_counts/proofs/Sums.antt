@@ -54,7 +54,8 @@ ones = meeting (λ b. not (eqb b 0))
 abbrev pub zeros : List ℕ → ℕ
 zeros = meeting (λ b. eqb b 0)
 
-one-or-other : (t : Bool) → one (not t) + one t ≡ 1
+-- a test holds or not
+pub one-or-other : (t : Bool) → one (not t) + one t ≡ 1
 one-or-other true = refl
 one-or-other false = refl
 
@@ -75,6 +76,15 @@ balance-difference (b ∷ bs) = difference-plus (sign b) (balance bs) _ _ _ _ (s
 
 pub balance-size : (bits : List ℕ) → natAbs (balance bits) ≡ (ones bits - zeros bits) + (zeros bits - ones bits)
 balance-size bits = difference-size (balance bits) (ones bits) (zeros bits) (balance-difference bits)
+
+-- of two lists, one after the other, the balances add up
+pub balance-append : (s t : List ℕ) → balance (s ++ t) ≡ balance s +ℤ balance t
+balance-append s t =
+    let o = meeting-append (λ b. not (eqb b 0)) s t in
+    let z = meeting-append (λ b. eqb b 0) s t in
+    difference-one (balance (s ++ t)) (balance s +ℤ balance t) (ones s + ones t) (zeros s + zeros t)
+    (difference-shift (balance (s ++ t)) (ones (s ++ t)) (zeros (s ++ t)) _ _ (balance-difference (s ++ t)) (omega arith))
+    (difference-plus (balance s) (balance t) (ones s) (zeros s) (ones t) (zeros t) (balance-difference s) (balance-difference t))
 
 -- read backward it is the same
 pub balance-back : (bits : List ℕ) → balance (reverse bits) ≡ balance bits

@@ -39,6 +39,11 @@ pub count-next : (n : ℕ) (p : ℕ → Bool) → count (suc n) p ≡ count n p 
 unfolding count sum
 count-next n p = refl
 
+-- the same from the front
+pub count-first : (n : ℕ) (p : ℕ → Bool) → count (suc n) p ≡ one (p 0) + count n (λ i. p (suc i))
+count-first zero p = omega (arith, count-next 0 p, count-none p, count-none (λ i. p (suc i)))
+count-first (suc n) p = omega (arith, count-next (suc n) p, count-next n (λ i. p (suc i)), count-first n p)
+
 pub count-ext : (n : ℕ) (p q : ℕ → Bool) → ((i : ℕ) → i < n → p i ≡ q i) → count n p ≡ count n q
 unfolding count
 count-ext n p q h = sum-ext n (λ i. one (p i)) (λ i. one (q i)) (λ i l. ap one (h i l))

@@ -57,9 +57,10 @@ use Rattle.recorded_picks.specs.Recorded.{recordedRefusal, recordedPicking, rec
 use Rattle.recorded_picks.proofs.Order.{recorded-order, page-order, standby-records, standby-pages}
 use Rattle.recorded_picks.proofs.Desk.{page-left, page-kept, record-read, record-replayed}
 use Rattle.bit_counts.specs.Calls.{bitRefusal, countingBits, bitPage}
-use Rattle.bit_counts.proofs.Sums.{balance-parity, balance-bound}
+use Rattle.bit_counts.proofs.Sums.{balance-append, balance-parity, balance-bound}
 use Rattle.bit_counts.proofs.Extremes.{forward-extremes, backward-extremes, furthest-is, forward-bounds, backward-bounds}
-use Rattle.bit_counts.proofs.Runs.{runs-bound}
+use Rattle.bit_counts.proofs.Runs.{runs-append, runs-bound}
+use Rattle.bit_counts.proofs.Bits.{bitsOf-append}
 use Rattle.bit_counts.proofs.Counting.{page-digits, page-back, page-rest}
 use Rattle.bit_counts.proofs.Examples.{examples-hold, no-bits}
 use Rattle.demands.specs.Demands.{ByTable, nothing, AnsweredOrRefused, Ready, Published, Undone, SameBytes, SameLots, AcceptedIffCovers, FilledAsDrawn, FairRanks, NearestChange, UpToEightWords, NoEarlyRepeat, CabAndDesk, BitsCounted, Demands}
@@ -291,6 +292,9 @@ bits-counted =
       forward = forward-bounds;
       backward = backward-bounds;
       fewRuns = runs-bound;
+      strips = bitsOf-append;
+      balances = balance-append;
+      joinedRuns = runs-append;
       onePass = λ bits. (forward-extremes bits, backward-extremes bits);
     }
 

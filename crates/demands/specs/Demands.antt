@@ -9,7 +9,7 @@ use lib.Dec.{eqb}
 use lib.IntN.{pos, natAbs, _+ℤ_, _-ℤ_}
 use lib.ListN.{length, getD, take, drop}
 use Rattle.refusals.specs.Refusals.{noSuchChange, Check, firstOf, NoneApplies}
-use Rattle.cycle.specs.Notation.{count, All, iterate, bit}
+use Rattle.cycle.specs.Notation.{one, count, All, iterate, bit}
 use Rattle.cycle.specs.Period.{Period, LeastPeriod}
 use Rattle.cycle.specs.Fair.{givesRank}
 use Rattle.tsc.specs.declared.Card.{Card}
@@ -52,7 +52,7 @@ use Rattle.records.specs.Writing.{stateOf, encoded, Fits, fullRecord, recordedO
 use Rattle.records.specs.Orders.{orderChecks, orderFor, heard, SameOrder}
 use Rattle.recorded_picks.specs.Recorded.{Halves, recordedChecks, recordedPicking, recordedState, recordLeft, recordedPage}
 use Rattle.bit_counts.specs.declared.BitCounts.the-variants as BitCounts
-use Rattle.bit_counts.specs.Bits.{text, numbersIn}
+use Rattle.bit_counts.specs.Bits.{bitsOf, text, numbersIn}
 use Rattle.bit_counts.specs.Counts.{balance, runningSum, furthest, runs, countsOf, peak, trough}
 use Rattle.bit_counts.specs.Calls.{stripBits, bitChecks, countingBits, bitPage}
 use Rattle.bit_counts.specs.Examples.{ExamplesHold}
@@ -326,6 +326,11 @@ pub record BitsCounted : Type 0 where
   pub forward : (bits : List ℕ) → (natAbs (balance bits) ≤ furthest bits) × (furthest bits ≤ length bits)
   pub backward : (bits : List ℕ) → (natAbs (balance bits) ≤ furthest (reverse bits)) × (furthest (reverse bits) ≤ length bits)
   pub fewRuns : (bits : List ℕ) → runs bits ≤ length bits
+  -- the bits of two strips, one behind the other, are those of one strip: balances add up, and runs, less one where the bits on both sides of the cut are equal
+  pub strips : (n : ℕ) (s t : List ℕ) → bitsOf n (s ++ t) ≡ bitsOf n s ++ bitsOf n t
+  pub balances : (s t : List ℕ) → balance (s ++ t) ≡ balance s +ℤ balance t
+  pub joinedRuns : (x : ℕ) (s : List ℕ) (y : ℕ) (t : List ℕ)
+      → runs ((x ∷ s) ++ y ∷ t) + one (eqb (getD (x ∷ s) (length s) 0) y) ≡ runs (x ∷ s) + runs (y ∷ t)
   -- one pass suffices: both distances follow from the total and from how far the running sum, read forward, comes above zero and below
   pub onePass : (bits : List ℕ) → (furthest bits ≡ max (peak bits) (trough bits))
       × (furthest (reverse bits) ≡ max (natAbs (balance bits +ℤ pos (trough bits))) (natAbs (pos (peak bits) -ℤ balance bits)))
