@@ -5,7 +5,7 @@ ghost use Rattle.bit_strip.specs.Strip.{stripChecks};
 use card_fields::width;
 
 // The most words of a strip.
-const MOST_STRIP_WORDS: usize = 16384;
+pub const MOST_STRIP_WORDS: usize = 16384;
 
 // The first of refusals 22 to 24 that applies to a strip of words of n bits and a page of `room` bytes, or 0.
 pub fn strip_refusal(n: u32, strip: &[u32], room: usize) -> u8

@@ -5,12 +5,14 @@ use Prim.Native.Nat.{ℕ, _+_, _-_, _*_, _^_, _≤_, _<_, min, max}
 use lib.Dec.{eqb}
 use lib.IntN.{subℕ}
 use Rattle.cycle.specs.Notation.{one}
+use Rattle.tsc.specs.Constants.{widestWidth}
+use Rattle.bit_strip.specs.Strip.{mostStripWords}
 use Rattle.bit_counts.specs.declared.Counts.{Counts}
 use Rattle.bit_tally.specs.declared.tally.Tally.{Tally}
 
 -- how much higher the running sum is kept: the most bits there may be
 abbrev pub base : ℕ
-base = 524288
+base = widestWidth * mostStripWords
 
 abbrev pub noBits : Tally
 noBits = record { sum = base; low = base; high = base; runs = 0; last = 2 }

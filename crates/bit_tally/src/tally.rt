@@ -7,9 +7,10 @@ ghost use lib.IntN.{subℕ};
 ghost use Rattle.cycle.specs.Notation.{one};
 ghost use Rattle.bit_tally.specs.Tally.{base, noBits, withBit, HasRoom, Extremes, countsFrom};
 use bit_counts::Counts;
+use bit_strip::check::MOST_STRIP_WORDS;
 
-// The running sum is kept that much higher, so that it is a number: it never falls by more than there are bits, 16,384 words of 32.
-const BASE: u32 = 524288;
+// The running sum is kept that much higher, so that it is a number: it never falls by more than there are bits.
+const BASE: u32 = 32 * MOST_STRIP_WORDS as u32;
 
 // The running sum, the lowest and the highest it has been, the runs, and the last bit, which is 2 before the first.
 pub struct Tally {
