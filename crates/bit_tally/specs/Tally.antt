@@ -1,13 +1,15 @@
 -- What is kept while bits are counted: with one bit more, and the four integers that it comes to.
 use mathlib.Core.Bool.{not}
-use mathlib.Core.List.{List, [], _∷_}
+use mathlib.Core.List.{List, [], _∷_, _++_}
 use Prim.Native.Nat.{ℕ, _+_, _-_, _*_, _^_, _≤_, _<_, min, max}
 use lib.Dec.{eqb}
 use lib.IntN.{subℕ}
+use lib.ListN.{length, drop}
 use Rattle.cycle.specs.Notation.{one}
 use Rattle.tsc.specs.Constants.{widestWidth}
 use Rattle.bit_strip.specs.Strip.{mostStripWords}
 use Rattle.bit_counts.specs.declared.Counts.{Counts}
+use Rattle.bit_counts.specs.Bits.{bitsOf, text}
 use Rattle.bit_tally.specs.declared.tally.Tally.{Tally}
 
 -- how much higher the running sum is kept: the most bits there may be
@@ -49,3 +51,11 @@ countsFrom t = record {
   backward = max (t .sum - t .low) (t .high - t .sum);
   runs = t .runs;
 }
+
+-- ---- a strip of words of n bits: what the pass asks of it and of the page, and what it leaves there
+
+abbrev pub HasPlace : ℕ → List ℕ → List ℕ → Type 0
+HasPlace n strip page = (n ≤ widestWidth) × (length strip ≤ mostStripWords) × (n * length strip ≤ length page)
+
+abbrev pub withText : ℕ → List ℕ → List ℕ → List ℕ
+withText n strip page = text (bitsOf n strip) ++ drop (n * length strip) page

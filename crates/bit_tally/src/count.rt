@@ -1,13 +1,12 @@
 // Words as bits on a page, counted as they are put there.
 ghost use mathlib.Core.Path.{_≡_};
 ghost use mathlib.Core.List.{_++_};
-ghost use Prim.Native.Nat.{_*_, _<_, _≤_};
+ghost use Prim.Native.Nat.{_<_, _≤_};
 ghost use lib.ListN.{length, drop};
 ghost use Rattle.tsc.specs.Constants.{widestWidth};
 ghost use Rattle.bit_counts.specs.Bits.{wordBits, bitsOf, digit, text};
 ghost use Rattle.bit_counts.specs.Counts.{countsOf};
-ghost use Rattle.bit_strip.specs.Strip.{mostStripWords};
-ghost use Rattle.bit_tally.specs.Tally.{noBits, tallied, HasRoom};
+ghost use Rattle.bit_tally.specs.Tally.{noBits, tallied, HasRoom, HasPlace, withText};
 use super::tally;
 use super::tally::Tally;
 use bit_counts::Counts;
@@ -42,9 +41,9 @@ fn put_word(t: Tally, word: u32, n: u32, part: &mut [u8]) -> Tally
 
 // The words of a strip, one after the other.
 fn put_words(n: u32, strip: &[u32], page: &mut [u8]) -> Tally
-    requires { ⌜ (n ≤ widestWidth) × (length (now strip) ≤ mostStripWords) × (n * length (now strip) ≤ length (now page)) ⌝ }
+    requires { ⌜ HasPlace n (now strip) (now page) ⌝ }
     ensures counted { λ r. ⌜ r ≡ tallied noBits (bitsOf n (now (strip .entry))) ⌝ }
-    ensures page { λ r. ⌜ now (page .exit) ≡ text (bitsOf n (now (strip .entry))) ++ drop (n * length (now (strip .entry))) (now (page .entry)) ⌝ }
+    ensures page { λ r. ⌜ now (page .exit) ≡ withText n (now (strip .entry)) (now (page .entry)) ⌝ }
 {
     let mut t = tally::none();
     let mut at = 0;
@@ -59,9 +58,9 @@ fn put_words(n: u32, strip: &[u32], page: &mut [u8]) -> Tally
 
 // The bits of a strip at the front of the page, and what is counted of them. The call has found that words and page are as is required.
 pub fn count_bits(n: u32, strip: &[u32], page: &mut [u8]) -> Counts
-    requires { ⌜ (n ≤ widestWidth) × (length (now strip) ≤ mostStripWords) × (n * length (now strip) ≤ length (now page)) ⌝ }
+    requires { ⌜ HasPlace n (now strip) (now page) ⌝ }
     ensures counted { λ r. ⌜ r ≡ countsOf (bitsOf n (now (strip .entry))) ⌝ }
-    ensures page { λ r. ⌜ now (page .exit) ≡ text (bitsOf n (now (strip .entry))) ++ drop (n * length (now (strip .entry))) (now (page .entry)) ⌝ }
+    ensures page { λ r. ⌜ now (page .exit) ≡ withText n (now (strip .entry)) (now (page .entry)) ⌝ }
 {
     let t = put_words(n, strip, page);
     tally::counts_of(t)

@@ -85,7 +85,7 @@ fn signed(sum: u32) -> i32
     sum as i32 - BASE as i32
 }
 
-// The four integers.
+// The four integers that what is kept comes to. The pass keeps extremes (`pass-extremes`).
 pub fn counts_of(t: Tally) -> Counts
     requires { ⌜ Extremes t ⌝ }
     ensures { λ r. ⌜ r ≡ countsFrom t ⌝ }
