@@ -2,11 +2,11 @@
 use mathlib.Core.Path.{_≡_, ap}
 use mathlib.Core.Bool.{not}
 use mathlib.Core.List.{List, [], _∷_, _++_}
-use Prim.Native.Nat.{ℕ, suc, _+_, _≤_}
+use Prim.Native.Nat.{ℕ, _+_, _≤_}
 use native.Mathlib.Omega.{arith}
 use lib.Dec.{eqb}
 use lib.ListN.{length, getD}
-use Rattle.cycle.specs.Notation.{one, count}
+use Rattle.cycle.specs.Notation.{one}
 use Rattle.cycle.proofs.Count.{count-none, count-first, count-le}
 use Rattle.bit_counts.specs.Counts.{runs}
 use Rattle.bit_counts.proofs.Sums.{one-or-other}

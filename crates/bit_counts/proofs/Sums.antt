@@ -2,14 +2,14 @@
 use mathlib.Core.Path.{_≡_, refl, sym, ap, _∙_}
 use mathlib.Core.Bool.{Bool, true, false, not, cond}
 use mathlib.Core.List.{List, [], _∷_, _++_, reverse, reverseAux, reverseAux-append, reverseAux-eq}
-use Prim.Native.Nat.{ℕ, zero, suc, _+_, _-_, _%_, _≤_}
+use Prim.Native.Nat.{ℕ, _+_, _-_, _%_, _≤_}
 use native.Mathlib.Omega.{arith}
 use lib.Dec.{eqb}
 use lib.IntN.{ℤ, pos, negsuc, natAbs, _+ℤ_}
 use lib.ListN.{length, take, drop, take-append-drop, length-reverse, length-drop}
 use lib.Seq.{take-at}
 use Rattle.cycle.specs.Notation.{one}
-use Rattle.bit_counts.specs.Counts.{sign, balance, runningSum}
+use Rattle.bit_counts.specs.Counts.{sign, balance}
 use Rattle.bit_counts.proofs.Difference.{Difference, difference-plus, difference-size, difference-shift, difference-one}
 
 -- how many entries meet p

@@ -2,16 +2,16 @@
 use mathlib.Core.Path.{_≡_, refl, sym, ap, ap₂, _∙_, subst}
 use mathlib.Core.Bool.{Bool, not}
 use mathlib.Core.List.{List, [], _∷_, _++_, append-assoc, append-nil, reverse}
-use Prim.Native.Nat.{ℕ, zero, suc, _+_, _-_, _*_, _≤_, _<_, min, max}
+use Prim.Native.Nat.{ℕ, suc, _+_, _-_, _*_, _≤_, _<_, min, max}
 use native.Mathlib.Omega.{arith}
 use borrow.Author.Tests.{ne-eqb}
 use lib.Dec.{eqb}
-use lib.IntN.{ℤ, negℤ, natAbs, subℕ}
+use lib.IntN.{negℤ, subℕ}
 use lib.ListN.{length, getD, length-append}
 use lib.Seq.{getD-append-seam}
 use Rattle.cycle.specs.Notation.{All, one}
 use Rattle.cycle.proofs.Parity.{bit-cases}
-use Rattle.bit_counts.specs.Counts.{balance, largest, furthest, peak, trough, runs, above, countsOf}
+use Rattle.bit_counts.specs.Counts.{balance, largest, furthest, peak, trough, runs, countsOf}
 use Rattle.bit_counts.proofs.Difference.{difference-of, difference-shift, difference-opposite, difference-above, difference-one}
 use Rattle.bit_counts.proofs.Sums.{meeting, meeting-append, ones, zeros, ones-zeros, balance-difference}
 use Rattle.bit_counts.proofs.Extremes.{peak-next, trough-next, ends, forward-extremes, backward-extremes, forward-bounds, fall-is, rise-is}

@@ -1,13 +1,12 @@
 -- Room for bits, while they are counted.
-use mathlib.Core.Path.{_≡_}
-use mathlib.Core.Bool.{Bool, not}
+use mathlib.Core.Bool.{not}
 use mathlib.Core.List.{List, [], _∷_}
-use Prim.Native.Nat.{ℕ, zero, suc, _+_, _*_, _^_, _≤_, _<_}
+use Prim.Native.Nat.{ℕ, suc, _+_, _*_, _^_, _≤_, _<_}
 use native.Mathlib.Nat.{mul-le-mul}
 use native.Mathlib.Omega.{arith}
 use lib.Dec.{eqb, lit<}
 use lib.ListN.{length}
-use Rattle.cycle.specs.Notation.{All, one}
+use Rattle.cycle.specs.Notation.{All}
 use Rattle.cycle.proofs.Count.{one-le}
 use Rattle.tsc.specs.Constants.{widestWidth}
 use Rattle.bit_strip.specs.Strip.{mostStripWords}

@@ -1,6 +1,6 @@
 -- Demand 1 at the C interface, of counts of bits: the answer tells the first refusal that applies, 0 where none does; and where it is not 0, the integers are 0
 -- and the page is as it was.
-use mathlib.Core.Path.{_≡_, refl, sym, ap, _∙_}
+use mathlib.Core.Path.{_≡_, refl, sym, ap}
 use mathlib.Core.Logic.{_≢_}
 use mathlib.Core.List.{List}
 use Prim.Native.Nat.{ℕ}

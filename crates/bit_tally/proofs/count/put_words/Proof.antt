@@ -1,14 +1,13 @@
-use mathlib.Core.Path.{_≡_, refl, sym, ap, ap₂, _∙_, subst}
+use mathlib.Core.Path.{_≡_, sym, ap, ap₂, _∙_, subst}
 use mathlib.Core.List.{List, _++_}
 use Prim.Native.Nat.{ℕ, _+_, _-_, _*_, _≤_, _<_}
 use native.Mathlib.Nat.{mul-le-mul-left}
 use native.Mathlib.Omega.{arith}
 use lib.ListN.{length, getD, take, drop, length-drop}
-use lib.Seq.{take-all, drop-length}
+use lib.Seq.{take-all}
 use Rattle.tsc.specs.Constants.{widestWidth}
 use Rattle.card_format.proofs.Lists.{part-rest, put-next, length-front}
 use Rattle.bit_counts.specs.Bits.{wordBits, bitsOf, text}
-use Rattle.bit_strip.specs.Strip.{mostStripWords}
 use Rattle.bit_counts.proofs.Bits.{length-wordBits, length-text}
 use Rattle.bit_tally.specs.declared.tally.Tally.{Tally}
 use Rattle.bit_tally.specs.Tally.{base, noBits, tallied, HasRoom}
