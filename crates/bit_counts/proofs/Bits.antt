@@ -8,7 +8,7 @@ use lib.ListN.{length, getD, take, drop, length-append, length-map, List·getD-a
 use lib.Seq.{take-at, drop-at, getD-append-add}
 use Rattle.cycle.specs.Notation.{bit}
 use Rattle.cycle.proofs.Digits.{fromDigits-suc, fromDigits-of}
-use Rattle.bit_counts.specs.Bits.{wordBits, bitsOf, digit, text, numberIn, numbersIn}
+use Rattle.bit_counts.specs.Bits.{wordBits, bitsOf, digit, text, wordRead, wordsRead}
 
 pub length-wordBits : (n w : ℕ) → length (wordBits n w) ≡ n
 unfolding wordBits
@@ -65,8 +65,8 @@ digit-on n strip rest k i l h =
 
 -- ---- THE BITS READ BACK ARE THE WORDS
 
-word-back : (n w : ℕ) → numberIn (text (wordBits n w)) ≡ w % 2 ^ n
-unfolding wordBits numberIn
+word-back : (n w : ℕ) → wordRead (text (wordBits n w)) ≡ w % 2 ^ n
+unfolding wordBits wordRead
 word-back zero w = omega arith
 word-back (suc n) w =
     let size : length (text (wordBits n w)) ≡ n = length-text (wordBits n w) ∙ length-wordBits n w in
@@ -75,8 +75,8 @@ word-back (suc n) w =
     ∙ sym (fromDigits-suc 2 n (λ i. bit i w)) ∙ fromDigits-of 2 (suc n) w (omega arith)
 
 pub read-back : (n : ℕ) (strip rest : List ℕ) → ((k : ℕ) → k < length strip → getD strip k 0 < 2 ^ n)
-    → numbersIn n (length strip) (text (bitsOf n strip) ++ rest) ≡ strip
-unfolding bitsOf numbersIn
+    → wordsRead n (length strip) (text (bitsOf n strip) ++ rest) ≡ strip
+unfolding bitsOf wordsRead
 read-back n [] rest h = refl
 read-back n (w ∷ ws) rest h =
     let front = text (wordBits n w) in
@@ -84,5 +84,5 @@ read-back n (w ∷ ws) rest h =
     let parts : text (wordBits n w ++ bitsOf n ws) ++ rest ≡ front ++ (text (bitsOf n ws) ++ rest)
     = ap (λ (t : List ℕ). t ++ rest) (map-append digit (wordBits n w) (bitsOf n ws)) ∙ append-assoc front (text (bitsOf n ws)) rest in
     ap₂ (λ (x : ℕ) (xs : List ℕ). x ∷ xs)
-    (ap numberIn (ap (take n) parts ∙ take-at front _ n size) ∙ word-back n w ∙ mod-eq-of-lt (h 0 (omega arith)))
-    (ap (numbersIn n (length ws)) (ap (drop n) parts ∙ drop-at front _ n size) ∙ read-back n ws rest (λ k l. h (suc k) (omega arith)))
+    (ap wordRead (ap (take n) parts ∙ take-at front _ n size) ∙ word-back n w ∙ mod-eq-of-lt (h 0 (omega arith)))
+    (ap (wordsRead n (length ws)) (ap (drop n) parts ∙ drop-at front _ n size) ∙ read-back n ws rest (λ k l. h (suc k) (omega arith)))

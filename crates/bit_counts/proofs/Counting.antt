@@ -16,11 +16,11 @@ use Rattle.card_format.specs.Reading.{cardOf}
 use Rattle.card_format.specs.Verdict.{cardChecks, verdict, accepting}
 use Rattle.card_format.proofs.Verdict.{accepted-card, accepting-passed}
 use Rattle.bit_strip.specs.Strip.{stripChecks}
-use Rattle.bit_strip.proofs.Strip.{Fits, strip-fits}
+use Rattle.bit_strip.proofs.Strip.{StripFits, strip-fits}
 use Rattle.bit_counts.specs.declared.Counts.{Counts}
 use Rattle.bit_counts.specs.declared.BitCounts.{BitCounts}
 use Rattle.bit_counts.specs.declared.BitCounts.the-variants.{Counted, Refused}
-use Rattle.bit_counts.specs.Bits.{bitsOf, digit, text, numbersIn}
+use Rattle.bit_counts.specs.Bits.{bitsOf, digit, text, wordsRead}
 use Rattle.bit_counts.specs.Counts.{countsOf}
 use Rattle.bit_counts.specs.Calls.{stripBits, bitRefusal, countingBits, bitPage}
 use Rattle.bit_counts.proofs.Bits.{length-bitsOf, length-text, digit-on, read-back}
@@ -86,7 +86,7 @@ module _ (bytes strip page : List ℕ) where
     abbrev n : ℕ
     n = cardOf bytes .width
 
-    fits : Fits n strip room
+    fits : StripFits n strip room
     unfolding bitRefusal
     fits = strip-fits n strip room (first-both (cardChecks bytes) (stripChecks n strip room) z .1)
 
@@ -98,8 +98,8 @@ module _ (bytes strip page : List ℕ) where
     page-digits k i l h = ap (λ (p : List ℕ). getD p (n * k + i) 0) page-is ∙ digit-on n strip (drop (n * length strip) page) k i l h
 
     -- THE BITS ON THE PAGE READ BACK ARE THE WORDS, and bytes past them are untouched
-    pub page-back : numbersIn n (length strip) (bitPage bytes strip page) ≡ strip
-    page-back = ap (numbersIn n (length strip)) page-is ∙ read-back n strip (drop (n * length strip) page) (fits .narrow)
+    pub page-back : wordsRead n (length strip) (bitPage bytes strip page) ≡ strip
+    page-back = ap (wordsRead n (length strip)) page-is ∙ read-back n strip (drop (n * length strip) page) (fits .narrow)
 
     pub page-rest : drop (n * length strip) (bitPage bytes strip page) ≡ drop (n * length strip) page
     page-rest =

@@ -21,12 +21,12 @@ digit b = 48 + b
 abbrev pub text : List ℕ → List ℕ
 text bits = map digit bits
 
--- ---- and back: the number that digits say, the top bit first, and so many numbers of n digits, one after the other
+-- ---- and back: the word that digits say, the top bit first, and so many words of n digits, one after the other
 
-unfoldable pub numberIn : List ℕ → ℕ
-numberIn [] = 0
-numberIn (c ∷ cs) = (c - 48) * 2 ^ length cs + numberIn cs
+unfoldable pub wordRead : List ℕ → ℕ
+wordRead [] = 0
+wordRead (c ∷ cs) = (c - 48) * 2 ^ length cs + wordRead cs
 
-unfoldable pub numbersIn : ℕ → ℕ → List ℕ → List ℕ
-numbersIn n zero cs = []
-numbersIn n (suc k) cs = numberIn (take n cs) ∷ numbersIn n k (drop n cs)
+unfoldable pub wordsRead : ℕ → ℕ → List ℕ → List ℕ
+wordsRead n zero cs = []
+wordsRead n (suc k) cs = wordRead (take n cs) ∷ wordsRead n k (drop n cs)

@@ -1,23 +1,23 @@
--- What the frequency, cumulative sums and runs tests of NIST SP 800-22 (2.1, 2.13 and 2.3) count of a list of bits, by the standard's definitions.
+-- What is counted of a list of bits (document 02, Eight), as NIST SP 800-22 defines it for its tests of frequency (2.1), cumulative sums (2.13) and runs (2.3).
 use mathlib.Core.Bool.{not, cond}
 use mathlib.Core.List.{List, [], _∷_, reverse}
-use Prim.Native.Nat.{ℕ, zero, suc, _+_, _-_, max}
+use Prim.Native.Nat.{ℕ, zero, suc, _+_, max}
 use lib.Dec.{eqb}
 use lib.IntN.{ℤ, pos, negsuc, negℤ, natAbs, _+ℤ_}
 use lib.ListN.{length, getD, take}
 use Rattle.cycle.specs.Notation.{count}
 use Rattle.bit_counts.specs.declared.Counts.{Counts}
 
--- 1 for a one, -1 for a zero
+-- X of 2.1: 1 for a one, -1 for a zero
 abbrev pub sign : ℕ → ℤ
 sign b = cond (eqb b 0) (negsuc 0) (pos 1)
 
--- ones minus zeros: the sum of the signs
+-- ones minus zeros, the sum of the signs: S_n of 2.1
 unfoldable pub balance : List ℕ → ℤ
 balance [] = pos 0
 balance (b ∷ bs) = sign b +ℤ balance bs
 
--- the running sum, after k bits
+-- the running sum, after k bits: S_k of 2.13
 abbrev pub runningSum : List ℕ → ℕ → ℤ
 runningSum bits k = balance (take k bits)
 
@@ -31,11 +31,11 @@ unfoldable pub largest : ℕ → (ℕ → ℕ) → ℕ
 largest zero f = f 0
 largest (suc n) f = max (largest n f) (f (suc n))
 
--- the largest distance from zero of the running sum
+-- the largest distance from zero of the running sum: z of 2.13, forward, and of the reversed bits backward
 unfoldable pub furthest : List ℕ → ℕ
 furthest bits = largest (length bits) (λ k. natAbs (runningSum bits k))
 
--- runs: one, and one more at each place where neighbours differ; none without bits
+-- runs, V_n of 2.3: one, and one more at each place where neighbours differ; none without bits
 unfoldable pub runs : List ℕ → ℕ
 runs [] = 0
 runs (b ∷ bs) = 1 + count (length bs) (λ k. not (eqb (getD (b ∷ bs) k 0) (getD bs k 0)))

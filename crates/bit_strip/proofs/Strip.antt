@@ -11,12 +11,12 @@ use Rattle.refusals.proofs.Refusals.{none-first}
 use Rattle.bit_strip.specs.Strip.{mostStripWords, stripChecks}
 
 -- a strip that is not refused, on a page with room
-pub record Fits (n : ℕ) (strip : List ℕ) (room : ℕ) : Type 0 where
+pub record StripFits (n : ℕ) (strip : List ℕ) (room : ℕ) : Type 0 where
   pub short : length strip ≤ mostStripWords
   pub narrow : (k : ℕ) → k < length strip → getD strip k 0 < 2 ^ n
   pub enough : n * length strip ≤ room
 
-pub strip-fits : (n : ℕ) (strip : List ℕ) (room : ℕ) → firstOf (stripChecks n strip room) ≡ 0 → Fits n strip room
+pub strip-fits : (n : ℕ) (strip : List ℕ) (room : ℕ) → firstOf (stripChecks n strip room) ≡ 0 → StripFits n strip room
 unfolding stripChecks NoneApplies
 strip-fits n strip room z =
     let h = none-first (stripChecks n strip room) z in

@@ -52,7 +52,7 @@ use Rattle.records.specs.Writing.{stateOf, encoded, Fits, fullRecord, recordedO
 use Rattle.records.specs.Orders.{orderChecks, orderFor, heard, SameOrder}
 use Rattle.recorded_picks.specs.Recorded.{Halves, recordedChecks, recordedPicking, recordedState, recordLeft, recordedPage}
 use Rattle.bit_counts.specs.declared.BitCounts.the-variants as BitCounts
-use Rattle.bit_counts.specs.Bits.{bitsOf, text, numbersIn}
+use Rattle.bit_counts.specs.Bits.{bitsOf, text, wordsRead}
 use Rattle.bit_counts.specs.Counts.{balance, runningSum, furthest, runs, countsOf, peak, trough}
 use Rattle.bit_counts.specs.Calls.{stripBits, bitChecks, countingBits, bitPage}
 use Rattle.bit_counts.specs.Examples.{ExamplesHold}
@@ -311,7 +311,7 @@ pub record BitsCounted : Type 0 where
       (k i : ℕ) → k < length strip → i < n → getD (bitPage bytes strip page) (n * k + i) 0 ≡ 48 + bit (n - 1 - i) (getD strip k 0)
   -- the bits on the page read back are the words
   pub readBack : (bytes strip page : List ℕ) → NoneApplies (bitChecks bytes strip (length page))
-      → numbersIn (cardOf bytes .width) (length strip) (bitPage bytes strip page) ≡ strip
+      → wordsRead (cardOf bytes .width) (length strip) (bitPage bytes strip page) ≡ strip
   pub untouched : (bytes strip page : List ℕ) → NoneApplies (bitChecks bytes strip (length page)) → let n = cardOf bytes .width * length strip in
       drop n (bitPage bytes strip page) ≡ drop n page
   -- the standard's worked examples, and no bits
