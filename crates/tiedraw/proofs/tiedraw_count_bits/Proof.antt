@@ -1,5 +1,5 @@
 use mathlib.Core.Path.{ap, _∙_}
-use borrow.Author.Needs.{needs}
+use native.Mathlib.Omega.{arith}
 use Rattle.c_answers.specs.Counts.{bitCountsAnswer}
 use Rattle.tiedraw.proofs.tiedraw_count_bits.Statement.{statement}
 use Rattle.tiedraw.proofs.tiedraw_count_bits.Tie as tie
@@ -11,7 +11,7 @@ counts-of-requires : tie.Need-counts-of-requires
 counts-of-requires c κs = tt
 
 same-length : tie.Need-same-length
-same-length c = search needs
+same-length c = omega arith
 
 returns : tie.Need-returns
 returns c =

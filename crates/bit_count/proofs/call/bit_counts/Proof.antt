@@ -4,12 +4,12 @@ use Rattle.refusals.specs.Refusals.{firstOf}
 use Rattle.bit_strip.specs.Strip.{stripChecks}
 use Rattle.bit_strip.proofs.Strip.{strip-fits}
 use Rattle.bit_counts.proofs.Counting.{refused-card, refused-strip, found-narrow, counted}
-use borrow.Author.Needs.{needs}
+use native.Mathlib.Omega.{arith}
 use Rattle.bit_count.proofs.call.bit_counts.Statement.{statement}
 use Rattle.bit_count.proofs.call.bit_counts.Tie as tie
 
 accept-requires : tie.Need-accept-requires
-accept-requires c κs = search needs
+accept-requires c κs = tt
 
 returns : tie.Need-returns
 returns c =
@@ -18,10 +18,10 @@ returns c =
     refused-card (a .card .now) (a .strip .now) (a .page .now) (f .result) (f .ensures) (c .if1 .taken)
 
 cast-n : tie.Need-cast-n
-cast-n c = search needs
+cast-n c = omega arith
 
 strip-refusal-requires : tie.Need-strip-refusal-requires
-strip-refusal-requires c κs = search needs
+strip-refusal-requires c κs = tt
 
 returns-2 : tie.Need-returns-2
 returns-2 c =
@@ -44,7 +44,7 @@ count-bits-requires c κs =
     (n, fits .short, fits .enough)
 
 same-length : tie.Need-same-length
-same-length c = search needs
+same-length c = omega arith
 
 returns-3 : tie.Need-returns-3
 returns-3 c =

@@ -1,6 +1,6 @@
 use mathlib.Core.Path.{sym, ap, subst, _∙_}
 use Prim.Native.Nat.{ℕ, _≤_}
-use borrow.Author.Needs.{needs}
+use native.Mathlib.Omega.{arith}
 use lib.ListN.{length}
 use Rattle.bit_counts.specs.Bits.{bitsOf}
 use Rattle.bit_counts.proofs.Bits.{length-bitsOf}
@@ -15,7 +15,7 @@ few : (c : tie.Start) → length (bitsOf (c .args .n) (c .args .strip .now)) ≤
 few c = subst (λ (m : ℕ). m ≤ base) (sym (length-bitsOf (c .args .n) (c .args .strip .now))) (few-bits (c .args .n) (length (c .args .strip .now)) (c .pre .0) (c .pre .1))
 
 put-words-requires : tie.Need-put-words-requires
-put-words-requires c κs = search needs
+put-words-requires c κs = c .before .before .before .pre
 
 counts-of-requires : tie.Need-counts-of-requires
 counts-of-requires c κs =
@@ -24,7 +24,7 @@ counts-of-requires c κs =
     subst Extremes (sym (c .before .before .put-words .ensures .0)) (pass-extremes (bitsOf (a .n) (a .strip .now)) (strip-bits (a .n) (a .strip .now)) (few s))
 
 same-length : tie.Need-same-length
-same-length c = search needs
+same-length c = omega arith
 
 returns : tie.Need-returns
 returns c =

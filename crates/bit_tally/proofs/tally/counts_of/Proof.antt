@@ -1,6 +1,5 @@
 use mathlib.Core.Path.{_≡_, ap, _∙_}
 use native.Mathlib.Omega.{arith}
-use borrow.Author.Needs.{needs}
 use lib.IntN.{ℤ, subℕ}
 use mir.Facts.{toZ-ofZ}
 use mir.Syntax.{w32}
@@ -11,25 +10,25 @@ use Rattle.bit_tally.proofs.tally.counts_of.Statement.{statement}
 use Rattle.bit_tally.proofs.tally.counts_of.Tie as tie
 
 signed-requires : tie.Need-signed-requires
-signed-requires c κs = search needs
+signed-requires c κs = omega arith
 
 sub-greater : tie.Need-sub-greater
-sub-greater c = search needs
+sub-greater c = omega arith
 
 sub-greater-2 : tie.Need-sub-greater-2
-sub-greater-2 c = search needs
+sub-greater-2 c = omega arith
 
 greater-requires : tie.Need-greater-requires
-greater-requires c κs = search needs
+greater-requires c κs = tt
 
 sub-greater-3 : tie.Need-sub-greater-3
-sub-greater-3 c = search needs
+sub-greater-3 c = omega arith
 
 sub-greater-4 : tie.Need-sub-greater-4
-sub-greater-4 c = search needs
+sub-greater-4 c = omega arith
 
 greater-requires-2 : tie.Need-greater-requires-2
-greater-requires-2 c κs = search needs
+greater-requires-2 c κs = tt
 
 returns : tie.Need-returns
 unfolding countsFrom

@@ -4,27 +4,26 @@ use native.Mathlib.Omega.{arith}
 use lib.Dec.{eqb}
 use Rattle.cycle.proofs.Count.{one-le}
 use Rattle.bit_tally.specs.Tally.{withBit}
-use borrow.Author.Needs.{needs}
 use Rattle.bit_tally.proofs.tally.with_bit.Statement.{statement}
 use Rattle.bit_tally.proofs.tally.with_bit.Tie as tie
 
 sub-sum : tie.Need-sub-sum
-sub-sum c = search needs
+sub-sum c = omega arith
 
 mul-sum : tie.Need-mul-sum
-mul-sum c = search needs
+mul-sum c = omega arith
 
 add-sum : tie.Need-add-sum
-add-sum c = search needs
+add-sum c = omega arith
 
 lesser-requires : tie.Need-lesser-requires
-lesser-requires c κs = search needs
+lesser-requires c κs = tt
 
 greater-requires : tie.Need-greater-requires
-greater-requires c κs = search needs
+greater-requires c κs = tt
 
 differ-requires : tie.Need-differ-requires
-differ-requires c κs = search needs
+differ-requires c κs = tt
 
 add-t7 : tie.Need-add-t7
 add-t7 c = omega (arith, c .before .differ .ensures, one-le (not (eqb (c .before .before .before .before .before .args .t .last) (c .before .before .before .before .before .args .bit))))
