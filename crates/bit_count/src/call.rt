@@ -16,10 +16,10 @@ pub fn bit_counts(card: &[u8], strip: &[u32], page: &mut [u8]) -> BitCounts
     if found.refusal != 0 {
         return BitCounts::Refused(found.refusal);
     }
-    let n = found.card.width as u32;
-    let told = strips::strip_refusal(n, strip, page.len());
+    let told = strips::strip_refusal(found.card.width, strip, page.len());
     if told != 0 {
         return BitCounts::Refused(told);
     }
+    let n = found.card.width as u32;
     BitCounts::Counted(count::count_bits(n, strip, page))
 }

@@ -8,7 +8,7 @@ use card_fields::width;
 pub const MOST_STRIP_WORDS: usize = 16384;
 
 // The first of refusals 22 to 24 that applies to a strip of words of n bits and a page of `room` bytes, or 0.
-pub fn strip_refusal(n: u32, strip: &[u32], room: usize) -> u8
+pub fn strip_refusal(n: u8, strip: &[u32], room: usize) -> u8
     ensures { λ r. ⌜ r ≡ firstOf (stripChecks n (now (strip .entry)) room) ⌝ }
 {
     if MOST_STRIP_WORDS < strip.len() {

@@ -17,7 +17,7 @@ pub fn state_refusal(m: u8, n: u8, state: &[u32]) -> u8
     if state.len() != m as usize {
         return refusals::WORD_COUNT;
     }
-    if !width::all_fit(state, n as u32) {
+    if !width::all_fit(state, n) {
         return refusals::WORD_TOO_WIDE;
     }
     0
