@@ -11,6 +11,7 @@ use card_table::table::entries;
 use tsc::DEFAULT_WORDS;
 use tsc::FEWEST_WORDS;
 use tsc::MOST_WORDS;
+use tsc::TSC1_CONSTANT;
 
 pub const FIELDS: usize = 8;
 
@@ -36,7 +37,7 @@ const LEAST: [u32; FIELDS] = [FEWEST_WORDS, 2, 0, 0, 0, 0, 1, 0];
 
 const MOST: [u32; FIELDS] = [MOST_WORDS as u32, 32, 0, 255, 255, 0xffff_ffff, 2, 1];
 
-pub const ABSENT: [u32; FIELDS] = [DEFAULT_WORDS, 32, 0, 1, 2, 0x1248_8421, 1, 1];
+pub const ABSENT: [u32; FIELDS] = [DEFAULT_WORDS, 32, 0, 1, 2, TSC1_CONSTANT, 1, 1];
 
 // The bytes of field k. Callers have m from a words field that passed its check, or from its absent value.
 pub fn extent_of(k: usize, m: u32) -> usize

@@ -2,6 +2,7 @@
 ghost use mathlib.Core.Path.{_≡_};
 ghost use Rattle.fills.specs.Fills.{fillRefusal, filled, filledState};
 use card::check as accepted;
+use gates::tsc1;
 use generator::call;
 use outputs::row;
 use spans::check;
@@ -25,7 +26,13 @@ pub fn fill(card: &[u8], state: &mut [u32], strip: &mut [u32], place: usize, cou
     }
     let values = found.card;
     let held = lent::load(state);
-    let last = row::fill_words(values, held, count, &mut strip[place..]);
+    let last = row::fill_words(
+        values,
+        tsc1::is_tsc1(card),
+        held,
+        count,
+        &mut strip[place..],
+    );
     lent::store(last, state);
     0
 }

@@ -13,6 +13,8 @@ use card::check;
 use columns::power;
 use draws::Draw;
 use filters::filter;
+use gates::step as gate_step;
+use gates::tsc1;
 use outputs::next;
 use selectors::selector;
 use state_words::lent;
@@ -41,6 +43,10 @@ pub fn step(card: &[u8], state: &mut [u32]) -> u8
         return told;
     }
     let held = lent::load(state);
+    if tsc1::is_tsc1(card) {
+        lent::store(gate_step::next_state(held), state);
+        return 0;
+    }
     let terms = selector::terms_of(found.card);
     let p = power::powers_of(
         &found.card.table,
@@ -89,6 +95,11 @@ pub fn draw(card: &[u8], state: &mut [u32]) -> Draw
         return Draw::Refused(told);
     }
     let held = lent::load(state);
+    if tsc1::is_tsc1(card) {
+        let made = outputs::tsc1::next_output(held);
+        lent::store(made.state, state);
+        return Draw::Word(made.word);
+    }
     let terms = selector::terms_of(found.card);
     let rotations = filter::rotations_of(found.card);
     let p = power::powers_of(

@@ -5,6 +5,7 @@ use super::chosen;
 use candidates::search;
 use card::check;
 use change_order::Best;
+use gates::tsc1;
 use margins::Margin;
 use pick::listing;
 use state_words::lent;
@@ -30,7 +31,15 @@ pub fn margin(card: &[u8], state: &[u32], shovels: &[u16], times: &[u32]) -> Mar
         return Margin::Refused(found.refusal);
     }
     let held = lent::load(state);
-    let known = chosen::known_of(values, held, shovels, times, found.least, found.ties);
+    let known = chosen::known_of(
+        values,
+        tsc1::is_tsc1(card),
+        held,
+        shovels,
+        times,
+        found.least,
+        found.ties,
+    );
     let best = search::least_change(known, shovels, times);
     match best {
         Best::Nothing => Margin::Refused(refusals::NO_SUCH_CHANGE),

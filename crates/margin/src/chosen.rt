@@ -6,6 +6,7 @@ ghost use Rattle.cycle.specs.Notation.{first};
 ghost use Rattle.tsc.specs.Constants.{widestWidth};
 ghost use Rattle.tsc.specs.Word.{orbitWords};
 ghost use Rattle.card_format.specs.Verdict.{Accepted};
+ghost use Rattle.gates.specs.Tsc1.{OnlyTsc1};
 ghost use Rattle.stepping.specs.State.{used, Holds};
 ghost use Rattle.ties.specs.Ties.{mostShovels, ties, hasRank, chosen};
 ghost use Rattle.tie_rank.specs.Listed.{Listed};
@@ -27,13 +28,21 @@ pub struct Chosen {
 
 // What all picks from a state have in common: the words, drawn once, and the place of the shovel chosen among k ties without a change. The margin has seen that
 // nothing is refused.
-pub fn known_of(card: Card, s: State, shovels: &[u16], times: &[u32], least: u32, k: usize) -> Known
-    requires { ⌜ Accepted card × Holds card s × (0 < k) × (k ≤ mostShovels) × Listed (now shovels) (now times) least ⌝ }
+pub fn known_of(
+    card: Card,
+    is_tsc1: bool,
+    s: State,
+    shovels: &[u16],
+    times: &[u32],
+    least: u32,
+    k: usize,
+) -> Known
+    requires { ⌜ Accepted card × OnlyTsc1 «is_tsc1» card × Holds card s × (0 < k) × (k ≤ mostShovels) × Listed (now shovels) (now times) least ⌝ }
     ensures width { λ r. ⌜ r .width ≡ card .width ⌝ }
     ensures words { λ r. ⌜ r .words ≡ orbitWords card (used card s) mostTaken ⌝ }
     ensures chosen { λ r. ⌜ r .chosen ≡ first (length (now (times .entry))) (hasRank (now (shovels .entry)) (now (times .entry)) (ranked (r .width) (r .words) k .rank)) ⌝ }
 {
-    let words = row::words_of(card, s);
+    let words = row::words_of(card, is_tsc1, s);
     let n = card.width as u32;
     let drawn = row::rank_among(n, words, k as u32);
     Known {

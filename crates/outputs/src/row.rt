@@ -9,11 +9,13 @@ ghost use Rattle.tsc.specs.Word.{orbitWords};
 ghost use Rattle.card_format.specs.Verdict.{Accepted};
 ghost use Rattle.columns.specs.Few.{fewWords};
 ghost use Rattle.filters.specs.Rotations.{rotationsOf};
+ghost use Rattle.gates.specs.Tsc1.{OnlyTsc1};
 ghost use Rattle.multiplexer.specs.Leaves.{HasLeaves};
 ghost use Rattle.stepping.specs.State.{used, Holds, holding, Steps};
 ghost use Rattle.outputs.specs.Output.{output};
 use super::next;
 use super::next::Output;
+use super::tsc1;
 use columns::few::FEW_WORDS;
 use columns::power;
 use filters::filter;
@@ -91,13 +93,16 @@ fn fill_many(card: Card, s: State, count: usize, words: &mut [u32]) -> State
     held
 }
 
-// The words of the next states of the orbit, so many of them, over the first words lent, and the last of these states. What the steps need of the card is
-// worked out once. The fill calls it once nothing is refused, and so there is room.
-pub fn fill_words(card: Card, s: State, count: usize, words: &mut [u32]) -> State
-    requires { ⌜ Accepted card × Holds card s × (count ≤ length (now words)) ⌝ }
+// The words of the next states of the orbit, so many of them, over the first words lent, and the last of these states; by the gate formulas where the caller
+// has found TSC-1's card. What the steps need of another card is worked out once. The fill calls it once nothing is refused, and so there is room.
+pub fn fill_words(card: Card, is_tsc1: bool, s: State, count: usize, words: &mut [u32]) -> State
+    requires { ⌜ Accepted card × Holds card s × (count ≤ length (now words)) × OnlyTsc1 «is_tsc1» card ⌝ }
     ensures { λ r. ⌜ r ≡ holding (orbit card (used card s) count) ⌝ }
     ensures { λ _. ⌜ now (words .exit) ≡ orbitWords card (used card s) count ++ drop count (now (words .entry)) ⌝ }
 {
+    if is_tsc1 {
+        return tsc1::fill_words(s, count, words);
+    }
     if card.words as usize <= FEW_WORDS {
         return fill_few(card, s, count, words);
     }

@@ -3,6 +3,7 @@ ghost use mathlib.Core.Path.{_≡_};
 ghost use Rattle.picks.specs.Picks.{picking, picked};
 use super::listing;
 use card::check;
+use gates::tsc1;
 use generator::call;
 use picks::Pick;
 use sample::draw;
@@ -30,7 +31,7 @@ pub fn pick(card: &[u8], state: &mut [u32], shovels: &[u16], times: &[u32]) -> P
         return Pick::Refused(found.refusal);
     }
     let held = lent::load(state);
-    let drawn = draw::draw_rank(values, held, found.ties as u32);
+    let drawn = draw::draw_rank(values, tsc1::is_tsc1(card), held, found.ties as u32);
     lent::store(drawn.state, state);
     let number = rank::chosen_by(shovels, times, found.least, drawn.rank as usize);
     Pick::Shovel(number, found.ties as u8, drawn.taken)

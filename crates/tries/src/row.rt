@@ -4,6 +4,7 @@ ghost use Prim.Native.Nat.{_<_, _≤_};
 ghost use Rattle.tsc.specs.Constants.{widestWidth};
 ghost use Rattle.tsc.specs.Word.{orbitWords};
 ghost use Rattle.card_format.specs.Verdict.{Accepted};
+ghost use Rattle.gates.specs.Tsc1.{OnlyTsc1};
 ghost use Rattle.stepping.specs.State.{used, Holds};
 ghost use Rattle.samples.specs.Samples.{mostTaken};
 ghost use Rattle.tries.specs.Tries.{ranked};
@@ -21,13 +22,13 @@ pub struct Ranked {
     pub taken: u8,
 }
 
-// The words that may be tried from a state.
-pub fn words_of(card: Card, s: State) -> [u32; MOST_TRIED]
-    requires { ⌜ Accepted card × Holds card s ⌝ }
+// The words that may be tried from a state. The margin says whether it has found TSC-1's card.
+pub fn words_of(card: Card, is_tsc1: bool, s: State) -> [u32; MOST_TRIED]
+    requires { ⌜ Accepted card × Holds card s × OnlyTsc1 «is_tsc1» card ⌝ }
     ensures { λ r. ⌜ r ≡ orbitWords card (used card s) mostTaken ⌝ }
 {
     let mut words = [0u32; MOST_TRIED];
-    row::fill_words(card, s, MOST_TRIED, &mut words[..]);
+    row::fill_words(card, is_tsc1, s, MOST_TRIED, &mut words[..]);
     words
 }
 

@@ -1,13 +1,14 @@
--- The selector by columns: bit i depends on the columns below i alone, and the parity law.
+-- The selector by columns: bit i depends on the columns below i alone, and the parity law. And it is of n bits.
 use mathlib.Core.Path.{_≡_, refl, sym, ap, ap₂, _∙_}
 use mathlib.Core.Bool.{Bool, true, false, cond}
-use mathlib.Core.List.{List}
+use mathlib.Core.List.{List, [], _∷_}
 use Prim.Native.Nat.{ℕ, zero, suc, _+_, _*_, _/_, _%_, _^_, _≤_, _<_}
-use native.Mathlib.Nat.{add-mod, zero-div}
+use native.Mathlib.Nat.{add-mod, zero-div, mod-lt, lt-of-le-of-lt}
 use native.Mathlib.Omega.{arith}
-use lib.Bits.{bitXor}
+use lib.Bits.{bitXor, and-le-r, xor-lt}
 use lib.Dec.{eqb}
 use lib.ListN.{length}
+use lib.Pow.{pow-pos, ones-lt}
 use Rattle.cycle.specs.Notation.{sum, bit}
 use Rattle.cycle.proofs.Parity.{two-pos}
 use Rattle.cycle.proofs.Sum.{sum-ext}
@@ -99,3 +100,20 @@ selector-parity card enough i l =
 
     sums : Bool
     sums = eqb (card .«sum_term») 1
+
+-- ---- it is of n bits
+
+andWords-lt : (n : ℕ) (xs : List ℕ) → andWords n xs < 2 ^ n
+unfolding andWords
+andWords-lt n [] = ones-lt n
+andWords-lt n (x ∷ xs) = lt-of-le-of-lt (and-le-r x (andWords n xs)) (andWords-lt n xs)
+
+pub selector-lt : (card : Card) (xs : List ℕ) → selector card xs < 2 ^ card .width
+unfolding selector
+selector-lt card xs =
+    let n : ℕ = card .width in
+    xor-lt n _ _ (xor-lt n _ _ (mod-lt _ (pow-pos n)) (andWords-lt n xs)) (either (eqb (card .«sum_term») 1) (mod-lt _ (pow-pos n)))
+  where
+    either : (b : Bool) {x : ℕ} → x < 2 ^ card .width → cond b x 0 < 2 ^ card .width
+    either true l = l
+    either false l = pow-pos (card .width)

@@ -11,6 +11,9 @@ pub const TABLE_SIZE: usize = 1 << MOST_WORDS;
 // m of a card that does not give it: the one m whose table may be absent.
 pub const DEFAULT_WORDS: u32 = 4;
 
+// C of TSC-1 (document 002, 13), and of a card that does not give it.
+pub const TSC1_CONSTANT: u32 = 0x1248_8421;
+
 // The values of a card (document 01, The card): what a generator is set up by.
 pub struct Card {
     // m, the words of a state

@@ -11,6 +11,7 @@ use Rattle.draws.proofs.Opening.{Clear, told, clear}
 use Rattle.draws.proofs.Called.{few, accepted, ready}
 use Rattle.spans.specs.Span.{spanChecks}
 use Rattle.spans.proofs.Span.{span-within}
+use Rattle.gates.proofs.GateStep.{only-p1}
 use Rattle.fills.proofs.Filling.{refused-call, refused-span, made}
 use Rattle.fill.proofs.call.fill.Statement.{statement}
 use Rattle.fill.proofs.call.fill.Tie as tie
@@ -65,27 +66,30 @@ returns-2 c = refused-span _ _ _ _ _ (passing (c .before .before)) _ (c .before 
 load-requires : tie.Need-load-requires
 load-requires c κs = few (passing (c .before .before .before .before))
 
+is-tsc1-requires : tie.Need-is-tsc1-requires
+is-tsc1-requires c κs = tt
+
 mul-fill-words : tie.Need-mul-fill-words
-mul-fill-words c = omega (arith, inside (c .before .before .before))
+mul-fill-words c = omega (arith, inside (c .before .before .before .before))
 
 sub-fill-words : tie.Need-sub-fill-words
-sub-fill-words c = omega (arith, inside (c .before .before .before))
+sub-fill-words c = omega (arith, inside (c .before .before .before .before))
 
 part-fill-words-start : tie.Need-part-fill-words-start
-part-fill-words-start c = let h = inside (c .before .before .before) in search needs
+part-fill-words-start c = let h = inside (c .before .before .before .before) in search needs
 
 part-fill-words-end : tie.Need-part-fill-words-end
 part-fill-words-end c = search needs
 
 fill-words-requires : tie.Need-fill-words-requires
 fill-words-requires c κs =
-    let e = c .before .before .before .before in
+    let e = c .before .before .before .before .before in
     let k = passing (e .before .before) in
     let a = start (e .before .before .before) .args in
-    (accepted k, ready k (c .before .load .ensures), omega (arith, inside e, ap length (part-rest (a .place) (a .strip .now)), length-drop (a .place) (a .strip .now)))
+    (accepted k, ready k (c .before .before .load .ensures), omega (arith, inside e, ap length (part-rest (a .place) (a .strip .now)), length-drop (a .place) (a .strip .now)), only-p1 _ _ _ (k .card-is) (c .before .is-tsc1 .ensures))
 
 store-requires : tie.Need-store-requires
-store-requires c κs = few (passing (c .before .before .before .before .before .before .before .before .before .before))
+store-requires c κs = few (passing (c .before .before .before .before .before .before .before .before .before .before .before))
 
 same-length-3 : tie.Need-same-length-3
 same-length-3 c = search needs
@@ -96,7 +100,7 @@ same-length-4 c = search needs
 returns-3 : tie.Need-returns-3
 returns-3 c =
     let filled = c .before .before .before .before .before .before in
-    let l = filled .before .before in
+    let l = filled .before .before .before in
     let e = l .before .before .before in
     made _ _ _ _ _ (passing (e .before .before)) (fits e) (l .load .ensures) (filled .fill-words .ensures .0) (filled .fill-words .ensures .1) (c .before .before .store .ensures)
 
@@ -112,6 +116,7 @@ fill-spec =
     same-length-2
     returns-2
     load-requires
+    is-tsc1-requires
     mul-fill-words
     sub-fill-words
     part-fill-words-start

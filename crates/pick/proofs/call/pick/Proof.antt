@@ -5,6 +5,7 @@ use Rattle.tsc.specs.declared.Card.{Card}
 use Rattle.draws.specs.Calls.{refusalFor}
 use Rattle.draws.proofs.Opening.{Clear, told, clear}
 use Rattle.draws.proofs.Called.{few, accepted, ready}
+use Rattle.gates.proofs.GateStep.{only-p1}
 use Rattle.picks.specs.Picks.{pickRefusal}
 use Rattle.picks.proofs.Picking.{told-call, told-later, picking-refused}
 use Rattle.pick.proofs.Passed.{Free, free, made}
@@ -66,26 +67,29 @@ returns-2 c = picking-refused _ _ _ _ _ (c .if2 .taken) (told-list (c .before .b
 load-requires : tie.Need-load-requires
 load-requires c κs = few (going (c .before) .clear)
 
+is-tsc1-requires : tie.Need-is-tsc1-requires
+is-tsc1-requires c κs = tt
+
 cast-draw-rank : tie.Need-cast-draw-rank
-cast-draw-rank c = omega (arith, going (c .before .before .before) .few)
+cast-draw-rank c = omega (arith, going (c .before .before .before .before) .few)
 
 draw-rank-requires : tie.Need-draw-rank-requires
 draw-rank-requires c κs =
-    let l = c .before in
+    let l = c .before .before in
     let f = going (l .before .before) in
-    (accepted (f .clear), ready (f .clear) (l .load .ensures), f .some)
+    (accepted (f .clear), ready (f .clear) (l .load .ensures), f .some, only-p1 _ _ _ (f .clear .card-is) (c .before .is-tsc1 .ensures))
 
 store-requires : tie.Need-store-requires
-store-requires c κs = few (going (c .before .before .before .before .before) .clear)
+store-requires c κs = few (going (c .before .before .before .before .before .before) .clear)
 
 cast-chosen-by : tie.Need-cast-chosen-by
 cast-chosen-by c = omega arith
 
 chosen-by-requires : tie.Need-chosen-by-requires
-chosen-by-requires c κs = going (c .before .before .before .before .before .before .before .before .before) .listed
+chosen-by-requires c κs = going (c .before .before .before .before .before .before .before .before .before .before) .listed
 
 cast-t22 : tie.Need-cast-t22
-cast-t22 c = omega (arith, going (c .before .before .before .before .before .before .before .before .before .before .before) .few)
+cast-t22 c = omega (arith, going (c .before .before .before .before .before .before .before .before .before .before .before .before) .few)
 
 same-length-3 : tie.Need-same-length-3
 same-length-3 c = omega arith
@@ -94,7 +98,7 @@ returns-3 : tie.Need-returns-3
 returns-3 c =
     let kept = c .before .before .before .before .before in
     let drawn = kept .before .before in
-    let l = drawn .before .before in
+    let l = drawn .before .before .before in
     made (going (l .before .before)) (l .load .ensures) (drawn .draw-rank .ensures) (kept .store .ensures) (c .before .chosen-by .ensures)
 
 pub pick-spec : {M : Type 1} → statement M
@@ -110,6 +114,7 @@ pick-spec =
     same-length-2
     returns-2
     load-requires
+    is-tsc1-requires
     cast-draw-rank
     draw-rank-requires
     store-requires
