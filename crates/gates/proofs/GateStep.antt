@@ -3,22 +3,23 @@ use mathlib.Core.Path.{_≡_, refl, sym, ap, ap₂, _∙_, subst}
 use mathlib.Core.Logic.{_↔_}
 use mathlib.Core.Bool.{Bool, true, cond}
 use mathlib.Core.List.{List, [], _∷_}
-use Prim.Native.Nat.{ℕ, zero, suc, _^_, _<_}
-use native.Mathlib.Nat.{lt-of-lt-of-le}
+use Prim.Native.Nat.{ℕ, zero, suc, _+_, _-_, _*_, _%_, _^_, _<_}
+use native.Mathlib.Nat.{add-zero, add-mod-mod, two-mul, mod-eq-of-lt}
 use native.Mathlib.Decide.{decLt}
 use native.Mathlib.Omega.{arith}
 use borrow.Author.Tests.{eqb-true, eq-eqb}
+use lib.Bits.{bitAnd, bitXor, and-mask}
 use lib.Dec.{eqb}
 use lib.ListN.{length, getD, take, List·getD-eq-default}
 use lib.Pow.{pow-pos}
 use lib.Seq.{ext-getD, length-take-le, getD-take}
 use Rattle.cycle.specs.Notation.{tabulate, iterate, bit}
 use Rattle.cycle.proofs.Bits.{bits-ext}
-use Rattle.cycle.proofs.Digits.{length-tabulate, getD-tabulate}
+use Rattle.cycle.proofs.Digits.{length-tabulate, getD-tabulate, tabulate-getD}
 use Rattle.tsc.specs.declared.Card.{Card}
-use Rattle.tsc.specs.Constants.{mostWords}
+use Rattle.tsc.specs.Constants.{mostWords, tsc1Constant}
 use Rattle.tsc.specs.Columns.{column}
-use Rattle.tsc.specs.Selector.{selector}
+use Rattle.tsc.specs.Selector.{andWords, sumWords, selector}
 use Rattle.tsc.specs.Step.{entry, power, step}
 use Rattle.tsc.specs.Coverage.{IsState}
 use Rattle.tsc.proofs.Columns.{column-lt}
@@ -76,9 +77,34 @@ tsc1-alone bytes b z e = accepted-unique bytes p1 b (λ i l. one-byte i) z p1-ac
 
 -- ---- the step
 
--- any four words are a state
-pub first-four : (ws : List ℕ) → length ws ≡ mostWords → ((k : ℕ) → getD ws k 0 < 2 ^ 32) → IsState tsc1Card (take 4 ws)
-first-four ws all fits = (length-take-le 4 ws (omega (arith, all)), λ k l. rw (getD-take 4 ws k 0 l) (fits k))
+module _ (ws : List ℕ) (all : length ws ≡ mostWords) (fits : (k : ℕ) → getD ws k 0 < 2 ^ 32) where
+  -- any four words are a state
+  pub first-four : IsState tsc1Card (take 4 ws)
+  first-four = (length-take-le 4 ws (omega (arith, all)), λ k l. rw (getD-take 4 ws k 0 l) (fits k))
+
+  -- word k
+  abbrev word : ℕ → ℕ
+  word k = getD ws k 0
+
+  four-words : tabulate 4 word ≡ take 4 ws
+  four-words = tabulate-getD 4 ws (omega (arith, all))
+
+  -- document 002 (13) on four words of 32 bits, by sums that wrap
+  pub selector-words : (a b s q d : ℕ) → a ≡ (word 2 + word 3) % 2 ^ 32 → b ≡ (word 1 + a) % 2 ^ 32 → s ≡ (word 0 + b) % 2 ^ 32
+      → let p = bitAnd (word 0) (bitAnd (word 1) (bitAnd (word 2) (word 3))) in
+      q ≡ (p + tsc1Constant) % 2 ^ 32 → d ≡ (s + s) % 2 ^ 32 → bitXor (bitXor q p) d ≡ selector tsc1Card (take 4 ws)
+  unfolding tabulate andWords sumWords selector
+  selector-words a b s q d ha hb hs hq hd =
+      let M = 2 ^ 32 in
+      let low : word 3 ≡ bitAnd (word 3) (M - 1) = sym (and-mask (word 3) 32 ∙ mod-eq-of-lt (fits 3)) in
+      let ep : bitAnd (word 0) (bitAnd (word 1) (bitAnd (word 2) (word 3))) ≡ andWords 32 (take 4 ws) =
+      ap (λ (e : ℕ). bitAnd (word 0) (bitAnd (word 1) (bitAnd (word 2) e))) low ∙ ap (andWords 32) four-words in
+      let es : s ≡ sumWords (take 4 ws) % M =
+      hs ∙ ap (λ (e : ℕ). (word 0 + e) % M) (hb ∙ ap (λ (e : ℕ). (word 1 + e) % M) ha ∙ add-mod-mod (word 1) (word 2 + word 3) M)
+      ∙ add-mod-mod (word 0) (word 1 + (word 2 + word 3)) M
+      ∙ ap (λ (e : ℕ). (word 0 + (word 1 + (word 2 + e))) % M) (sym (add-zero (word 3))) ∙ ap (λ (ys : List ℕ). sumWords ys % M) four-words in
+      ap₂ bitXor (ap₂ bitXor (hq ∙ ap (λ (e : ℕ). (e + tsc1Constant) % M) ep) ep)
+      (hd ∙ ap (λ (e : ℕ). e % M) (sym (two-mul s)) ∙ ap (λ (e : ℕ). 2 * e % M) es)
 
 module _ (xs : List ℕ) (sx : IsState tsc1Card xs) where
   fits : (k : ℕ) → getD xs k 0 < 2 ^ 32
@@ -90,29 +116,29 @@ module _ (xs : List ℕ) (sx : IsState tsc1Card xs) where
 
   module _ (z : ℕ) (lz : z < 2 ^ 32) (k : ℕ) (lk : k < 4) where
     -- line k of an equation on whole words
-    abbrev word : List Formula → ℕ
-    word equation = onWords 32 xs (line equation k)
+    abbrev lineWord : List Formula → ℕ
+    lineWord equation = onWords 32 xs (line equation k)
 
-    word-bit : (equation : List Formula) (p : ℕ) → GivesPower equation p → (i : ℕ) → i < 32
-        → bit i (word equation) ≡ bit k (iterate (entry tsc1Card) p (column i xs))
-    word-bit equation p h i l = bit-onWords 32 xs fits i l (line equation k) ∙ h k (column i xs) lk (rw (sx .0) at (column-lt i xs))
+    line-bit : (equation : List Formula) (p : ℕ) → GivesPower equation p → (i : ℕ) → i < 32
+        → bit i (lineWord equation) ≡ bit k (iterate (entry tsc1Card) p (column i xs))
+    line-bit equation p h i l = bit-onWords 32 xs fits i l (line equation k) ∙ h k (column i xs) lk (rw (sx .0) at (column-lt i xs))
 
-    word-lt : (equation : List Formula) → word equation < 2 ^ 32
-    word-lt equation = onWords-lt 32 xs fits (line equation k)
+    line-lt : (equation : List Formula) → lineWord equation < 2 ^ 32
+    line-lt equation = onWords-lt 32 xs fits (line equation k)
 
-    gated-at : getD (gated xs z) k 0 ≡ onWords 32 (word equation16 ∷ word equation17 ∷ z ∷ []) choice
+    gated-at : getD (gated xs z) k 0 ≡ onWords 32 (lineWord equation16 ∷ lineWord equation17 ∷ z ∷ []) choice
     unfolding gated
     gated-at = getD-tabulate 4 _ k lk
 
     gated-lt : getD (gated xs z) k 0 < 2 ^ 32
-    gated-lt = rw gated-at (choice-lt 32 (word equation16) (word equation17) z (word-lt equation16) (word-lt equation17) lz)
+    gated-lt = rw gated-at (choice-lt 32 (lineWord equation16) (lineWord equation17) z (line-lt equation16) (line-lt equation17) lz)
 
     -- column i has gone once through the table where z has a 1, and twice where it has a 0
     gated-bit : (i : ℕ) → i < 32 → bit i (getD (gated xs z) k 0) ≡ bit k (iterate (entry tsc1Card) (power tsc1Card (bit i z)) (column i xs))
     gated-bit i l =
         let b : Bool = eqb (bit i z) 1 in
-        ap (bit i) gated-at ∙ bit-choice 32 (word equation16) (word equation17) z (word-lt equation16) (word-lt equation17) lz i l
-        ∙ ap₂ (cond b) (word-bit equation16 1 equation-16 i l) (word-bit equation17 2 equation-17 i l)
+        ap (bit i) gated-at ∙ bit-choice 32 (lineWord equation16) (lineWord equation17) z (line-lt equation16) (line-lt equation17) lz i l
+        ∙ ap₂ (cond b) (line-bit equation16 1 equation-16 i l) (line-bit equation17 2 equation-17 i l)
         ∙ cond-ap (λ (p : ℕ). bit k (iterate (entry tsc1Card) p (column i xs))) b 1 2
 
   -- THE LAW of document 02, Nine

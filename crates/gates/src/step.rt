@@ -1,18 +1,27 @@
 // The step of TSC-1: all columns of a state put through its table together, by gates on whole words. A state of TSC-1 is any four words, so nothing is asked of it.
 ghost use mathlib.Core.Path.{_≡_};
 ghost use lib.ListN.{take};
+ghost use Rattle.tsc.specs.Selector.{selector};
 ghost use Rattle.tsc.specs.Step.{step};
-ghost use Rattle.selectors.specs.Terms.{IsTerms};
 ghost use Rattle.stepping.specs.State.{used, holding};
 ghost use Rattle.gates.specs.Tsc1.{tsc1Card, gated};
-use columns::few::FEW_WORDS;
-use selectors::selector;
-use selectors::selector::Terms;
-use tsc::DEFAULT_WORDS;
+use std::num::wrapping_add_u32;
 use tsc::MOST_WORDS;
 use tsc::State;
 use tsc::TSC1_CONSTANT;
-use words::arithmetic;
+
+// The selector of the first four words, document 002 (13).
+pub fn selector_of(s: State) -> u32
+    ensures { λ r. ⌜ r ≡ selector tsc1Card (used tsc1Card s) ⌝ }
+{
+    let x0 = s.words[0];
+    let x1 = s.words[1];
+    let x2 = s.words[2];
+    let x3 = s.words[3];
+    let p = x0 & (x1 & (x2 & x3));
+    let sum = wrapping_add_u32(x0, wrapping_add_u32(x1, wrapping_add_u32(x2, x3)));
+    wrapping_add_u32(p, TSC1_CONSTANT) ^ p ^ wrapping_add_u32(sum, sum)
+}
 
 // Every column of the first four words once through the table where z has a 1, and twice where it has a 0.
 pub fn replace_columns(s: State, z: u32) -> State
@@ -42,24 +51,9 @@ pub fn replace_columns(s: State, z: u32) -> State
     out
 }
 
-// What the selector needs of TSC-1's card.
-fn terms() -> Terms
-    ensures { λ r. ⌜ IsTerms tsc1Card r ⌝ }
-{
-    let width = arithmetic::width_of(32);
-    let absent = selector::absent_words(DEFAULT_WORDS);
-    Terms {
-        words: DEFAULT_WORDS,
-        width: width,
-        absent: absent,
-        constant: TSC1_CONSTANT,
-        doubled: 0xffff_ffff,
-    }
-}
-
 // The step.
 pub fn next_state(s: State) -> State
     ensures { λ r. ⌜ r ≡ holding (step tsc1Card (used tsc1Card s)) ⌝ }
 {
-    replace_columns(s, selector::selector_by(terms(), s, FEW_WORDS))
+    replace_columns(s, selector_of(s))
 }

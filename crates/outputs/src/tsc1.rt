@@ -2,34 +2,30 @@
 ghost use mathlib.Core.Path.{_≡_};
 ghost use mathlib.Core.List.{_++_};
 ghost use Prim.Native.Nat.{_≤_};
-ghost use lib.ListN.{length, drop};
+ghost use lib.ListN.{length, getD, drop};
 ghost use Rattle.tsc.specs.Step.{orbit};
-ghost use Rattle.tsc.specs.Word.{orbitWords};
-ghost use Rattle.filters.specs.Rotations.{rotationsOf};
+ghost use Rattle.tsc.specs.Word.{filter1, orbitWords};
 ghost use Rattle.gates.specs.Tsc1.{tsc1Card};
 ghost use Rattle.stepping.specs.State.{used, Holds, holding};
 ghost use Rattle.outputs.specs.Output.{output};
 use super::next::Output;
-use filters::filter;
-use filters::filter::Rotations;
 use gates::step;
-use tsc::DEFAULT_WORDS;
-use tsc::MOST_WORDS;
 use tsc::State;
-use words::arithmetic;
+use words::arithmetic::Width;
+use words::arithmetic::add;
+use words::arithmetic::rotate_left;
 
-// What the filter needs of TSC-1's card.
-fn rotations() -> Rotations
-    ensures { λ r. ⌜ r ≡ rotationsOf tsc1Card ⌝ }
+// The word of the first four words: filter 1, document 002 (15).
+fn word_of(s: State) -> u32
+    ensures { λ r. ⌜ r ≡ filter1 32 (λ k. getD (s .words) k 0) ⌝ }
 {
-    let width = arithmetic::width_of(32);
-    Rotations {
-        words: DEFAULT_WORDS,
-        width: width,
-        filter: 1,
-        places: [9, 15, 7, 0, 0],
-        further: [0; MOST_WORDS - 4],
-    }
+    let w = Width {
+        bits: 32,
+        low: 0xffff_ffff,
+    };
+    let inner = add(w, rotate_left(w, s.words[0], 9), s.words[1]);
+    let rest = add(w, rotate_left(w, s.words[2], 7), s.words[3]);
+    add(w, rotate_left(w, inner, 15), rest)
 }
 
 // The next state of the orbit with its word.
@@ -39,7 +35,7 @@ pub fn next_output(s: State) -> Output
     let after = step::next_state(s);
     Output {
         state: after,
-        word: filter::word_by(rotations(), after),
+        word: word_of(after),
     }
 }
 

@@ -29,8 +29,8 @@ pub struct Terms {
     pub doubled: u32,
 }
 
-// Ones for each word past m, zeros for the others. Callers have m from an accepted card.
-pub fn absent_words(m: u32) -> [u32; MOST_WORDS]
+// Ones for each word past m, zeros for the others.
+fn absent_words(m: u32) -> [u32; MOST_WORDS]
     requires { ⌜ m ≤ mostWords ⌝ }
     ensures { λ r. ⌜ Absent m r ⌝ }
 {
