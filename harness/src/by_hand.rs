@@ -4,6 +4,7 @@
 //! pay for the largest; no loop over the words asks the card how many it has.
 
 pub mod bits;
+pub mod gates;
 pub mod records;
 
 use reference::{mask, Card};

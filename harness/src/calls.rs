@@ -305,17 +305,56 @@ fn second_write(values: &Card, page: &[u8]) -> Observed {
 
 // ---- The comparison.
 
-/// Whether a card's bytes name five to eight words, also where it is refused.
-fn is_large(card: &[u8]) -> bool {
-    matches!(card, [map, 5..=MOST_WORDS, ..] if map & 1 == 1)
+/// The cards that are counted apart, also where they are refused.
+pub const CARDS: [&str; 3] = ["P1", "others up to four words", "five to eight words"];
+/// P1's place
+pub const P1: usize = 0;
+
+/// The place of a card of so many words that is not P1.
+fn kind_of_words(words: u8) -> usize {
+    match words {
+        5..=MOST_WORDS => 2,
+        _ => 1,
+    }
+}
+
+/// The place of a card's bytes.
+fn kind_of_card(card: &[u8]) -> usize {
+    match card {
+        [0] => P1,
+        [map, words, ..] if map & 1 == 1 => kind_of_words(*words),
+        _ => 1,
+    }
+}
+
+/// The fields that an accepted card may give alone: bits 1 to 7.
+pub const FIELDS: [&str; 7] = [
+    "width",
+    "table",
+    "odd power",
+    "even power",
+    "constant",
+    "filter",
+    "sum term",
+];
+
+/// The place of the one field that an accepted card gives, which is P1 but for this value.
+fn changed_field(card: &[u8]) -> Option<usize> {
+    let map = *card.first()?;
+    let alone = map.is_power_of_two();
+    (map.trailing_zeros() as usize)
+        .checked_sub(1)
+        .filter(|_| alone)
 }
 
 /// What the calls before the margin told on one input, where the two sides agree.
 #[derive(Default)]
 pub struct Told {
     pub refusals: [u8; MARGIN],
-    /// for each call, whether there were more than four words
-    pub large: [bool; MARGIN],
+    /// for each call, the place in CARDS
+    pub cards: [usize; MARGIN],
+    /// the place in FIELDS, where a draw was answered on P1 with one value changed
+    pub changed: Option<usize>,
     /// where the pick is counted, as `pick_column` says
     pub pick: Option<usize>,
     /// words that the fill wrote
@@ -367,11 +406,12 @@ pub fn compare(input: &Input) -> Result<Told, String> {
     for (call, name) in CALLS[..MARGIN].iter().enumerate() {
         let after = compare_call(call, input)?;
         told.refusals[call] = after.refusal;
-        told.large[call] = match *name {
-            "write" => (5..=MOST_WORDS).contains(&input.values.words),
-            _ => is_large(&input.card),
+        told.cards[call] = match *name {
+            "write" => kind_of_words(input.values.words),
+            _ => kind_of_card(&input.card),
         };
         match *name {
+            "draw" if after.refusal == 0 => told.changed = changed_field(&input.card),
             "pick" => told.pick = pick_column(input, &after),
             "fill" if after.refusal == 0 => told.filled = input.span.1,
             _ => {}
@@ -393,8 +433,8 @@ pub const MARGINS: [&str; 6] = [
 /// What the margin told on one input, where the two sides agree.
 pub struct ToldMargin {
     pub refusal: u8,
-    /// whether there were more than four words
-    pub large: bool,
+    /// the place in CARDS
+    pub card: usize,
     /// the place in MARGINS
     pub column: Option<usize>,
 }
@@ -411,7 +451,7 @@ pub fn compare_margin(input: &Input) -> Result<ToldMargin, String> {
     let half = MARGINS.len() / 2 * usize::from(all_amounts(input));
     Ok(ToldMargin {
         refusal: after.refusal,
-        large: is_large(&input.card),
+        card: kind_of_card(&input.card),
         column: column.map(|column| half + column),
     })
 }

@@ -1,9 +1,10 @@
 //! Random inputs: cards valid and damaged, states and lists of right and wrong size, strips and spans, values and pages for the writer;
 //! and inputs for the margin, which the second program finds by trying, so that each takes long. Those for records and for counts of
-//! bits are in files of their own.
+//! bits are in files of their own, and so are P1 and the cards nearly like it.
 
 mod bits;
 mod records;
+mod tsc1;
 
 use crate::random::Random;
 pub use records::Records;
@@ -33,7 +34,7 @@ pub struct Input {
 impl Input {
     pub fn random(random: &mut Random) -> Input {
         let sound = sound_values(random);
-        let card = card_bytes(&sound, random);
+        let card = tsc1::card(random).unwrap_or_else(|| card_bytes(&sound, random));
         let read = reference::read(&card).unwrap_or_else(|_| sound.clone());
         let state = state_words(&read, random);
         let strip: Vec<u32> = (0..random.below(41))
@@ -62,7 +63,7 @@ impl Input {
         if random.once_in(3) {
             return any;
         }
-        let card = margin_values(random);
+        let card = tsc1::values(random).unwrap_or_else(|| margin_values(random));
         let times = margin_times(card.width, random);
         Input {
             card: encode(&card),
@@ -227,14 +228,8 @@ fn state_words(card: &Card, random: &mut Random) -> Vec<u32> {
         2 => right + [256, 65536][random.below(2)],
         _ => right,
     };
-    let kind = random.below(12);
-    let word = |random: &mut Random| match kind {
-        0 => 0,
-        1 => mask(card.width),
-        2 => random.word() as u32,
-        _ => random.word() as u32 & mask(card.width),
-    };
-    let mut state: Vec<u32> = (0..size).map(|_| word(random)).collect();
+    let width = [card.width, 32][usize::from(random.once_in(12))];
+    let mut state = words(size, width, random);
     if size > 0 && random.once_in(16) {
         state[random.below(size)] = mask(card.width).wrapping_add(1);
     }
@@ -246,8 +241,24 @@ fn sound_state(card: &Card, random: &mut Random) -> Vec<u32> {
     if card.words >= 4 && random.once_in(4) {
         return before_large_word(card, random);
     }
-    let mut word = || random.word() as u32 & mask(card.width);
-    (0..card.words).map(|_| word()).collect()
+    words(card.words.into(), card.width, random)
+}
+
+/// Words of so many bits: zeros, ones, one of ones among zeros, one of zeros among ones, of zeros, ones or bits by turns, or random.
+fn words(count: usize, width: u8, random: &mut Random) -> Vec<u32> {
+    let kind = random.below(18);
+    let place = random.below(count.max(1));
+    let word = |at: usize, random: &mut Random| match kind {
+        0 => 0,
+        1 => u32::MAX,
+        2 => [0, u32::MAX][usize::from(at == place)],
+        3 => [u32::MAX, 0][usize::from(at == place)],
+        4 => [0, u32::MAX, 0x5555_5555, 0xaaaa_aaaa][random.below(4)],
+        _ => random.word() as u32,
+    };
+    (0..count)
+        .map(|at| word(at, random) & mask(width))
+        .collect()
 }
 
 /// A state of an accepted card of four words or more whose next word is one of the 64 largest, so that wide cards have words passed over too. Either filter adds x3.

@@ -9,6 +9,7 @@ pub mod jitter;
 pub mod random;
 pub mod record_subjects;
 pub mod subjects;
+pub mod ten_million;
 pub mod timing;
 
 /// Bytes in hex, one space apart.

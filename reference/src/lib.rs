@@ -3,11 +3,13 @@
 //! Written from three papers alone: document 002 (Hong, Lee, Yeom and Han, "A New Class of Single
 //! Cycle T-functions") defines TSC-1 and TSC-2; document 01, the scope, widens the sizes and has
 //! the card and the refusal numbers; document 02 has the requests after that. Kept plain: column
-//! by column, as document 002 (12) says.
+//! by column, as document 002 (12) says. The module `gates` has the step of TSC-1 by gates, and its
+//! tests hold it to that.
 
 pub mod bits;
 pub mod cases;
 pub mod fill;
+pub mod gates;
 #[cfg(test)]
 mod large_tests;
 pub mod margin;

@@ -63,7 +63,9 @@ use Rattle.bit_counts.proofs.Runs.{runs-append, runs-bound}
 use Rattle.bit_counts.proofs.Bits.{bitsOf-append}
 use Rattle.bit_counts.proofs.Counting.{page-digits, page-back, page-rest}
 use Rattle.bit_counts.proofs.Examples.{examples-hold, no-bits}
-use Rattle.demands.specs.Demands.{ByTable, nothing, AnsweredOrRefused, Ready, Published, Undone, SameBytes, SameLots, AcceptedIffCovers, FilledAsDrawn, FairRanks, NearestChange, UpToEightWords, NoEarlyRepeat, CabAndDesk, BitsCounted, Demands}
+use Rattle.gates.proofs.Formulas.{bit-onWords, equation-16, equation-17}
+use Rattle.gates.proofs.GateStep.{card-p1, tsc1-alone, gate-step, gate-orbit}
+use Rattle.demands.specs.Demands.{ByTable, nothing, AnsweredOrRefused, Ready, Published, Undone, SameBytes, SameLots, AcceptedIffCovers, FilledAsDrawn, FairRanks, NearestChange, UpToEightWords, NoEarlyRepeat, CabAndDesk, BitsCounted, SameByGates, Demands}
 
 -- ---- demand 1
 
@@ -298,6 +300,20 @@ bits-counted =
       onePass = λ bits. (forward-extremes bits, backward-extremes bits);
     }
 
+-- ---- document 02, Nine
+
+pub same-by-gates : SameByGates
+same-by-gates =
+    record {
+      values = card-p1;
+      alone = λ bytes b z e. tsc1-alone bytes b z (e ∙ card-p1);
+      once = equation-16;
+      twice = equation-17;
+      bitwise = λ n ws fits f i l. bit-onWords n ws fits i l f;
+      steps = λ xs. rw card-p1 (gate-step xs);
+      orbits = λ xs. rw card-p1 (gate-orbit xs);
+    }
+
 -- ---- the whole
 
 pub demands : Demands
@@ -316,4 +332,5 @@ demands =
       requestSix = no-early-repeat;
       requestSeven = cab-and-desk;
       requestEight = bits-counted;
+      requestNine = same-by-gates;
     }

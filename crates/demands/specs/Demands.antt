@@ -28,6 +28,8 @@ use Rattle.card_format.specs.Examples.{p1, p2}
 use Rattle.periods.specs.WordPeriod.{WordPeriod, repeating}
 use Rattle.draws.specs.declared.Draw.the-variants as Draw
 use Rattle.draws.specs.Calls.{callChecks, refusalFor, stepped, steppedBack, drawing, OnlyBefore}
+use Rattle.gates.specs.Formulas.{Formula, onBits, onWords, equation16, equation17}
+use Rattle.gates.specs.Tsc1.{tsc1Card, GivesPower, gateStep}
 use Rattle.fills.specs.Fills.{fillChecks, fillRefusal, filled, filledState}
 use Rattle.fills.specs.Draws.{drawnStrip, drawsMade}
 use Rattle.ties.specs.Ties.{isTie, ties, chosen, TieAt}
@@ -335,6 +337,22 @@ pub record BitsCounted : Type 0 where
   pub onePass : (bits : List ℕ) → (furthest bits ≡ max (peak bits) (trough bits))
       × (furthest (reverse bits) ≡ max (natAbs (balance bits +ℤ pos (trough bits))) (natAbs (pos (peak bits) -ℤ balance bits)))
 
+-- ---- document 02, Nine: for card P1 alone, equations 16 and 17 of document 002 on whole 32-bit words, which handle all columns together. It must equal the table
+-- step on every state
+
+pub record SameByGates : Type 0 where
+  -- P1 has TSC-1's values, and no other accepted card has them
+  pub values : cardOf p1 ≡ tsc1Card
+  pub alone : (bytes : List ℕ) → Bytes bytes → verdict bytes ≡ 0 → cardOf bytes ≡ cardOf p1 → bytes ≡ p1
+  -- on each of the sixteen columns (16) is S, and (17) is S twice
+  pub once : GivesPower equation16 1
+  pub twice : GivesPower equation17 2
+  -- a formula on words of n bits acts on each bit by itself: bit i is the formula on column i
+  pub bitwise : (n : ℕ) (ws : List ℕ) → ((k : ℕ) → getD ws k 0 < 2 ^ n) → (f : Formula) (i : ℕ) → i < n → bit i (onWords n ws f) ≡ onBits (column i ws) f
+  -- so the step by these formulas is the step by the table on every state, and along the orbit
+  pub steps : (xs : List ℕ) → IsState (cardOf p1) xs → gateStep xs ≡ step (cardOf p1) xs
+  pub orbits : (xs : List ℕ) → IsState (cardOf p1) xs → (t : ℕ) → iterate gateStep t xs ≡ orbit (cardOf p1) xs t
+
 -- ---- the whole
 
 pub record Demands : Type 0 where
@@ -351,3 +369,4 @@ pub record Demands : Type 0 where
   pub requestSix : NoEarlyRepeat
   pub requestSeven : CabAndDesk
   pub requestEight : BitsCounted
+  pub requestNine : SameByGates

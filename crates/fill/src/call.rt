@@ -16,6 +16,7 @@ pub fn fill(card: &[u8], state: &mut [u32], strip: &mut [u32], place: usize, cou
     ensures after { λ r. ⌜ now (state .exit) ≡ filledState (now (card .entry)) (now (state .entry)) (now (strip .entry)) place count ⌝ }
 {
     let found = accepted::accept(card);
+    let is_tsc1 = tsc1::is_tsc1(card);
     let refused = call::call_refusal(found.refusal, found.card.words, found.card.width, state);
     if refused != 0 {
         return refused;
@@ -26,13 +27,7 @@ pub fn fill(card: &[u8], state: &mut [u32], strip: &mut [u32], place: usize, cou
     }
     let values = found.card;
     let held = lent::load(state);
-    let last = row::fill_words(
-        values,
-        tsc1::is_tsc1(card),
-        held,
-        count,
-        &mut strip[place..],
-    );
+    let last = row::fill_words(values, is_tsc1, held, count, &mut strip[place..]);
     lent::store(last, state);
     0
 }

@@ -20,12 +20,12 @@ use Rattle.tsc.specs.declared.Card.{Card}
 use Rattle.tsc.specs.Constants.{mostWords, tsc1Constant}
 use Rattle.tsc.specs.Columns.{column}
 use Rattle.tsc.specs.Selector.{andWords, sumWords, selector}
-use Rattle.tsc.specs.Step.{entry, power, step}
+use Rattle.tsc.specs.Step.{entry, power, step, orbit}
 use Rattle.tsc.specs.Coverage.{IsState}
 use Rattle.tsc.proofs.Columns.{column-lt}
 use Rattle.tsc.proofs.LowWords.{bit-column}
 use Rattle.tsc.proofs.Selector.{selector-lt}
-use Rattle.tsc.proofs.Step.{step-in-range, column-step}
+use Rattle.tsc.proofs.Step.{step-in-range, orbit-in-range, column-step}
 use Rattle.words.proofs.Masks.{cond-ap}
 use Rattle.card_format.specs.Fields.{Bytes, fields, field}
 use Rattle.card_format.specs.Reading.{valuesAt, wordsOf, cardOf}
@@ -154,3 +154,9 @@ module _ (xs : List ℕ) (sx : IsState tsc1Card xs) where
       let lk : k < 4 = omega (arith, four) in
       bits-ext 32 (getD (gated xs z) k 0) (getD next k 0) (gated-lt z lz k lk) (inside .1 k lk) (λ i li.
       gated-bit z lz k lk i li ∙ ap (bit k) (sym (column-step tsc1Card (tsc1-accepted .formed) xs (sx .0) i li)) ∙ bit-column i next k))
+
+-- step after step
+pub gate-orbit : (xs : List ℕ) → IsState tsc1Card xs → (t : ℕ) → iterate gateStep t xs ≡ orbit tsc1Card xs t
+unfolding iterate
+gate-orbit xs sx zero = refl
+gate-orbit xs sx (suc t) = ap gateStep (gate-orbit xs sx t) ∙ gate-step (orbit tsc1Card xs t) (orbit-in-range tsc1Card xs sx t)

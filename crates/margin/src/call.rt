@@ -16,6 +16,7 @@ pub fn margin(card: &[u8], state: &[u32], shovels: &[u16], times: &[u32]) -> Mar
     ensures { λ r. ⌜ IsMargin (now (card .entry)) (now (state .entry)) (now (shovels .entry)) (now (times .entry)) r ⌝ }
 {
     let accepted = check::accept(card);
+    let is_tsc1 = tsc1::is_tsc1(card);
     let told = generator::call::call_refusal(
         accepted.refusal,
         accepted.card.words,
@@ -33,7 +34,7 @@ pub fn margin(card: &[u8], state: &[u32], shovels: &[u16], times: &[u32]) -> Mar
     let held = lent::load(state);
     let known = chosen::known_of(
         values,
-        tsc1::is_tsc1(card),
+        is_tsc1,
         held,
         shovels,
         times,

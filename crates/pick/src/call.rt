@@ -2,12 +2,11 @@
 ghost use mathlib.Core.Path.{_≡_};
 ghost use Rattle.picks.specs.Picks.{picking, picked};
 use super::listing;
+use super::lot;
 use card::check;
 use gates::tsc1;
 use generator::call;
 use picks::Pick;
-use sample::draw;
-use state_words::lent;
 use tie_rank::rank;
 
 // The shovel of least time; of several, the one whose rank by ascending number is drawn. Or the first refusal of 1 to 15 and 18 that applies.
@@ -16,6 +15,7 @@ pub fn pick(card: &[u8], state: &mut [u32], shovels: &[u16], times: &[u32]) -> P
     ensures after { λ r. ⌜ now (state .exit) ≡ picked (now (card .entry)) (now (state .entry)) (now (shovels .entry)) (now (times .entry)) ⌝ }
 {
     let accepted = check::accept(card);
+    let is_tsc1 = tsc1::is_tsc1(card);
     let told = call::call_refusal(
         accepted.refusal,
         accepted.card.words,
@@ -25,14 +25,15 @@ pub fn pick(card: &[u8], state: &mut [u32], shovels: &[u16], times: &[u32]) -> P
     if told != 0 {
         return Pick::Refused(told);
     }
-    let values = accepted.card;
-    let found = listing::list_ties(values.width as u32, shovels, times);
+    let found = listing::list_ties(accepted.card.width as u32, shovels, times);
     if found.refusal != 0 {
         return Pick::Refused(found.refusal);
     }
-    let held = lent::load(state);
-    let drawn = draw::draw_rank(values, tsc1::is_tsc1(card), held, found.ties as u32);
-    lent::store(drawn.state, state);
+    if found.ties == 1 {
+        let nearest = rank::chosen_by(shovels, times, found.least, 0);
+        return Pick::Shovel(nearest, found.ties as u8, 0);
+    }
+    let drawn = lot::draw_lot(accepted.card, is_tsc1, state, found.ties as u32);
     let number = rank::chosen_by(shovels, times, found.least, drawn.rank as usize);
     Pick::Shovel(number, found.ties as u8, drawn.taken)
 }

@@ -18,7 +18,7 @@ use Rattle.stepping.proofs.Holding.{held, holds}
 use Rattle.outputs.specs.declared.next.Output.{Output}
 use Rattle.outputs.specs.Output.{output}
 use Rattle.samples.specs.Samples.{mostTaken, limit}
-use Rattle.samples.proofs.Tried.{Over, over-none, over-next, kept, taken-none, taken-next, alone}
+use Rattle.samples.proofs.Tried.{Over, over-none, over-next, kept, taken-next}
 use Rattle.sample.specs.declared.draw.Sample.{Sample}
 use Rattle.sample.specs.Drawn.{sample}
 
@@ -28,15 +28,6 @@ pub record Passed (card : Card) (xs : List ℕ) (k t : ℕ) (s : State) : Type 0
   pub state : s ≡ holding (orbit card xs t)
 
 module _ (card : Card) (xs : List ℕ) (k : ℕ) where
-  -- one tie alone takes none
-  pub sample-alone : k ≡ 1 → (s : State) → s ≡ holding xs → record { state = s; rank = 0; taken = 0 } ≡ sample card xs k
-  sample-alone one s e =
-      let h = alone card xs k one in
-      let state = e ∙ ap holding (sym (h .1)) in
-      let rank = sym (h .0) in
-      let none = sym (taken-none card xs k one) in
-      λ i. record { state = state i; rank = rank i; taken = none i }
-
   pub passed-none : (s : State) → s ≡ holding xs → Passed card xs k 0 s
   unfolding iterate
   passed-none s e = record { over = over-none _; state = e }

@@ -1,17 +1,16 @@
 // A rank drawn from a state by value. The pick calls this once nothing is refused.
 ghost use mathlib.Core.Path.{_≡_};
 ghost use mathlib.Core.Bool.{_||_};
+ghost use mathlib.Core.Logic.{_≢_};
 ghost use Prim.Native.Nat.{_^_, _<_, _≤_};
 ghost use lib.Dec.{eqb, ltb};
 ghost use Rattle.cycle.specs.Fair.{largestMultiple};
 ghost use Rattle.tsc.specs.Constants.{widestWidth};
 ghost use Rattle.card_format.specs.Verdict.{Accepted};
-ghost use Rattle.gates.specs.Tsc1.{OnlyTsc1};
 ghost use Rattle.stepping.specs.State.{used, Holds};
 ghost use Rattle.samples.specs.Samples.{mostTaken};
 ghost use Rattle.sample.specs.Drawn.{sample};
 use super::many;
-use super::tsc1;
 use columns::power;
 use filters::filter;
 use outputs::next;
@@ -49,22 +48,11 @@ pub fn decides(n: u32, word: u32, k: u32, taken: u8) -> bool
     below_limit(n, word, k)
 }
 
-// The rank among k ties: 0 for one alone, for which no word is taken; else by the first word below L, or by the last that may be taken. By the gate formulas
-// where the caller has found TSC-1's card.
-pub fn draw_rank(card: Card, is_tsc1: bool, s: State, k: u32) -> Sample
-    requires { ⌜ Accepted card × Holds card s × (0 < k) × OnlyTsc1 «is_tsc1» card ⌝ }
+// The rank among several ties: by the first word below L, or by the last that may be taken. For one alone, which is 0, the pick draws nothing.
+pub fn draw_rank(card: Card, s: State, k: u32) -> Sample
+    requires { ⌜ Accepted card × Holds card s × (0 < k) × (k ≢ 1) ⌝ }
     ensures { λ r. ⌜ r ≡ sample card (used card s) k ⌝ }
 {
-    if k == 1 {
-        return Sample {
-            state: s,
-            rank: 0,
-            taken: 0,
-        };
-    }
-    if is_tsc1 {
-        return tsc1::draw_rank(s, k);
-    }
     let p = power::powers_of(
         &card.table,
         card.words as u32,

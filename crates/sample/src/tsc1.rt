@@ -10,7 +10,7 @@ use super::draw::Sample;
 use outputs::tsc1;
 use tsc::State;
 
-// The rank among several ties, as `draw::draw_rank` gives it: that calls it once k is not 1.
+// The rank among several ties, as `draw::draw_rank` gives it for TSC-1's card.
 pub fn draw_rank(s: State, k: u32) -> Sample
     requires { ⌜ Holds tsc1Card s × (0 < k) × (k ≢ 1) ⌝ }
     ensures { λ r. ⌜ r ≡ sample tsc1Card (used tsc1Card s) k ⌝ }

@@ -1,10 +1,13 @@
-//! How long the library's calls take, beside Rust on the same machine in the same run. Prints nanoseconds a call, or a word of a fill, a table by numbers of words, and ratios.
+//! How long the library's calls take, beside Rust on the same machine in the same run. Prints nanoseconds a call, or a word of a fill, a table by numbers of words,
+//! one of ten million words of TSC-1, and ratios.
 
 use harness::bit_subjects::counts;
+use harness::by_hand::gates::fill_by_gates;
 use harness::by_hand::{self, fill_by_columns, fill_by_joined_columns, fill_by_masks, Fill, State};
 use harness::jitter::steady;
 use harness::record_subjects::{cabs, desks, recorded_pick};
 use harness::subjects::{check, draw, fill, fill_by_hand, step, step_back, SPAN};
+use harness::ten_million;
 use harness::timing::{figure, measure, within, Subject};
 use reference::{accept, Card};
 use std::hint::black_box;
@@ -27,13 +30,21 @@ const P2: &[u8] = &[
 ];
 /// 3 words of 24 bits
 const THREE_WORDS: &[u8] = &[0x27, 3, 24, 3, 5, 0, 6, 2, 7, 1, 4, 0x01, 0x48, 0x24, 0x00];
+/// TSC-1 with odd power 3, and so by the table
+const P11: &[u8] = &[0x08, 3];
 /// TSC-1 with odd power 255 and even power 254
 const WORST_POWERS: &[u8] = &[0x18, 255, 254];
 /// TSC-1 with words of 6 bits and as many bits of its constant
 const NARROW: &[u8] = &[0x22, 6, 0x21, 0, 0, 0];
 
-/// The cards whose fill is held to Rust's.
-const FILLED: [(&str, &[u8]); 3] = [("P1", P1), ("P2", P2), ("3 words of 24 bits", THREE_WORDS)];
+/// The cards whose fill is held to Rust's, and the most of it to Rust column by column: P1 goes by gate formulas.
+const FILLED: [(&str, &[u8], f64); 3] = [
+    ("P1", P1, 0.1),
+    ("P2", P2, 0.25),
+    ("3 words of 24 bits", THREE_WORDS, 0.25),
+];
+/// the fill on P1 to Rust by the same formulas
+const MOST_OF_GATES: f64 = 1.05;
 
 /// A card of so many words, of 32 bits: the table y to 5y + 3, which is one cycle, an odd constant, and else TSC-1's values.
 fn card_of(words: u8) -> &'static [u8] {
@@ -164,6 +175,8 @@ const MOST_OF_SHORT: f64 = 10.0;
 const MOST_OF_RECORDED: f64 = 1.5;
 /// counts of bits to Rust's
 const MOST_OF_COUNTS: f64 = 1.5;
+/// the slowest selector to the quickest
+const MOST_OF_JITTER: f64 = 1.05;
 
 /// A ratio of two subjects, by their places, and the most that it may be, where there is a goal.
 struct Ratio {
@@ -179,7 +192,10 @@ type OnCard = fn(&str, &'static [u8], usize) -> Subject;
 /// A fill of Rust's: how it goes, itself, and the most of the library's fill to it, where there is a goal.
 type ByHand<const M: usize, const E: usize> = (&'static str, Fill<M, E>, Option<f64>);
 const BY_MASKS: ByHand<4, 16> = ("by minterm masks", fill_by_masks, Some(1.0));
-const BY_COLUMNS: ByHand<4, 16> = ("column by column", fill_by_columns, Some(0.25));
+
+fn by_columns(most: f64) -> ByHand<4, 16> {
+    ("column by column", fill_by_columns, Some(most))
+}
 
 /// With both results joined by a mask.
 fn by_joined_columns<const M: usize, const E: usize>(most: Option<f64>) -> ByHand<M, E> {
@@ -270,11 +286,30 @@ impl Bench {
         }
     }
 
-    /// The draw and the worst powers; the fill on P1 and Rust's column by column stand at these places.
+    /// Rust by the gate formulas, beside the fill on P1, which stands at this place.
+    fn add_gates(&mut self, fill_p1: usize) {
+        let rust = "Rust by the gate formulas, P1: a word";
+        let rust = self.add(fill_by_hand(rust, P1, STEPS, fill_by_gates));
+        let name = "fill on P1 to Rust by the gate formulas";
+        self.ratio(name, fill_p1, rust, Some(MOST_OF_GATES));
+    }
+
+    /// The worst powers beside P11, which goes by the table as they do.
+    fn add_powers(&mut self) {
+        let draws = [("P11", P11), ("worst powers", WORST_POWERS)];
+        let [draw_p11, draw_worst] =
+            draws.map(|(name, card)| self.add(draw(&format!("draw, {name}"), card, STEPS)));
+        let [fill_p11, fill_worst] =
+            draws.map(|(name, card)| self.add(fill(&format!("fill: a word, {name}"), card, STEPS)));
+        let name = "draw with the worst powers to draw on P11";
+        self.ratio(name, draw_worst, draw_p11, Some(2.0));
+        let name = "fill with the worst powers to fill on P11";
+        self.ratio(name, fill_worst, fill_p11, Some(1.05));
+    }
+
+    /// The draw; the fill on P1 and Rust's column by column stand at these places.
     fn add_draw(&mut self, fill_p1: usize, columns: usize) {
         let draw_p1 = self.add(draw("draw: read, check, step and word, P1", P1, STEPS));
-        let draw_worst = self.add(draw("draw, worst powers", WORST_POWERS, STEPS));
-        let fill_worst = self.add(fill("fill: a word, worst powers", WORST_POWERS, STEPS));
         let second = "second program, P1: step and word, the card already read";
         let second = self.add(second_program(second, P1, STEPS));
         for (name, over, under, most) in [
@@ -290,18 +325,6 @@ impl Bench {
                 draw_p1,
                 second,
                 Some(2.0),
-            ),
-            (
-                "draw with the worst powers to draw on P1",
-                draw_worst,
-                draw_p1,
-                Some(2.0),
-            ),
-            (
-                "fill with the worst powers to fill on P1",
-                fill_worst,
-                fill_p1,
-                Some(1.05),
             ),
         ] {
             self.ratio(name, over, under, most);
@@ -364,10 +387,13 @@ impl Bench {
 
     fn new() -> Bench {
         let mut bench = Bench::default();
-        let places =
-            FILLED.map(|(name, card)| bench.add_fill(name, card, STEPS, &[BY_MASKS, BY_COLUMNS]));
+        let places = FILLED.map(|(name, card, most)| {
+            bench.add_fill(name, card, STEPS, &[BY_MASKS, by_columns(most)])
+        });
         let (fill_p1, columns_p1) = places[0];
+        bench.add_gates(fill_p1);
         bench.add_draw(fill_p1, columns_p1);
+        bench.add_powers();
         bench.add_margins();
         bench.add_readers();
         bench.add_counts();
@@ -444,24 +470,30 @@ fn print_rows(rows: &[Row], best: &[f64]) {
     }
 }
 
-/// Whether the step, of 4 and of 8 words, and a fill of one word take as long whatever the selector is.
-fn steady_calls() -> bool {
-    let card = accept(P1).unwrap();
-    let step = |state: &mut State<4>| tiedraw::step(black_box(P1), state).unwrap();
+/// Whether a step on a card of M words of 32 bits takes as long whatever the selector is.
+fn steady_step<const M: usize>(name: &str, bytes: &[u8]) -> bool {
+    let step = |state: &mut State<M>| tiedraw::step(black_box(bytes), state).unwrap();
+    let name = format!("step, {name}");
+    steady(&name, &accept(bytes).unwrap(), MOST_OF_JITTER, step)
+}
+
+/// Whether a fill of one word on a card of four words of 32 bits does.
+fn steady_fill(name: &str, bytes: &[u8]) -> bool {
     let fill = |state: &mut State<4>| {
-        tiedraw::fill(black_box(P1), state, black_box(&mut [0]), 0, 1).unwrap()
+        tiedraw::fill(black_box(bytes), state, black_box(&mut [0]), 0, 1).unwrap()
     };
-    let eight = card_of(8);
-    let step_of_eight = |state: &mut State<8>| tiedraw::step(black_box(eight), state).unwrap();
+    let name = format!("fill of one word, {name}");
+    steady(&name, &accept(bytes).unwrap(), MOST_OF_JITTER, fill)
+}
+
+/// By gate formulas, and by the table of 4 and of 8 words.
+fn steady_calls() -> bool {
     let held = [
-        steady("step, P1", &card, 1.05, step),
-        steady("fill of one word, P1", &card, 1.05, fill),
-        steady(
-            "step, 8 words of 32 bits",
-            &accept(eight).unwrap(),
-            1.05,
-            step_of_eight,
-        ),
+        steady_step::<4>("P1", P1),
+        steady_fill("P1", P1),
+        steady_step::<4>("P11", P11),
+        steady_fill("P11", P11),
+        steady_step::<8>("8 words of 32 bits", card_of(8)),
     ];
     !held.contains(&false)
 }
@@ -475,6 +507,7 @@ fn main() {
         println!("{best:>9.1} ns  {} ({} times)", subject.name, subject.calls);
     }
     print_rows(&bench.rows, &best);
+    ten_million::report();
     let held: Vec<bool> = bench
         .ratios
         .iter()

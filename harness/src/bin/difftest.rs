@@ -2,7 +2,8 @@
 
 use harness::calls::bits::{compare_bits, ToldBits, BITS};
 use harness::calls::records::{compare_records, ToldRecords, RECORDS};
-use harness::calls::{compare, compare_margin, Told, ToldMargin, CALLS, MARGIN, MARGINS, NIST};
+use harness::calls::{compare, compare_margin, Told, ToldMargin};
+use harness::calls::{CALLS, CARDS, FIELDS, MARGIN, MARGINS, NIST, P1};
 use harness::hex;
 use harness::inputs::{sound_form, Input};
 use harness::random::Random;
@@ -62,17 +63,29 @@ const TELLS: [&[usize]; CALLS.len()] = [
     &[0, 1, 2, 3, 4, 5, 6, 7, 8, 9, 22, 23, 24],
 ];
 
+/// The same on P1, of the calls that make steps.
+const P1_TELLS: [(&str, &[usize]); 7] = [
+    ("step", &[0, 10]),
+    ("step_back", &[0, 10]),
+    ("draw", &[0, 10]),
+    ("fill", &[0, 10, 17]),
+    ("pick", &[0, 10, 12, 13, 14, 15]),
+    ("margin", &[0, 10, 12, 13, 14, 15, 19]),
+    ("recpick", &[0, 10, 12, 13, 14, 15, 16]),
+];
+/// once in so many calls at least they answer on P1 without a refusal
+const P1_ONCE_IN: usize = 50;
+
 /// For each call: answers, then refusals by their numbers.
 type Answers = [[usize; REFUSALS + 1]; CALLS.len()];
-/// The cards that are counted apart.
-const SIZES: [&str; 2] = ["up to four words", "five to eight words"];
 
 /// How often each call told each refusal, how many picks passed over how many words, how many words were filled in, how many
 /// margins, records and counts there were of each kind, and how many recorded picks with each number of ties.
 #[derive(Default)]
 struct Tally {
-    /// up to four words, and other cards; then five to eight words
-    told: [Answers; SIZES.len()],
+    told: [Answers; CARDS.len()],
+    /// draws on P1 with one value changed, by the field
+    changed: [usize; FIELDS.len()],
     /// without ties, then with 0 to MOST_TAKEN words passed over
     picks: [usize; MOST_TAKEN + 2],
     filled: usize,
@@ -110,6 +123,14 @@ impl ByTies {
     }
 }
 
+/// The places of the calls in P1_TELLS, and what they tell.
+fn p1_calls() -> impl Iterator<Item = (usize, &'static [usize])> {
+    let place = |name| CALLS.iter().position(|call| *call == name);
+    P1_TELLS
+        .into_iter()
+        .map(move |(name, tells)| (place(name).expect("a call"), tells))
+}
+
 /// Adds counts to sums, one by one.
 fn add_up(sums: &mut [usize], counts: &[usize]) {
     for (sum, count) in sums.iter_mut().zip(counts) {
@@ -123,6 +144,7 @@ impl Tally {
         for (sums, counts) in sums.zip(other.told.iter().flatten()) {
             add_up(sums, counts);
         }
+        add_up(&mut self.changed, &other.changed);
         add_up(&mut self.picks, &other.picks);
         self.filled += other.filled;
         add_up(&mut self.margins, &other.margins);
@@ -133,13 +155,16 @@ impl Tally {
         add_up(&mut self.bits, &other.bits);
     }
 
-    fn count_answer(&mut self, call: usize, refusal: u8, large: bool) {
-        self.told[usize::from(large)][call][usize::from(refusal)] += 1;
+    fn count_answer(&mut self, call: usize, refusal: u8, card: usize) {
+        self.told[card][call][usize::from(refusal)] += 1;
     }
 
     fn count(&mut self, told: Told) {
         for (call, refusal) in told.refusals.into_iter().enumerate() {
-            self.count_answer(call, refusal, told.large[call]);
+            self.count_answer(call, refusal, told.cards[call]);
+        }
+        if let Some(field) = told.changed {
+            self.changed[field] += 1;
         }
         if let Some(column) = told.pick {
             self.picks[column] += 1;
@@ -148,15 +173,15 @@ impl Tally {
     }
 
     fn count_margin(&mut self, told: ToldMargin) {
-        self.count_answer(MARGIN, told.refusal, told.large);
+        self.count_answer(MARGIN, told.refusal, told.card);
         if let Some(column) = told.column {
             self.margins[column] += 1;
         }
     }
 
     fn count_records(&mut self, told: ToldRecords) {
-        for (call, refusal, large) in told.answers {
-            self.count_answer(call, refusal, large);
+        for (call, refusal, card) in told.answers {
+            self.count_answer(call, refusal, card);
         }
         let picks = match told.small {
             false => &mut self.recorded,
@@ -172,20 +197,48 @@ impl Tally {
     }
 
     fn count_bits(&mut self, told: ToldBits) {
-        self.count_answer(NIST, told.refusal, told.large);
+        self.count_answer(NIST, told.refusal, told.card);
         add_up(&mut self.bits, &told.kinds.map(usize::from));
+    }
+
+    /// One of the refusals that a call never told on these cards.
+    fn never_told(&self, card: usize, call: usize, tells: &[usize]) -> Option<String> {
+        let answers = &self.told[card][call];
+        let refusal = tells.iter().find(|&&refusal| answers[refusal] == 0)?;
+        let (card, call) = (CARDS[card], CALLS[call]);
+        Some(format!("{card}: {call} never told {refusal}"))
     }
 
     /// A refusal that a call never told, with either size of cards.
     fn untold(&self) -> Option<String> {
-        for (size, answers) in SIZES.iter().zip(&self.told) {
-            for (call, tells) in TELLS.iter().enumerate() {
-                if let Some(refusal) = tells.iter().find(|&&refusal| answers[call][refusal] == 0) {
-                    return Some(format!("{size}: {} never told {refusal}", CALLS[call]));
-                }
-            }
-        }
-        None
+        let calls = TELLS.iter().enumerate();
+        let mut others = (0..CARDS.len()).filter(|&card| card != P1);
+        others.find_map(|card| {
+            let mut calls = calls.clone();
+            calls.find_map(|(call, tells)| self.never_told(card, call, tells))
+        })
+    }
+
+    /// How often a call answered on P1 without a refusal, and how often it was made in all.
+    fn on_p1(&self, call: usize) -> (usize, usize) {
+        let made = self.told.iter().flat_map(|answers| answers[call]);
+        (self.told[P1][call][0], made.sum())
+    }
+
+    /// A call that answered too seldom on P1.
+    fn seldom_on_p1(&self, call: usize) -> Option<String> {
+        let (answered, made) = self.on_p1(call);
+        let seldom = answered * P1_ONCE_IN < made;
+        seldom.then(|| format!("P1: {} answered {answered} of {made}", CALLS[call]))
+    }
+
+    /// A refusal that a call never told on P1, a call that answered too seldom on it, or a value that was never changed alone.
+    fn missing_p1(&self) -> Option<String> {
+        let untold = p1_calls().find_map(|(call, tells)| self.never_told(P1, call, tells));
+        let seldom = p1_calls().find_map(|(call, _)| self.seldom_on_p1(call));
+        let empty = self.changed.iter().position(|&draws| draws == 0);
+        let unchanged = empty.map(|field| format!("no draw with another {}", FIELDS[field]));
+        untold.or(seldom).or(unchanged)
     }
 
     /// A number of equals that no recorded pick had, a page too small for a tie or without one, a kind of record, or a pair that differs
@@ -201,7 +254,7 @@ impl Tally {
         no_pick.or(no_page).or(no_record).or(no_twins)
     }
 
-    /// What never came up: a refusal of a call, a number of words passed over, a kind of margin or of counts, or what records must have.
+    /// What never came up: a refusal of a call, a number of words passed over, a kind of margin or of counts, or what P1 and records must have.
     fn missing(&self) -> Option<String> {
         let empty = self.picks.iter().position(|&picks| picks == 0);
         let no_pick = empty.map(|column| match column {
@@ -213,8 +266,8 @@ impl Tally {
         let no_record = self.missing_record();
         let empty = self.bits.iter().position(|&inputs| inputs == 0);
         let no_bits = empty.map(|kind| format!("no strip {}", BITS[kind]));
-        let missing = self.untold().or(no_pick).or(no_margin);
-        missing.or(no_record).or(no_bits)
+        let missing = self.untold().or(self.missing_p1()).or(no_pick);
+        missing.or(no_margin).or(no_record).or(no_bits)
     }
 
     /// How many words all picks passed over.
@@ -286,8 +339,8 @@ fn columns(counts: &[usize]) -> String {
 }
 
 fn print_answers(total: &Tally) {
-    for (size, answers) in SIZES.iter().zip(&total.told) {
-        println!("{size}: answers, then refusals 1 to {REFUSALS}:");
+    for (card, answers) in CARDS.iter().zip(&total.told) {
+        println!("{card}: answers, then refusals 1 to {REFUSALS}:");
         for (name, sums) in CALLS.iter().zip(answers) {
             println!("{name:>9} {}", columns(sums));
         }
@@ -299,6 +352,19 @@ fn print_answers(total: &Tally) {
     println!("{:>9} {}", "", columns(&total.picks));
     println!("margins lowered, raised, and firm of several shovels; then those with times below 200 and every amount tried:");
     println!("{:>9} {}", "", columns(&total.margins));
+}
+
+fn print_p1(total: &Tally) {
+    let parts = p1_calls().map(|(call, _)| {
+        let (answered, made) = total.on_p1(call);
+        let part = 100.0 * answered as f64 / made as f64;
+        format!("{} {answered} ({part:.1} %)", CALLS[call])
+    });
+    let parts: Vec<String> = parts.collect();
+    println!("on P1 without a refusal, of all: {}", parts.join(", "));
+    let fields = FIELDS.join(", ");
+    println!("draws on P1 with one value changed, none refused: {fields}:");
+    println!("{:>9} {}", "", columns(&total.changed));
 }
 
 fn print_records(total: &Tally) {
@@ -339,6 +405,7 @@ fn compare_inputs(seed: u64, inputs: usize) {
         blocks * OF_BITS
     );
     print_answers(&total);
+    print_p1(&total);
     print_records(&total);
     print_bits(&total);
     if let Some(missing) = total.missing() {

@@ -1,7 +1,7 @@
 //! Counts of bits (document 02, Eight), by the library and by the second program, and what is promised of them.
 
 use super::promises::demand;
-use super::{compare_call, expected, is_large, lend, library, row, shared, widened};
+use super::{compare_call, expected, kind_of_card, lend, library, row, shared, widened};
 use super::{Observed, GUARD, GUARD_BYTE, NIST};
 use crate::inputs::Input;
 use reference::bits::call_bit_counts;
@@ -144,8 +144,8 @@ fn kinds(input: &Input, after: &Observed, width: u8) -> [bool; BITS.len()] {
 /// What the counts told on one input, where the two sides agree and what is promised holds.
 pub struct ToldBits {
     pub refusal: u8,
-    /// whether there were more than four words
-    pub large: bool,
+    /// the place in CARDS
+    pub card: usize,
     pub kinds: [bool; BITS.len()],
 }
 
@@ -158,7 +158,7 @@ pub fn compare_bits(input: &Input) -> Result<ToldBits, String> {
     }
     Ok(ToldBits {
         refusal: after.refusal,
-        large: is_large(&input.card),
+        card: kind_of_card(&input.card),
         kinds: kinds(input, &after, width),
     })
 }

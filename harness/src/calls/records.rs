@@ -3,11 +3,10 @@
 use super::promises::{
     as_plain, demand, heard_alike, in_another_order, made_again, read_back, with_record_left,
 };
-use super::{compare_call, expected, is_large, lend, library, row, shared, widened, Observed};
-use super::{Values, CAB, DESK, GUARD, GUARD_BYTE, PICK, RECPICK};
+use super::{compare_call, expected, kind_of_card, kind_of_words, lend, library, row, shared};
+use super::{widened, Observed, Values, CAB, DESK, GUARD, GUARD_BYTE, PICK, RECPICK};
 use crate::inputs::Input;
 use reference::record::{call_recorded_pick, order_for, read_record, Record};
-use reference::MOST_WORDS;
 use std::cmp::Ordering;
 use tiedraw::ffi::{tiedraw_order, tiedraw_pick_recorded, tiedraw_read_record, RecordReading};
 
@@ -179,8 +178,8 @@ fn by_length(record: &[u8], map: u8) -> usize {
 /// What recorded pick, desk and cab told on one input, where the two sides agree and what is promised holds.
 #[derive(Default)]
 pub struct ToldRecords {
-    /// calls, their refusals, and whether there were more than four words
-    pub answers: Vec<(usize, u8, bool)>,
+    /// calls, their refusals, and the places in CARDS
+    pub answers: Vec<(usize, u8, usize)>,
     /// how many were equally near, 1 without a tie; none if a plain pick was refused
     pub ties: Option<usize>,
     /// whether the page was too small
@@ -195,10 +194,10 @@ impl ToldRecords {
     /// Desk and cab on the record of an input.
     fn read(&mut self, input: &Input) -> Result<(), String> {
         let record = &input.records.record;
-        let large = matches!(state_count(record), Some(5..=MOST_WORDS));
+        let card = kind_of_words(state_count(record).unwrap_or(0));
         let [desk, cab] = [compare_call(DESK, input)?, compare_call(CAB, input)?];
-        self.answers.push((DESK, desk.refusal, large));
-        self.answers.push((CAB, cab.refusal, large));
+        self.answers.push((DESK, desk.refusal, card));
+        self.answers.push((CAB, cab.refusal, card));
         let kind = kind(record);
         self.kinds.push(kind);
         let told = (desk.refusal == 0) == (kind < WHOLE);
@@ -208,8 +207,8 @@ impl ToldRecords {
     /// The recorded pick, and what is promised of it.
     fn pick(&mut self, input: &Input) -> Result<(), String> {
         let after = compare_call(RECPICK, input)?;
-        let large = is_large(&input.card);
-        self.answers.push((RECPICK, after.refusal, large));
+        let card = kind_of_card(&input.card);
+        self.answers.push((RECPICK, after.refusal, card));
         let plain = library(PICK, input);
         as_plain(input, &after, &plain)?;
         in_another_order(input, &after)?;

@@ -1,7 +1,7 @@
 //! Random inputs for the calls of records: recorded picks with trucks and pages, and records whole and torn for desk and cab.
 
 use super::{
-    accepted_values, any_times, numbers, slow_values, sound_state, tied_times, word_count,
+    accepted_values, any_times, numbers, slow_values, sound_state, tied_times, tsc1, word_count,
 };
 use super::{Card, Input, MOST_WORDS};
 use crate::random::Random;
@@ -30,7 +30,7 @@ impl Input {
     pub fn of_records(random: &mut Random) -> Input {
         let mut input = Input::random(random);
         if !random.once_in(3) {
-            let card = recorded_values(random);
+            let card = tsc1::values(random).unwrap_or_else(|| recorded_values(random));
             input.card = encode(&card);
             input.state = sound_state(&card, random);
             input.times = match random.below(2) {

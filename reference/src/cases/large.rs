@@ -259,7 +259,7 @@ mod tests {
         let told: Vec<String> = maker
             .lines
             .split(|&byte| byte == b'\n')
-            .filter_map(|line| answer(line))
+            .filter_map(answer)
             .filter(|told| told != "syntax")
             .collect();
         assert_eq!(told.len(), 2 * 3 * WORDS.len());

@@ -26,19 +26,19 @@ use Rattle.margin.proofs.call.margin.Tie as tie
 
 -- where margin begins, with what it is handed
 abbrev start : tie.After-call-refusal → tie.Start
-start o = o .before .before .before .before .before .before
+start o = o .before .before .before .before .before .before .before
 
 -- the card as it was accepted
 abbrev given : tie.After-call-refusal → Card
-given o = o .before .accept .result .card
+given o = o .before .before .accept .result .card
 
 -- what is told of the card and the state
 told-first : (o : tie.After-call-refusal) → let a = start o .args in o .call-refusal .result ≡ refusalFor (a .card .now) (a .state .now)
-told-first o = told _ _ (o .before .accept .result) (o .before .accept .ensures) (o .call-refusal .ensures)
+told-first o = told _ _ (o .before .before .accept .result) (o .before .before .accept .ensures) (o .call-refusal .ensures)
 
 -- past the first test they are not refused
 passing : (c : tie.Else1) → let o = c .before in let a = start o .args in Clear (a .card .now) (a .state .now) (given o)
-passing c = let o = c .before in clear _ _ (o .before .accept .result) (o .before .accept .ensures) (sym (told-first o) ∙ c .if1 .left)
+passing c = let o = c .before in clear _ _ (o .before .before .accept .result) (o .before .before .accept .ensures) (sym (told-first o) ∙ c .if1 .left)
 
 -- the second tells of the list, or of nothing
 told-list : (c : tie.After-list-ties) → let a = start (c .before .before .before .before) .args in
@@ -56,23 +56,26 @@ refusal : (bytes xs shovels times : List ℕ) (r : ℕ) → r ≢ 0 → r ≡ pi
 refusal bytes xs shovels times r ne e = margin-refused bytes xs shovels times (λ z. ne (e ∙ z)) _ .1 (ap Refused e)
 
 -- what the search is given
-draws : (c : tie.After-known-of) → let l = c .before .before .before .before .before in
+draws : (c : tie.After-known-of) → let l = c .before .before .before .before in
     let o = l .before .before .before .before in
     let a = start o .args in
     Draws (a .state .now) (a .shovels .now) (a .times .now) (given o) (l .list-ties .result) (c .known-of .result)
 draws c =
     let e = c .known-of .ensures in
-    record { width = e .0; state = c .before .before .load .result; lent = c .before .before .load .ensures; words = e .1 .0; chosen = e .1 .1 }
+    record { width = e .0; state = c .before .load .result; lent = c .before .load .ensures; words = e .1 .0; chosen = e .1 .1 }
 
 -- what it finds
-best-is : (c : tie.After-least-change) {r : Best} → c .least-change .result ≡ r → let a = start (c .before .before .before .before .before .before .before .before .before .before) .args in
+best-is : (c : tie.After-least-change) {r : Best} → c .least-change .result ≡ r → let a = start (c .before .before .before .before .before .before .before .before .before) .args in
     BestOf (a .shovels .now) (a .times .now) (λ ys. elsewhere (c .before .known-of .result) (a .shovels .now) ys ≡ true) (length (a .times .now)) r
 best-is c e =
-    let a = start (c .before .before .before .before .before .before .before .before .before .before) .args in
+    let a = start (c .before .before .before .before .before .before .before .before .before) .args in
     subst (BestOf (a .shovels .now) (a .times .now) (λ ys. elsewhere (c .before .known-of .result) (a .shovels .now) ys ≡ true) (length (a .times .now))) e (c .least-change .ensures)
 
 accept-requires : tie.Need-accept-requires
 accept-requires c κs = search needs
+
+is-tsc1-requires : tie.Need-is-tsc1-requires
+is-tsc1-requires c κs = tt
 
 call-refusal-requires : tie.Need-call-refusal-requires
 call-refusal-requires c κs = search needs
@@ -92,17 +95,14 @@ returns-2 c = refusal _ _ _ _ _ (c .if2 .taken) (told-list (c .before .before))
 load-requires : tie.Need-load-requires
 load-requires c κs = few (going c .clear)
 
-is-tsc1-requires : tie.Need-is-tsc1-requires
-is-tsc1-requires c κs = tt
-
 known-of-requires : tie.Need-known-of-requires
 known-of-requires c κs =
-    let l = c .before in
-    let f = going (l .before) in
-    (accepted (f .clear), only-p1 _ _ _ (f .clear .card-is) (c .is-tsc1 .ensures), ready (f .clear) (l .load .ensures), f .some, f .few, f .listed)
+    let f = going (c .before) in
+    let o = c .before .before .before .before .before .before .before in
+    (accepted (f .clear), only-p1 _ _ _ (f .clear .card-is) (o .before .is-tsc1 .ensures), ready (f .clear) (c .load .ensures), f .some, f .few, f .listed)
 
 least-change-requires : tie.Need-least-change-requires
-least-change-requires c κs = listed _ _ _ _ _ _ (going (c .before .before .before)) _ (draws c)
+least-change-requires c κs = listed _ _ _ _ _ _ (going (c .before .before)) _ (draws c)
 
 enum-told : tie.Need-enum-told
 enum-told c = search needs
@@ -113,7 +113,7 @@ enum-known-best c = search needs
 told-requires : tie.Need-told-requires
 told-requires c κs =
     let m = c .before .before .before in
-    let f = going (m .before .before .before .before) in
+    let f = going (m .before .before .before) in
     let l = listed _ _ _ _ _ _ f _ (draws (m .before)) in
     let k = found-counts _ _ _ _ _ _ f _ (draws (m .before)) _ (best-is m (c .before .best .given .1)) in
     ((l .width, l .paired, l .few), (k .listed, k .within))
@@ -121,13 +121,13 @@ told-requires c κs =
 returns-3 : tie.Need-returns-3
 returns-3 c =
     let m = c .before .before in
-    found-nothing _ _ _ _ _ _ (going (m .before .before .before .before)) _ (draws (m .before)) (best-is m (c .enum-told .given .1))
+    found-nothing _ _ _ _ _ _ (going (m .before .before .before)) _ (draws (m .before)) (best-is m (c .enum-told .given .1))
 
 returns-4 : tie.Need-returns-4
 returns-4 c =
     let m = c .before .before .before .before in
     let t = c .told .ensures in
-    found-least _ _ _ _ _ _ (going (m .before .before .before .before)) _ (draws (m .before)) _ (best-is m (c .before .before .best .given .1)) (c .told .result)
+    found-least _ _ _ _ _ _ (going (m .before .before .before)) _ (draws (m .before)) _ (best-is m (c .before .before .best .given .1)) (c .told .result)
     (t .0) (t .1 .0) (t .1 .1 .0) (t .1 .1 .1)
 
 pub margin-spec : {M : Type 1} → statement M
@@ -135,13 +135,13 @@ margin-spec =
     tie.close
     (tie.spec
     accept-requires
+    is-tsc1-requires
     call-refusal-requires
     returns
     cast-list-ties
     list-ties-requires
     returns-2
     load-requires
-    is-tsc1-requires
     known-of-requires
     least-change-requires
     enum-told

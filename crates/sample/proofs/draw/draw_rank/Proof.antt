@@ -1,23 +1,22 @@
-use mathlib.Core.Path.{sym, _∙_, subst}
+use mathlib.Core.Path.{sym, _∙_}
 use Prim.Native.Nat.{_-_}
 use native.Mathlib.Omega.{arith}
-use Rattle.tsc.specs.declared.Card.{Card}
-use Rattle.stepping.specs.State.{used, Holds, Steps}
+use Rattle.stepping.specs.State.{used, Steps}
 use Rattle.stepping.proofs.Columns.{sized, cycled}
 use Rattle.samples.specs.Samples.{mostTaken}
-use Rattle.sample.proofs.Passed.{Passed, sample-alone, passed-none, passed-holds, passed-next, passed-all}
+use Rattle.sample.proofs.Passed.{Passed, passed-none, passed-holds, passed-next, passed-all}
 use Rattle.sample.proofs.draw.draw_rank.Statement.{statement}
 use Rattle.sample.proofs.draw.draw_rank.Tie as tie
 
 abbrev Inv-loop : tie.InvT-loop
-Inv-loop tsc1 k card p terms rotations held₀ taken₀ held taken = Passed card (used card held₀) k taken held
+Inv-loop k card p terms rotations held₀ taken₀ held taken = Passed card (used card held₀) k taken held
 
 abbrev μ-loop : tie.MeasureT-loop
-μ-loop tsc1 k card p terms rotations held₀ taken₀ held taken = mostTaken - taken
+μ-loop k card p terms rotations held₀ taken₀ held taken = mostTaken - taken
 
 -- where the function begins
 abbrev start : tie.At-loop Inv-loop μ-loop → tie.Start Inv-loop μ-loop
-start c = c .before .before .before .before .before .before .before .before
+start c = c .before .before .before .before .before .before
 
 -- what a step from the state that the loop has come to asks for
 steps : (c : tie.At-loop Inv-loop μ-loop) → let t = c .before .before in let p = t .before .powers-of .result in
@@ -27,17 +26,6 @@ steps c =
     let t = c .before .before in
     let p = t .before .powers-of .ensures in
     record { accepted = s .pre .0; holds = passed-holds _ _ _ (s .pre .1 .0) _ _ (c .loop .inv); selects = t .terms-of .ensures; first = p .0; second = p .1 }
-
-returns : tie.Need-returns Inv-loop μ-loop
-returns c = sample-alone _ _ _ (c .if1 .taken) _ (c .before .pre .1 .1)
-
-draw-rank-requires : tie.Need-draw-rank-requires Inv-loop μ-loop
-draw-rank-requires c κs =
-    let s = c .before .before in
-    (subst (λ (d : Card). Holds d (s .args .s)) (s .pre .3 (c .if2 .taken)) (s .pre .1), s .pre .2, c .before .if1 .left)
-
-returns-2 : tie.Need-returns-2 Inv-loop μ-loop
-returns-2 c = rw (c .before .before .before .pre .3 (c .before .if2 .taken)) (c .draw-rank .ensures)
 
 cast-powers-of : tie.Need-cast-powers-of Inv-loop μ-loop
 cast-powers-of c = omega arith
@@ -49,16 +37,16 @@ cast-powers-of-3 : tie.Need-cast-powers-of-3 Inv-loop μ-loop
 cast-powers-of-3 c = omega arith
 
 powers-of-requires : tie.Need-powers-of-requires Inv-loop μ-loop
-powers-of-requires c κs = let s = c .before .before .before .before in cycled (s .args .t1) (s .pre .0)
+powers-of-requires c κs = let s = c .before .before in cycled (s .args .t1) (s .pre .0)
 
 terms-of-requires : tie.Need-terms-of-requires Inv-loop μ-loop
-terms-of-requires c κs = let s = c .before .before .before .before .before in sized (s .args .t1) (s .pre .0)
+terms-of-requires c κs = let s = c .before .before .before in sized (s .args .t1) (s .pre .0)
 
 rotations-of-requires : tie.Need-rotations-of-requires Inv-loop μ-loop
-rotations-of-requires c κs = let s = c .before .before .before .before .before .before in let z = sized (s .args .t1) (s .pre .0) in (z .0, z .1)
+rotations-of-requires c κs = let s = c .before .before .before .before in let z = sized (s .args .t1) (s .pre .0) in (z .0, z .1)
 
 loop-holds : tie.Need-loop-holds Inv-loop μ-loop
-loop-holds c = passed-none _ _ _ _ (c .before .before .before .before .before .before .before .pre .1 .1)
+loop-holds c = passed-none _ _ _ _ (c .before .before .before .before .before .pre .1 .1)
 
 next-output-requires : tie.Need-next-output-requires Inv-loop μ-loop
 next-output-requires c κs = let at = c .before .before .before in (start at .args .t1, steps at, at .before .rotations-of .ensures)
@@ -67,13 +55,13 @@ add-taken : tie.Need-add-taken Inv-loop μ-loop
 add-taken c = let l = c .before .before .before .before .before .loop in omega (arith, l .inv .over .few)
 
 cast-decides : tie.Need-cast-decides Inv-loop μ-loop
-cast-decides c = omega (arith, start (c .before .before .before .before .before) .pre .0 .narrow)
+cast-decides c = omega arith
 
 decides-requires : tie.Need-decides-requires Inv-loop μ-loop
 decides-requires c κs = let s = start (c .before .before .before .before .before) in (s .pre .0 .narrow, s .pre .2)
 
-rem-t28 : tie.Need-rem-t28 Inv-loop μ-loop
-rem-t28 c = let s = start (c .before .before .before .before .before .before .before .before) in s .pre .2
+rem-t26 : tie.Need-rem-t26 Inv-loop μ-loop
+rem-t26 c = let s = start (c .before .before .before .before .before .before .before .before) in s .pre .2
 
 loop-less : tie.Need-loop-less Inv-loop μ-loop
 loop-less c = let l = c .before .before .before .before .before .before .before .loop in omega (arith, l .inv .over .few)
@@ -84,17 +72,16 @@ loop-again c =
     let at = o .before .before .before .before in
     let s = start at in
     let drawn = o .next-output .ensures (s .args .t1) (steps at) (at .before .rotations-of .ensures) in
-    passed-next _ _ _ (s .pre .1 .0) _ _ (at .loop .inv) _ drawn (sym (c .before .decides .ensures) ∙ c .if3 .left)
+    passed-next _ _ _ (s .pre .1 .0) _ _ (at .loop .inv) _ drawn (sym (c .before .decides .ensures) ∙ c .if1 .left)
 
-returns-3 : tie.Need-returns-3 Inv-loop μ-loop
-returns-3 c =
+returns : tie.Need-returns Inv-loop μ-loop
+returns c =
     let d = c .before .before in
     let o = d .before .before in
     let at = o .before .before .before .before in
     let s = start at in
-    let several = at .before .before .before .before .before .before .before .if1 .left in
     let drawn = o .next-output .ensures (s .args .t1) (steps at) (at .before .rotations-of .ensures) in
-    passed-all _ _ _ (s .pre .1 .0) _ _ (at .loop .inv) _ drawn several (sym (d .decides .ensures) ∙ c .before .if3 .taken)
+    passed-all _ _ _ (s .pre .1 .0) _ _ (at .loop .inv) _ drawn (s .pre .3) (sym (d .decides .ensures) ∙ c .before .if1 .taken)
 
 pub draw-rank-spec : {M : Type 1} → statement M
 draw-rank-spec =
@@ -102,9 +89,6 @@ draw-rank-spec =
     (tie.spec
     Inv-loop
     μ-loop
-    returns
-    draw-rank-requires
-    returns-2
     cast-powers-of
     cast-powers-of-2
     cast-powers-of-3
@@ -116,7 +100,7 @@ draw-rank-spec =
     add-taken
     cast-decides
     decides-requires
-    rem-t28
+    rem-t26
     loop-less
     loop-again
-    returns-3)
+    returns)
