@@ -6,6 +6,8 @@ A loop end is a conditional jump of which one way stays in the innermost loop ar
 loop has one. That it goes backward is not enough: compilers put the end of a branch before its start. Held to this are
 one step and one draw as a whole, which step, draw and the pick must call, the loops of many steps, which fill and margin
 must call, those of the step back, and whatever these call. One branch in each of three functions is let pass, on the card.
+The step of TSC-1 by its gate formulas stands in each function that takes it: one stretch without a jump, known by TSC-1's
+constant.
 A recorded pick must call the pick. Between two words that it tries, in a loop or one behind the other, it may stop at
 several places, and has the one division that makes a rank; it branches nowhere else.
 """
@@ -31,6 +33,11 @@ CALLERS = {
 }
 # The loops held are those of so many instructions or more: the smaller ones of a step back check card and state.
 LOOPED = {ROW: 0, "tiedraw_step_back": 60}
+# The functions that step by the gate formulas, where they add TSC-1's constant; selector and formulas are more than so many
+# instructions.
+GATED = ["tiedraw_step", "tiedraw_draw", ROW, TRIED]
+CONSTANT = re.compile(r"(add|lea)l? .*\b0x12488421\b")
+LEAST_STRETCH = 60
 OUTSIDE = ["memcpy", "memset"]
 # The branches let pass, one in each function: it asks the card, never the state, whether it has more than four words, and
 # which of two filters.
@@ -158,6 +165,17 @@ def nested(ways, loop):
     return [loop] + [each for one in inner for each in nested(ways, one)]
 
 
+def stretch(ways, place):
+    """The places around one that are come through one after the other, without a jump in or out."""
+    places = [place]
+    for edges, back in (ways.after, ways.before), (ways.before, ways.after):
+        here = place
+        while len(edges[here]) == 1 and len(back[next(iter(edges[here]))]) == 1:
+            (here,) = edges[here]
+            places.append(here)
+    return places
+
+
 # ---- The rule.
 
 
@@ -251,6 +269,20 @@ class Check:
         self.faults += [f"{name}, {place:x}: {ways.at[place].text}: a branch" for place in branches]
         self.faults += [f"{name}: {max(divisions)} divisions between two draws"] if max(divisions) > 1 else []
 
+    def hold_gates(self, name):
+        """Holds the one step by the gate formulas in a function."""
+        ways = Ways(self.body(name))
+        added = [place for place in sorted(ways.reached) if CONSTANT.match(ways.at[place].text)]
+        if len(added) != 1:
+            self.faults.append(f"{name}: adds TSC-1's constant at {len(added)} places")
+            return
+        inside = stretch(ways, added[0])
+        divisions = sum("div" in ways.at[place].kind for place in inside)
+        wrong = len(inside) < LEAST_STRETCH or divisions > (name == TRIED)
+        told = f"{len(inside)} instructions without a jump, divisions {divisions}, {'FAULTS' if wrong else 'held'}"
+        print(f"{name}, step of TSC-1: {told}", flush=True)
+        self.faults += [f"{name}, {added[0]:x}: step of TSC-1: {told}"] if wrong else []
+
     def hold_loops(self, name, least):
         ways = Ways(self.body(name))
         loops = [loop for loop in loops_in(ways, ways.reached) if len(loop) >= least]
@@ -270,6 +302,8 @@ def main(archive):
         for name, least in LOOPED.items():
             check.hold_loops(name, least)
         check.hold_tries(TRIED)
+        for name in GATED:
+            check.hold_gates(name)
     except (Unexpected, OSError, subprocess.CalledProcessError) as error:
         sys.exit(f"jumps: {error}")
     if check.faults:

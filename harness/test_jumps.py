@@ -11,16 +11,19 @@ import jumps
 
 # of a loop that is long enough to be held
 LONG = "nop\n" * max(jumps.LOOPED.values())
+# TSC-1's step
+HALF = "nop\n" * (jumps.LEAST_STRETCH // 2)
+GATES = f"{HALF}add $0x12488421,%eax\n{HALF}"
 LOOP = f"mov $4,%ecx\n1: {LONG}dec %ecx\njne 1b\nret"
 # words tried: a division, and an end in the middle
 DRAWN = f'call "{jumps.DRAW}"\n'
-TRIES = f"1: {DRAWN}test %eax,%eax\nje 2f\ndiv %ecx\ndec %ecx\njne 1b\n2: ret"
+TRIES = f"{GATES}1: {DRAWN}test %eax,%eax\nje 2f\ndiv %ecx\ndec %ecx\njne 1b\n2: ret"
 # the same one behind the other
-TWO_TRIES = f"{DRAWN}div %ecx\ntest %eax,%eax\nje 2f\n{DRAWN}div %ecx\n2: ret"
+TWO_TRIES = f"{GATES}{DRAWN}div %ecx\ntest %eax,%eax\nje 2f\n{DRAWN}div %ecx\n2: ret"
 GOOD = {
     jumps.STEP: "xor %eax,%eax\nret",
-    **{name: f'call "{callee}"\nret' for name, callee in jumps.CALLERS.items()},
-    **{name: LOOP for name in jumps.LOOPED},
+    **{name: f'{GATES}call "{callee}"\nret' for name, callee in jumps.CALLERS.items()},
+    **{name: GATES + LOOP for name in jumps.LOOPED},
     jumps.TRIED: TRIES,
 }
 BRANCH = "test %eax,%eax\nje 2f\ninc %eax\n2: "
@@ -97,7 +100,15 @@ class Jumps(unittest.TestCase):
     def test_a_pick_that_divides_more_than_once(self):
         self.assertIn("2 divisions", found(pick__call__pick=f"1: {DRAWN}div %ecx\ndiv %ecx\ndec %ecx\njne 1b\nret"))
 
+    def test_a_step_of_tsc1_that_branches_or_divides(self):
+        for name, callee in ("tiedraw_step", jumps.STEP), ("tiedraw_draw", jumps.DRAW):
+            rest = f'call "{callee}"\nret'
+            self.assertIn("step of TSC-1: 3", found(**{name: GATES.replace("add", f"{BRANCH}add") + rest}))
+            self.assertIn("divisions 1", found(**{name: GATES.replace("add", "div %ecx\nadd") + rest}))
+
     def test_what_is_not_there(self):
+        self.assertIn("constant at 0 places", found(tiedraw_draw=f"{DRAWN}ret"))
+        self.assertIn("constant at 2 places", found(tiedraw_draw=f"{GATES}{GATES}{DRAWN}ret"))
         self.assertIn("not in the archive", found(pick__call__pick=None))
         self.assertIn("does not call", found(pick__call__pick=LOOP))
         self.assertIn("no loop", found(tiedraw_step_back="ret"))
