@@ -11,7 +11,7 @@ use tsc::State;
 use tsc::TSC1_CONSTANT;
 
 // The selector of the first four words, document 002 (13).
-pub fn selector_of(s: State) -> u32
+fn selector_of(s: State) -> u32
     ensures { λ r. ⌜ r ≡ selector tsc1Card (used tsc1Card s) ⌝ }
 {
     let x0 = s.words[0];
@@ -24,7 +24,7 @@ pub fn selector_of(s: State) -> u32
 }
 
 // Every column of the first four words once through the table where z has a 1, and twice where it has a 0.
-pub fn replace_columns(s: State, z: u32) -> State
+fn replace_columns(s: State, z: u32) -> State
     ensures { λ r. ⌜ r ≡ holding (gated (take 4 (s .words)) z) ⌝ }
 {
     let t0 = s.words[0];

@@ -68,10 +68,10 @@ made-alone {xs} {given} {l} f one es =
     made f (sym (h .0)) (sym (taken-none given xs (l .ties) one)) (sym (h .1)) es
 
 -- a rank drawn by value: the state held the words xs, and as many are stored
-pub lot-made : (card : Card) (xs : List ℕ) (k : ℕ) → IsState card xs → {lent : State} {d : Sample} {ys : List ℕ} → lent ≡ holding xs
+pub rank-made : (card : Card) (xs : List ℕ) (k : ℕ) → IsState card xs → {lent : State} {d : Sample} {ys : List ℕ} → lent ≡ holding xs
     → d ≡ sample card (used card lent) k → ys ≡ take (length xs) (d .state .words)
     → (d .rank ≡ drawnRank card xs k) × ((d .taken ≡ taken card xs k) × (ys ≡ drawnState card xs k))
-lot-made card xs k sx el ed ey =
+rank-made card xs k sx el ed ey =
     let e : _ ≡ sample card xs k = ed ∙ ap (λ (s : State). sample card (used card s) k) el ∙ ap (λ (ws : List ℕ). sample card ws k) (held card xs sx) in (
       ap (λ (d : Sample). d .rank) e,
       (

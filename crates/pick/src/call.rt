@@ -2,7 +2,7 @@
 ghost use mathlib.Core.Path.{_≡_};
 ghost use Rattle.picks.specs.Picks.{picking, picked};
 use super::listing;
-use super::lot;
+use super::ranks;
 use card::check;
 use gates::tsc1;
 use generator::call;
@@ -33,7 +33,7 @@ pub fn pick(card: &[u8], state: &mut [u32], shovels: &[u16], times: &[u32]) -> P
         let nearest = rank::chosen_by(shovels, times, found.least, 0);
         return Pick::Shovel(nearest, found.ties as u8, 0);
     }
-    let drawn = lot::draw_lot(accepted.card, is_tsc1, state, found.ties as u32);
+    let drawn = ranks::draw_rank(accepted.card, is_tsc1, state, found.ties as u32);
     let number = rank::chosen_by(shovels, times, found.least, drawn.rank as usize);
     Pick::Shovel(number, found.ties as u8, drawn.taken)
 }

@@ -80,11 +80,11 @@ same-length-3 c = omega arith
 returns-3 : tie.Need-returns-3
 returns-3 c = let t = c .before .before in made-alone (going (t .before .before)) (t .if3 .taken) (c .before .chosen-by .ensures)
 
-cast-draw-lot : tie.Need-cast-draw-lot
-cast-draw-lot c = omega (arith, going (c .before .before .before .before) .few)
+cast-draw-rank : tie.Need-cast-draw-rank
+cast-draw-rank c = omega (arith, going (c .before .before .before .before) .few)
 
-draw-lot-requires : tie.Need-draw-lot-requires
-draw-lot-requires c κs =
+draw-rank-requires : tie.Need-draw-rank-requires
+draw-rank-requires c κs =
     let e = c .before .before .before .before in
     let f = going e in
     let o = e .before .before .before .before .before in
@@ -105,7 +105,7 @@ same-length-4 c = search needs
 returns-4 : tie.Need-returns-4
 returns-4 c =
     let d = c .before .before .before .before .before in
-    let e = d .draw-lot .ensures in
+    let e = d .draw-rank .ensures in
     made (going (d .before .before .before .before .before)) (e .0) (e .1 .0) (e .1 .1) (c .before .chosen-by2 .ensures)
 
 pub pick-spec : {M : Type 1} → statement M
@@ -125,8 +125,8 @@ pick-spec =
     cast-t16
     same-length-3
     returns-3
-    cast-draw-lot
-    draw-lot-requires
+    cast-draw-rank
+    draw-rank-requires
     cast-chosen-by
     chosen-by-requires-2
     cast-t20

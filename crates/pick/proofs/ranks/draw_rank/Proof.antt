@@ -8,16 +8,16 @@ use Rattle.tsc.specs.Constants.{mostWords}
 use Rattle.tsc.specs.Coverage.{IsState}
 use Rattle.stepping.specs.State.{Holds}
 use Rattle.stepping.proofs.Holding.{holds}
-use Rattle.pick.proofs.Passed.{lot-made}
-use Rattle.pick.proofs.lot.draw_lot.Statement.{statement}
-use Rattle.pick.proofs.lot.draw_lot.Tie as tie
+use Rattle.pick.proofs.Passed.{rank-made}
+use Rattle.pick.proofs.ranks.draw_rank.Statement.{statement}
+use Rattle.pick.proofs.ranks.draw_rank.Tie as tie
 
 -- the words lent are no more than a state has
 few : (s : tie.Start) → length (s .args .state .now) ≤ mostWords
 few s = omega (arith, s .pre .2 .0, s .pre .0 .few)
 
-tsc1-lot-requires : tie.Need-tsc1-lot-requires
-tsc1-lot-requires c κs =
+tsc1-rank-requires : tie.Need-tsc1-rank-requires
+tsc1-rank-requires c κs =
     let s = c .before .before .before in
     let p = s .pre in
     (subst (λ (d : Card). IsState d (s .args .state .now)) (p .1 (c .before .if1 .taken)) (p .2), p .3, p .4)
@@ -26,7 +26,7 @@ same-length : tie.Need-same-length
 same-length c = search needs
 
 returns : tie.Need-returns
-returns c = let t = c .before .before in rw (t .before .before .before .before .pre .1 (t .before .before .if1 .taken)) (t .tsc1-lot .ensures)
+returns c = let t = c .before .before in rw (t .before .before .before .before .pre .1 (t .before .before .if1 .taken)) (t .tsc1-rank .ensures)
 
 load-requires : tie.Need-load-requires
 load-requires c κs = few (c .before .before .before)
@@ -48,13 +48,13 @@ returns-2 c =
     let d = c .before .before .before .before in
     let l = d .before in
     let s = l .before .before .before .before in
-    lot-made (s .args .card) (s .args .state .now) _ (s .pre .2) (l .load .ensures) (d .draw-rank .ensures) (c .before .before .store .ensures)
+    rank-made (s .args .card) (s .args .state .now) _ (s .pre .2) (l .load .ensures) (d .draw-rank .ensures) (c .before .before .store .ensures)
 
-pub draw-lot-spec : {M : Type 1} → statement M
-draw-lot-spec =
+pub draw-rank-spec : {M : Type 1} → statement M
+draw-rank-spec =
     tie.close
     (tie.spec
-    tsc1-lot-requires
+    tsc1-rank-requires
     same-length
     returns
     load-requires

@@ -4,9 +4,9 @@ use borrow.Author.Needs.{needs}
 use Rattle.gates.specs.Tsc1.{tsc1Card}
 use Rattle.stepping.specs.State.{Holds}
 use Rattle.stepping.proofs.Holding.{holds}
-use Rattle.pick.proofs.Passed.{lot-made}
-use Rattle.pick.proofs.lot.tsc1_lot.Statement.{statement}
-use Rattle.pick.proofs.lot.tsc1_lot.Tie as tie
+use Rattle.pick.proofs.Passed.{rank-made}
+use Rattle.pick.proofs.ranks.tsc1_rank.Statement.{statement}
+use Rattle.pick.proofs.ranks.tsc1_rank.Tie as tie
 
 load-requires : tie.Need-load-requires
 load-requires c κs = omega (arith, c .before .before .pre .0 .0)
@@ -28,8 +28,8 @@ returns c =
     let d = c .before .before .before .before in
     let l = d .before in
     let s = l .before .before .before in
-    lot-made tsc1Card (s .args .state .now) _ (s .pre .0) (l .load .ensures) (d .draw-rank .ensures) (c .before .before .store .ensures)
+    rank-made tsc1Card (s .args .state .now) _ (s .pre .0) (l .load .ensures) (d .draw-rank .ensures) (c .before .before .store .ensures)
 
-pub tsc1-lot-spec : {M : Type 1} → statement M
-tsc1-lot-spec =
+pub tsc1-rank-spec : {M : Type 1} → statement M
+tsc1-rank-spec =
     tie.close (tie.spec load-requires draw-rank-requires store-requires same-length returns)

@@ -12,13 +12,13 @@ use state_words::lent;
 use tsc::Card;
 
 // The rank, and how many words were taken.
-pub struct Lot {
+pub struct Drawn {
     pub rank: u32,
     pub taken: u8,
 }
 
 // By TSC-1, by its gate formulas.
-fn tsc1_lot(state: &mut [u32], k: u32) -> Lot
+fn tsc1_rank(state: &mut [u32], k: u32) -> Drawn
     requires { ⌜ IsState tsc1Card (now state) × (0 < k) × (k ≢ 1) ⌝ }
     ensures rank { λ r. ⌜ r .rank ≡ drawnRank tsc1Card (now (state .entry)) k ⌝ }
     ensures taken { λ r. ⌜ r .taken ≡ taken tsc1Card (now (state .entry)) k ⌝ }
@@ -26,26 +26,26 @@ fn tsc1_lot(state: &mut [u32], k: u32) -> Lot
 {
     let made = tsc1::draw_rank(lent::load(state), k);
     lent::store(made.state, state);
-    Lot {
+    Drawn {
         rank: made.rank,
         taken: made.taken,
     }
 }
 
 // By a card: TSC-1's by its gate formulas, where the pick has found it. Each way loads the state for itself, so that neither has to serve the other.
-pub fn draw_lot(card: Card, is_tsc1: bool, state: &mut [u32], k: u32) -> Lot
+pub fn draw_rank(card: Card, is_tsc1: bool, state: &mut [u32], k: u32) -> Drawn
     requires { ⌜ Accepted card × OnlyTsc1 «is_tsc1» card × IsState card (now state) × (0 < k) × (k ≢ 1) ⌝ }
     ensures rank { λ r. ⌜ r .rank ≡ drawnRank card (now (state .entry)) k ⌝ }
     ensures taken { λ r. ⌜ r .taken ≡ taken card (now (state .entry)) k ⌝ }
     ensures after { λ r. ⌜ now (state .exit) ≡ drawnState card (now (state .entry)) k ⌝ }
 {
     if is_tsc1 {
-        return tsc1_lot(state, k);
+        return tsc1_rank(state, k);
     }
     let held = lent::load(state);
     let drawn = draw::draw_rank(card, held, k);
     lent::store(drawn.state, state);
-    Lot {
+    Drawn {
         rank: drawn.rank,
         taken: drawn.taken,
     }
