@@ -33,11 +33,11 @@ CALLERS = {
 }
 # The loops held are those of so many instructions or more: the smaller ones of a step back check card and state.
 LOOPED = {ROW: 0, "tiedraw_step_back": 60}
-# The functions that step by the gate formulas, where they add TSC-1's constant; selector and formulas are more than so many
-# instructions.
+# The functions that step by the gate formulas, where they add TSC-1's constant. Selector and formulas, put in line, were 76
+# instructions and more.
 GATED = ["tiedraw_step", "tiedraw_draw", ROW, TRIED]
 CONSTANT = re.compile(r"(add|lea)l? .*\b0x12488421\b")
-LEAST_STRETCH = 60
+LEAST_STRETCH = 72
 OUTSIDE = ["memcpy", "memset"]
 # The branches let pass, one in each function: it asks the card, never the state, whether it has more than four words, and
 # which of two filters.
@@ -278,8 +278,9 @@ class Check:
             return
         inside = stretch(ways, added[0])
         divisions = sum("div" in ways.at[place].kind for place in inside)
-        wrong = len(inside) < LEAST_STRETCH or divisions > (name == TRIED)
-        told = f"{len(inside)} instructions without a jump, divisions {divisions}, {'FAULTS' if wrong else 'held'}"
+        calls = sum(ways.at[place].calls() for place in inside)
+        wrong = len(inside) < LEAST_STRETCH or divisions > (name == TRIED) or calls
+        told = f"{len(inside)} instructions without a jump, divisions {divisions}, calls {calls}, {'FAULTS' if wrong else 'held'}"
         print(f"{name}, step of TSC-1: {told}", flush=True)
         self.faults += [f"{name}, {added[0]:x}: step of TSC-1: {told}"] if wrong else []
 

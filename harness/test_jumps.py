@@ -11,9 +11,10 @@ import jumps
 
 # of a loop that is long enough to be held
 LONG = "nop\n" * max(jumps.LOOPED.values())
-# TSC-1's step
+# TSC-1's step, and the way to it from a function's start
 HALF = "nop\n" * (jumps.LEAST_STRETCH // 2)
-GATES = f"{HALF}add $0x12488421,%eax\n{HALF}"
+STRETCH = f"{HALF}add $0x12488421,%eax\n{HALF}"
+GATES = f"je 9f\n{STRETCH}ret\n9: "
 LOOP = f"mov $4,%ecx\n1: {LONG}dec %ecx\njne 1b\nret"
 # words tried: a division, and an end in the middle
 DRAWN = f'call "{jumps.DRAW}"\n'
@@ -22,7 +23,7 @@ TRIES = f"{GATES}1: {DRAWN}test %eax,%eax\nje 2f\ndiv %ecx\ndec %ecx\njne 1b\n2:
 TWO_TRIES = f"{GATES}{DRAWN}div %ecx\ntest %eax,%eax\nje 2f\n{DRAWN}div %ecx\n2: ret"
 GOOD = {
     jumps.STEP: "xor %eax,%eax\nret",
-    **{name: f'{GATES}call "{callee}"\nret' for name, callee in jumps.CALLERS.items()},
+    **{name: GATES * (name in jumps.GATED) + f'call "{callee}"\nret' for name, callee in jumps.CALLERS.items()},
     **{name: GATES + LOOP for name in jumps.LOOPED},
     jumps.TRIED: TRIES,
 }
@@ -105,6 +106,7 @@ class Jumps(unittest.TestCase):
             rest = f'call "{callee}"\nret'
             self.assertIn("step of TSC-1: 3", found(**{name: GATES.replace("add", f"{BRANCH}add") + rest}))
             self.assertIn("divisions 1", found(**{name: GATES.replace("add", "div %ecx\nadd") + rest}))
+            self.assertIn("calls 1", found(**{name: GATES.replace("add", 'call "other"\nadd') + rest}))
 
     def test_what_is_not_there(self):
         self.assertIn("constant at 0 places", found(tiedraw_draw=f"{DRAWN}ret"))

@@ -5,7 +5,7 @@ use mathlib.Core.List.{List, [], _∷_}
 use Prim.Native.Nat.{ℕ, zero, suc, _+_, _-_, _*_, _%_, _^_, _<_, max}
 use native.Mathlib.Omega.{arith}
 use borrow.Author.Tests.{eqb-true}
-use lib.Bits.{bitAnd, bitOr, bitXor, and-lt, or-lt, xor-lt}
+use lib.Bits.{and-lt, or-lt, xor-lt}
 use lib.Dec.{eqb}
 use lib.ListN.{getD}
 use lib.Pow.{pow-pos}

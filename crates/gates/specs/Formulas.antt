@@ -54,6 +54,6 @@ equation17 =
 abbrev pub line : List Formula → ℕ → Formula
 line equation k = getD equation k (t 0)
 
--- document 002 (12), of u, v and the selector's bit: u where that is 1, v where it is 0
+-- document 002 (12), with t0 for u, t1 for v and t2 for the selector's bit: u where that is 1, v where it is 0
 abbrev pub choice : Formula
 choice = (t 2 & t 0) ∣ (bar (t 2) & t 1)

@@ -11,7 +11,7 @@ use Rattle.tsc.specs.Step.{entry}
 use Rattle.card_format.specs.Reading.{padded}
 use Rattle.gates.specs.Formulas.{Formula, onBits, onWords, equation16, equation17, line, choice}
 
--- document 01, At the edges: P1, whose one byte is 00
+-- document 002 (13 to 15), and what document 01, The card, has for absent fields: P1, whose one byte is 00
 abbrev pub tsc1Card : Card
 tsc1Card =
     record {

@@ -27,7 +27,7 @@ pub struct Chosen {
 }
 
 // What all picks from a state have in common: the words, drawn once, and the place of the shovel chosen among k ties without a change. The margin has seen that
-// nothing is refused.
+// nothing is refused, and whether the card is TSC-1's.
 pub fn known_of(
     card: Card,
     is_tsc1: bool,

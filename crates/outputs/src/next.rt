@@ -1,4 +1,4 @@
-// A step of a state by value, with its word. Draw and pick call it once nothing is refused.
+// A step of a state by value, with its word. Draw, pick and rows of more than four words call it once nothing is refused, for other cards than TSC-1's.
 ghost use mathlib.Core.Path.{_≡_};
 ghost use Rattle.tsc.specs.declared.Card.{Card};
 ghost use Rattle.filters.specs.Rotations.{rotationsOf};

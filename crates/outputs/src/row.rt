@@ -27,7 +27,6 @@ use selectors::selector;
 use selectors::selector::Terms;
 use tsc::Card;
 use tsc::State;
-use tsc::TABLE_SIZE;
 
 // The next state of the orbit with its word, as `next_output` gives it, for the many words of a row of a card of few words: by the leaves of the powers.
 fn next_in_row(terms: Terms, leaves: [u32; LEAVES], rotations: Rotations, s: State) -> Output
@@ -94,7 +93,7 @@ fn fill_many(card: Card, s: State, count: usize, words: &mut [u32]) -> State
 }
 
 // The words of the next states of the orbit, so many of them, over the first words lent, and the last of these states; by the gate formulas where the caller
-// has found TSC-1's card. What the steps need of another card is worked out once. The fill calls it once nothing is refused, and so there is room.
+// has found TSC-1's card. What the steps need of another card is worked out once. Fill and margin call it once nothing is refused, and so there is room.
 pub fn fill_words(card: Card, is_tsc1: bool, s: State, count: usize, words: &mut [u32]) -> State
     requires { ⌜ Accepted card × Holds card s × (count ≤ length (now words)) × OnlyTsc1 «is_tsc1» card ⌝ }
     ensures { λ r. ⌜ r ≡ holding (orbit card (used card s) count) ⌝ }

@@ -24,7 +24,8 @@ fn tsc1_rank(state: &mut [u32], k: u32) -> Drawn
     ensures taken { λ r. ⌜ r .taken ≡ taken tsc1Card (now (state .entry)) k ⌝ }
     ensures after { λ r. ⌜ now (state .exit) ≡ drawnState tsc1Card (now (state .entry)) k ⌝ }
 {
-    let made = tsc1::draw_rank(lent::load(state), k);
+    let held = lent::load(state);
+    let made = tsc1::draw_rank(held, k);
     lent::store(made.state, state);
     Drawn {
         rank: made.rank,

@@ -48,7 +48,7 @@ pub fn decides(n: u32, word: u32, k: u32, taken: u8) -> bool
     below_limit(n, word, k)
 }
 
-// The rank among several ties: by the first word below L, or by the last that may be taken. For one alone, which is 0, the pick draws nothing.
+// The rank among several ties: by the first word below L, or by the last that may be taken. One alone has rank 0, and the pick draws nothing for it.
 pub fn draw_rank(card: Card, s: State, k: u32) -> Sample
     requires { ⌜ Accepted card × Holds card s × (0 < k) × (k ≢ 1) ⌝ }
     ensures { λ r. ⌜ r ≡ sample card (used card s) k ⌝ }

@@ -1,4 +1,4 @@
-// A rank drawn by TSC-1, by its gate formulas (document 02, Nine).
+// A rank drawn by TSC-1 from a state by value, by its gate formulas (document 02, Nine). The pick calls this once nothing is refused and there are several ties.
 ghost use mathlib.Core.Path.{_≡_};
 ghost use mathlib.Core.Logic.{_≢_};
 ghost use Prim.Native.Nat.{_<_};

@@ -507,7 +507,7 @@ fn main() {
         println!("{best:>9.1} ns  {} ({} times)", subject.name, subject.calls);
     }
     print_rows(&bench.rows, &best);
-    ten_million::report();
+    let many = ten_million::report();
     let held: Vec<bool> = bench
         .ratios
         .iter()
@@ -515,5 +515,7 @@ fn main() {
         .collect();
     let quick = quick_margins(&bench, &best);
     let steady = steady_calls();
-    exit(i32::from(held.contains(&false) || !quick || !steady));
+    exit(i32::from(
+        held.contains(&false) || !many || !quick || !steady,
+    ));
 }
