@@ -70,12 +70,7 @@ made-alone {xs} {given} {l} f one es =
 -- a rank drawn by value: the state held the words xs, and as many are stored
 pub rank-made : (card : Card) (xs : List ℕ) (k : ℕ) → IsState card xs → {lent : State} {d : Sample} {ys : List ℕ} → lent ≡ holding xs
     → d ≡ sample card (used card lent) k → ys ≡ take (length xs) (d .state .words)
-    → (d .rank ≡ drawnRank card xs k) × ((d .taken ≡ taken card xs k) × (ys ≡ drawnState card xs k))
+    → (d ≡ sample card xs k) × (ys ≡ drawnState card xs k)
 rank-made card xs k sx el ed ey =
-    let e : _ ≡ sample card xs k = ed ∙ ap (λ (s : State). sample card (used card s) k) el ∙ ap (λ (ws : List ℕ). sample card ws k) (held card xs sx) in (
-      ap (λ (d : Sample). d .rank) e,
-      (
-        ap (λ (d : Sample). d .taken) e,
-        ey ∙ stored card (length xs) (drawnState card xs k) _ (sx .0) (orbit-in-range card xs sx _) (ap (λ (d : Sample). d .state) e),
-      ),
-    )
+    let e : _ ≡ sample card xs k = ed ∙ ap (λ (s : State). sample card (used card s) k) el ∙ ap (λ (ws : List ℕ). sample card ws k) (held card xs sx) in
+    (e, ey ∙ stored card (length xs) (drawnState card xs k) _ (sx .0) (orbit-in-range card xs sx _) (ap (λ (d : Sample). d .state) e))

@@ -1,4 +1,4 @@
-use mathlib.Core.Path.{_≡_, refl, sym, _∙_, subst}
+use mathlib.Core.Path.{_≡_, refl, sym, ap, _∙_, subst}
 use native.Mathlib.Omega.{arith}
 use borrow.Author.Needs.{needs}
 use Rattle.tsc.specs.declared.Card.{Card}
@@ -6,6 +6,7 @@ use Rattle.tsc.specs.Coverage.{IsState}
 use Rattle.draws.specs.Calls.{refusalFor}
 use Rattle.draws.proofs.Opening.{Clear, told, clear}
 use Rattle.draws.proofs.Called.{accepted, in-range}
+use Rattle.sample.specs.declared.draw.Sample.{Sample}
 use Rattle.picks.specs.Picks.{pickRefusal}
 use Rattle.picks.proofs.Picking.{told-call, told-later, picking-refused}
 use Rattle.gates.proofs.GateStep.{only-p1}
@@ -106,7 +107,7 @@ returns-4 : tie.Need-returns-4
 returns-4 c =
     let d = c .before .before .before .before .before in
     let e = d .draw-rank .ensures in
-    made (going (d .before .before .before .before .before)) (e .0) (e .1 .0) (e .1 .1) (c .before .chosen-by2 .ensures)
+    made (going (d .before .before .before .before .before)) (ap (λ (d : Sample). d .rank) (e .0)) (ap (λ (d : Sample). d .taken) (e .0)) (e .1) (c .before .chosen-by2 .ensures)
 
 pub pick-spec : {M : Type 1} → statement M
 pick-spec =
