@@ -12,8 +12,8 @@
  *
  * Given that, whatever bytes and numbers are handed over, a call returns with an answer, or with the refusal number
  * of the first check that applies. A card's fields are checked in turn, each by 1, 2, 3, and 4 at the table's place;
- * then come 5 to 24 in order, but that a recorded pick tells 16 after 18. A refusal changes nothing: state, strip and
- * page are as they were lent, and the other fields of the answer are 0.
+ * then come 5 to 25 in order, but that a recorded pick tells 16 after 18, and a pick by the map 25 before 18. A refusal
+ * changes nothing: state, strip and page are as they were lent, and the other fields of the answer are 0.
  *
  * Calls keep nothing, allocate nothing and use no global data, so that any number of threads may call at once, each
  * on a state of its own. The library needs memcpy and memset of the C library, and nothing else. It is compiled for
@@ -33,11 +33,11 @@ extern "C" {
    tiedraw_version() / 1000 is TIEDRAW_VERSION_NUMBER / 1000; the shared library's name ends in those two numbers. */
 #define TIEDRAW_VERSION_MAJOR 0
 #define TIEDRAW_VERSION_MINOR 4
-#define TIEDRAW_VERSION_PATCH 3
+#define TIEDRAW_VERSION_PATCH 4
 #define TIEDRAW_VERSION_NUMBER (TIEDRAW_VERSION_MAJOR * 1000000 + TIEDRAW_VERSION_MINOR * 1000 + TIEDRAW_VERSION_PATCH)
 
 /* The most words of a state, entries of a table, bytes of an accepted card, shovels of a pick, words taken for it,
-   bytes of a record, and words of a strip whose bits are counted. */
+   bytes of a record, and words of a strip whose bits are counted; the greatest coordinate and radius, in metres. */
 #define TIEDRAW_MOST_WORDS 8
 #define TIEDRAW_TABLE_SIZE (1 << TIEDRAW_MOST_WORDS)
 #define TIEDRAW_MOST_CARD_BYTES 267
@@ -45,6 +45,8 @@ extern "C" {
 #define TIEDRAW_MOST_TAKEN 16
 #define TIEDRAW_MOST_RECORD_BYTES (8 + 4 * TIEDRAW_MOST_WORDS)
 #define TIEDRAW_MOST_STRIP_WORDS 16384
+#define TIEDRAW_MOST_COORDINATE 1000000
+#define TIEDRAW_MOST_RADIUS 3000000
 
 /*
  * A card is a map byte and then the fields whose bit is 1, from bit 0 up. m, n and C are the first, second and sixth.
@@ -85,19 +87,20 @@ enum tiedraw_refusal {
     TIEDRAW_POWER_PARITY = 9,         /* powers: the odd power is even, or the even power is odd */
     TIEDRAW_WORD_COUNT = 10,          /* word count: the state has not m words */
     TIEDRAW_WORD_TOO_WIDE = 11,       /* high bits: a state word is 2^n or more */
-    TIEDRAW_LENGTH_MISMATCH = 12,     /* uneven: shovels and times differ in count */
+    TIEDRAW_LENGTH_MISMATCH = 12,     /* uneven: shovels and times, or shovels and their places, differ in count */
     TIEDRAW_NO_SHOVEL = 13,           /* no shovel: the list is empty */
     TIEDRAW_TOO_MANY_SHOVELS = 14,    /* crowd: more than 64 shovels */
     TIEDRAW_DUPLICATE_SHOVEL = 15,    /* twice: a shovel number stands twice */
     TIEDRAW_BUFFER_TOO_SMALL = 16,    /* small page: the page has fewer bytes than the card or the record needs */
     TIEDRAW_SPAN_OUT_OF_BOUNDS = 17,  /* span: the place is past the strip's end, or the count does not fit behind it */
-    TIEDRAW_TOO_MANY_TIES = 18,       /* too many equals: more shovels have the least time than there are words, 2^n */
+    TIEDRAW_TOO_MANY_TIES = 18,       /* too many equals: more shovels are nearest than there are words, 2^n */
     TIEDRAW_NO_SUCH_CHANGE = 19,      /* firm: no change of one shovel's time sends the truck elsewhere */
     TIEDRAW_MALFORMED_RECORD = 20,    /* torn: a record's map, state count or length is not of the form above */
     TIEDRAW_TRUCK_MISMATCH = 21,      /* other truck: a cab asks for a record of another truck */
     TIEDRAW_STRIP_TOO_LONG = 22,      /* strip too long: more than 16,384 words */
     TIEDRAW_STRIP_WORD_TOO_WIDE = 23, /* strip bits: a strip word is 2^n or more */
-    TIEDRAW_BIT_PAGE_TOO_SMALL = 24   /* bit page: the page has fewer than n bytes for each strip word */
+    TIEDRAW_BIT_PAGE_TOO_SMALL = 24,  /* bit page: the page has fewer than n bytes for each strip word */
+    TIEDRAW_OFF_MAP = 25              /* off map: a coordinate outside -1000000 to 1000000, or a radius outside 0 to 3000000 */
 };
 
 /* The eight values of a card. Table entries past 2^words are 0. */
@@ -128,6 +131,7 @@ typedef struct tiedraw_record {
 typedef struct { tiedraw_record record; uint8_t refusal; } tiedraw_record_reading;
 typedef struct { uint16_t shovel; uint8_t refusal; } tiedraw_order_answer;
 typedef struct { int32_t balance; uint32_t forward, backward, runs; uint8_t refusal; } tiedraw_bit_counts;
+typedef struct { uint16_t shovels[TIEDRAW_MOST_SHOVELS]; uint8_t count, refusal; } tiedraw_within_answer;
 
 /* The version of the library, as TIEDRAW_VERSION_NUMBER is of the header. */
 uint32_t tiedraw_version(void);
@@ -190,6 +194,21 @@ tiedraw_order_answer tiedraw_order(uint16_t truck, const uint8_t *record, size_t
 tiedraw_margin_answer tiedraw_margin(const uint8_t *card, size_t card_len, const uint32_t *state, size_t words,
                                      const uint16_t *shovels, size_t shovel_count, const uint32_t *times,
                                      size_t time_count);
+
+/* A pick by the map, for when times are missing. Truck and shovels have places on a grid in whole metres, each
+   coordinate from -1000000 to 1000000: the truck's place is (x, y), and shovel i's is (xs[i], ys[i]). The nearest has
+   the least squared distance, and equally near ones are drawn as by tiedraw_pick. Or refusal 1 to 15, 12 being told
+   unless shovels, xs and ys have one count; then 25; then 18. */
+tiedraw_choice tiedraw_pick_by_map(const uint8_t *card, size_t card_len, uint32_t *state, size_t words, int32_t x,
+                                   int32_t y, const uint16_t *shovels, size_t shovel_count, const int32_t *xs,
+                                   size_t x_count, const int32_t *ys, size_t y_count);
+
+/* The shovels within a radius of 0 to 3000000 metres around (x, y), its edge counted, by distance and then by number:
+   `count` of them, and zeros past them. No card is needed. Proved: exactly those shovels are listed whose squared
+   distance is at most the radius squared, each once; the order of the list handed over makes no difference. Or refusal
+   12 to 15, as of tiedraw_pick_by_map, or 25. */
+tiedraw_within_answer tiedraw_within(int32_t x, int32_t y, int32_t radius, const uint16_t *shovels, size_t shovel_count,
+                                     const int32_t *xs, size_t x_count, const int32_t *ys, size_t y_count);
 
 /* The words of a strip as bits, and what the tests of NIST SP 800-22 count in them. From the front of the page on each
    word is written as n bytes, ASCII '0' and '1', its top bit (n - 1) first, as the published suite reads them; bytes

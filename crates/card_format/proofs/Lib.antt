@@ -1,5 +1,4 @@
 -- What is proved of cards.
-pub mod Lists
 pub mod Fields
 pub mod Sound
 pub mod Verdict

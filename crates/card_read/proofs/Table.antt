@@ -17,7 +17,7 @@ use Rattle.card_values.specs.declared.values.Values.{Values}
 use Rattle.card_format.specs.Fields.{field, fields, fieldCount, tableBit}
 use Rattle.card_format.specs.Reading.{present, values, padded}
 use Rattle.card_format.proofs.Fields.{by-table, few-entries, numbers-table}
-use Rattle.card_format.proofs.Lists.{over, over-zeros, length-over}
+use Rattle.cycle.proofs.Lists.{over, over-zeros, length-over}
 use Rattle.card_values.specs.FieldRead.{fieldRead, tableRead, missing}
 use Rattle.card_read.proofs.FieldRead.{part-long}
 use Rattle.card_read.proofs.Map.{next-field}

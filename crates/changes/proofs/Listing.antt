@@ -12,9 +12,10 @@ use lib.ListN.{length, getD, length-set}
 use lib.Seq.{ext-getD, getD-set-same, getD-set-other}
 use Rattle.cycle.specs.Notation.{count}
 use Rattle.cycle.proofs.Every.{every-at}
-use Rattle.cycle.proofs.Count.{count-pos, count-some, count-two, two-counted}
+use Rattle.cycle.proofs.Count.{one-place, count-one}
 use Rattle.ties.specs.Ties.{occurs, twice}
 use Rattle.ties.specs.Order.{Permutes, reordered}
+use Rattle.ties.proofs.Rank.{numbers-apart}
 use Rattle.ties.proofs.Order.{count-permute, length-reordered, getD-reordered}
 use Rattle.changes.specs.declared.Change.{Change}
 use Rattle.changes.specs.Change.{changed, Counts, NoLater, LeastChange}
@@ -22,35 +23,13 @@ use Rattle.changes.proofs.Order.{no-later-both}
 
 -- ---- places that are told apart
 
-one-place : (n : ℕ) (p : ℕ → Bool) → count n p ≤ 1 → (i j : ℕ) → i < n → j < n → p i ≡ true → p j ≡ true → i ≡ j
-one-place n p h i j li lj s t = go (decLt i j) (decLt j i)
-  where
-    go : Dec (i < j) → Dec (j < i) → i ≡ j
-    go (yes l) d = absurd (omega (arith, two-counted n p j lj t (count-pos j p i l s)))
-    go (no l) (yes m) = absurd (omega (arith, two-counted n p i li s (count-pos i p j m t)))
-    go (no l) (no m) = omega arith
-
-count-at : (n y : ℕ) → count n (λ k. eqb k y) ≤ 1
-count-at n y = go (decLt 1 (count n (λ k. eqb k y)))
-  where
-    go : Dec (1 < count n (λ k. eqb k y)) → count n (λ k. eqb k y) ≤ 1
-    go (yes l) =
-        let p = count-two n (λ k. eqb k y) l in
-        let q = count-some (p .0) (λ k. eqb k y) (p .3) in
-        absurd (omega (arith, eqb-true (p .0) y (p .2), eqb-true (q .0) y (q .2), q .1))
-    go (no l) = omega arith
-
 permutes-injective : (n : ℕ) (f : ℕ → ℕ) → Permutes n f → (i j : ℕ) → i < n → j < n → f i ≡ f j → i ≡ j
 permutes-injective n f s i j li lj e =
-    one-place n (λ k. eqb (f k) (f j)) (omega (arith, count-permute n f (λ k. eqb (f k) (f j)) (λ k. eqb k (f j)) s (λ k l. refl), count-at n (f j)))
+    one-place n (λ k. eqb (f k) (f j)) (omega (arith, count-permute n f (λ k. eqb (f k) (f j)) (λ k. eqb k (f j)) s (λ k l. refl), at-one))
     i j li lj (eq-eqb (f i) (f j) e) (eq-eqb (f j) (f j) refl)
-
-pub numbers-apart : (shovels : List ℕ) → twice shovels ≡ false → (i j : ℕ) → i < length shovels → j < length shovels → getD shovels i 0 ≡ getD shovels j 0 → i ≡ j
-unfolding twice
-numbers-apart shovels d i j li lj e =
-    one-place (length shovels) (λ k. eqb (getD shovels k 0) (getD shovels j 0))
-    (leb-true (occurs shovels (getD shovels j 0)) 1 (every-at (length shovels) (λ i. leb (occurs shovels (getD shovels i 0)) 1) (not-false _ d) j lj))
-    i j li lj (eq-eqb (getD shovels i 0) (getD shovels j 0) e) (eq-eqb (getD shovels j 0) (getD shovels j 0) refl)
+  where
+    at-one : count n (λ k. eqb k (f j)) ≤ 1
+    at-one = count-one n (λ k. eqb k (f j)) (λ a b la lb s t. eqb-true a (f j) s ∙ sym (eqb-true b (f j) t))
 
 -- ---- one list
 

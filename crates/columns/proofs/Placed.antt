@@ -11,7 +11,7 @@ use lib.Seq.{length-take-le, take-all, ext-getD, getD-drop}
 use Rattle.cycle.specs.Notation.{bit}
 use Rattle.cycle.proofs.Bits.{bit-mod, bit-past}
 use Rattle.cycle.proofs.Digits.{length-tabulate, getD-tabulate, tabulate-ext, tabulate-getD}
-use Rattle.card_format.proofs.Lists.{over}
+use Rattle.cycle.proofs.Lists.{over}
 use Rattle.tsc.specs.Constants.{mostWords}
 use Rattle.tsc.specs.Columns.{column}
 use Rattle.tsc.proofs.Columns.{column-lt}

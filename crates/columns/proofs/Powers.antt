@@ -15,7 +15,7 @@ use lib.Seq.{getD-set-same, getD-set-other}
 use Rattle.cycle.specs.Notation.{iterate}
 use Rattle.cycle.proofs.Iterate.{iterate-add, iterate-below}
 use Rattle.cycle.proofs.Every.{extend}
-use Rattle.card_format.proofs.Lists.{getD-filler}
+use Rattle.cycle.proofs.Lists.{getD-filler}
 use Rattle.tsc.specs.declared.Card.{Card}
 use Rattle.tsc.specs.Constants.{mostWords}
 use Rattle.tsc.specs.Step.{entry}

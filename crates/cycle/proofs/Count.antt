@@ -3,7 +3,7 @@ use mathlib.Core.Path.{_≡_, refl, sym, ap, _∙_}
 use mathlib.Core.Bool.{Bool, true, false, _||_, true≢false}
 use Prim.Native.Nat.{ℕ, zero, suc, _+_, _≤_, _<_}
 use native.Mathlib.Nat.{le-refl}
-use native.Mathlib.Decide.{ℕ-discrete, le-ind}
+use native.Mathlib.Decide.{ℕ-discrete, decLt, le-ind}
 use native.Mathlib.Numerals.{add-one}
 use native.Mathlib.Omega.{arith}
 use Rattle.cycle.specs.Notation.{sum, one, count}
@@ -116,3 +116,22 @@ count-two (suc n) p h = go (p n) refl (λ l. count-two n p l)
 
 pub two-counted : (n : ℕ) (p : ℕ → Bool) (j : ℕ) → j < n → p j ≡ true → 0 < count j p → 1 < count n p
 two-counted n p j l h c = omega (arith, count-prefix (suc j) n p l, count-next j p, ap one h)
+
+-- one of them at most, exactly where any two are the same
+pub one-place : (n : ℕ) (p : ℕ → Bool) → count n p ≤ 1 → (i j : ℕ) → i < n → j < n → p i ≡ true → p j ≡ true → i ≡ j
+one-place n p h i j li lj s t = go (decLt i j) (decLt j i)
+  where
+    go : Dec (i < j) → Dec (j < i) → i ≡ j
+    go (yes l) d = absurd (omega (arith, two-counted n p j lj t (count-pos j p i l s)))
+    go (no l) (yes m) = absurd (omega (arith, two-counted n p i li s (count-pos i p j m t)))
+    go (no l) (no m) = omega arith
+
+pub count-one : (n : ℕ) (p : ℕ → Bool) → ((i j : ℕ) → i < n → j < n → p i ≡ true → p j ≡ true → i ≡ j) → count n p ≤ 1
+count-one n p h = go (decLt 1 (count n p))
+  where
+    go : Dec (1 < count n p) → count n p ≤ 1
+    go (yes l) =
+        let b = count-two n p l in
+        let a = count-some (b .0) p (b .3) in
+        absurd (omega (arith, a .1, h (a .0) (b .0) (omega (arith, a .1, b .1)) (b .1) (a .2) (b .2)))
+    go (no l) = omega arith

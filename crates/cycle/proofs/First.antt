@@ -1,5 +1,5 @@
 -- The first number that meets a test.
-use mathlib.Core.Path.{_≡_, refl, sym, ap, _∙_}
+use mathlib.Core.Path.{_≡_, refl, sym, ap, ap₂, _∙_}
 use mathlib.Core.Bool.{Bool, true, false, cond, true≢false}
 use Prim.Native.Nat.{ℕ, zero, suc, _≤_, _<_}
 use native.Mathlib.Decide.{decLt}
@@ -55,3 +55,10 @@ pub first-none : (n : ℕ) (p : ℕ → Bool) → ((i : ℕ) → i < n → p i �
 unfolding first
 first-none zero p h = refl
 first-none (suc n) p h = rw (h 0 (omega arith)) (ap suc (first-none n (λ i. p (suc i)) (λ i l. h (suc i) (omega arith))))
+
+-- tests that agree have the same first number
+pub first-ext : (n : ℕ) (p q : ℕ → Bool) → ((i : ℕ) → i < n → p i ≡ q i) → first n p ≡ first n q
+unfolding first
+first-ext zero p q h = refl
+first-ext (suc n) p q h =
+    ap₂ (λ (b : Bool) (t : ℕ). cond b zero (suc t)) (h 0 (omega arith)) (first-ext n (λ i. p (suc i)) (λ i. q (suc i)) (λ i l. h (suc i) (omega arith)))

@@ -5,6 +5,8 @@ pub mod Sum
 pub mod Count
 pub mod First
 pub mod Pigeonhole
+pub mod Ranking
+pub mod Lists
 pub mod Digits
 pub mod Bits
 pub mod Iterate

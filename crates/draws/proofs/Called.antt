@@ -17,7 +17,7 @@ use Rattle.tsc.proofs.StepBack.{step-back-in-range, back-of-step, step-of-back,
 use Rattle.tsc.proofs.Word.{word-lt}
 use Rattle.card_format.specs.Reading.{cardOf}
 use Rattle.card_format.specs.Verdict.{Accepted}
-use Rattle.card_format.proofs.Lists.{take-filled}
+use Rattle.cycle.proofs.Lists.{take-filled}
 use Rattle.card_format.proofs.Verdict.{accepted-card}
 use Rattle.draws.specs.declared.Draw.the-variants.{Word, Refused}
 use Rattle.stepping.specs.State.{used, Holds, holding}

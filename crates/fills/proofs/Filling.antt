@@ -13,7 +13,7 @@ use Rattle.tsc.proofs.Word.{length-orbitWords}
 use Rattle.refusals.specs.Refusals.{firstOf}
 use Rattle.refusals.proofs.Refusals.{first-left, first-right, first-both}
 use Rattle.card_format.specs.Reading.{cardOf}
-use Rattle.card_format.proofs.Lists.{put-part}
+use Rattle.cycle.proofs.Lists.{put-part}
 use Rattle.stepping.specs.State.{used, holding}
 use Rattle.tsc.specs.declared.Card.{Card}
 use Rattle.draws.specs.Calls.{callChecks, refusalFor}

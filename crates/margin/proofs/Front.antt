@@ -5,7 +5,7 @@ use Prim.Native.Nat.{ℕ, _<_}
 use native.Mathlib.Nat.{le-refl}
 use lib.ListN.{length, set, take, drop, length-set}
 use lib.Seq.{set-append-left, take-all, take-append-seam}
-use Rattle.card_format.proofs.Lists.{over}
+use Rattle.cycle.proofs.Lists.{over}
 
 pub front-set : (s d : List ℕ) (i v : ℕ) → i < length s → take (length s) (set (over s d (length s)) i v) ≡ set s i v
 front-set s d i v l =

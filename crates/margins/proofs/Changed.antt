@@ -15,12 +15,11 @@ use Rattle.refusals.proofs.Refusals.{first-right}
 use Rattle.card_format.specs.Reading.{cardOf}
 use Rattle.draws.specs.Calls.{refusalFor}
 use Rattle.ties.specs.Ties.{isTie, ties, rank, TieAt, hasRank, chosen}
-use Rattle.ties.proofs.Rank.{tie-of-rank, chosen-is}
+use Rattle.ties.proofs.Rank.{numbers-apart, tie-of-rank, chosen-is}
 use Rattle.tie_list.specs.Checks.{listChecks}
 use Rattle.tie_list.proofs.Allowed.{Allowed, allowed-list}
 use Rattle.samples.specs.Samples.{taken, drawnRank, tieChecks}
 use Rattle.samples.proofs.Many.{ties-fit, ties-within}
-use Rattle.changes.proofs.Listing.{numbers-apart}
 use Rattle.picks.specs.declared.Pick.{Pick}
 use Rattle.picks.specs.declared.Pick.the-variants.{Shovel}
 use Rattle.picks.specs.Picks.{pickRefusal, picking}

@@ -12,7 +12,7 @@ use lib.Dec.{eqb, ltb}
 use lib.ListN.{length, getD, replicate}
 use Rattle.cycle.specs.Notation.{one, bit}
 use Rattle.cycle.proofs.Bits.{bit-lt, bit-zero, bit-times, bit-and, bit-or, bit-xor, bit-not}
-use Rattle.card_format.proofs.Lists.{getD-filler}
+use Rattle.cycle.proofs.Lists.{getD-filler}
 use Rattle.tsc.specs.Columns.{column}
 use Rattle.tsc.proofs.LowWords.{bit-column}
 use Rattle.words.specs.Masks.{HasBits}

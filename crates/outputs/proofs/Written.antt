@@ -15,7 +15,7 @@ use Rattle.tsc.specs.Step.{orbit}
 use Rattle.tsc.specs.Word.{orbitWords}
 use Rattle.tsc.proofs.Step.{orbit-in-range}
 use Rattle.tsc.proofs.Word.{length-orbitWords, orbitWords-at}
-use Rattle.card_format.proofs.Lists.{over, over-suc, length-over}
+use Rattle.cycle.proofs.Lists.{over, over-suc, length-over}
 use Rattle.selectors.specs.declared.selector.Terms.{Terms}
 use Rattle.stepping.specs.State.{used, Holds, holding, Steps}
 use Rattle.stepping.proofs.Holding.{held, holds}

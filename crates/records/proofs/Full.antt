@@ -12,7 +12,7 @@ use Rattle.cycle.proofs.Every.{every-of}
 use Rattle.tsc.specs.Constants.{fewestWords, mostWords}
 use Rattle.card_format.specs.Fields.{Field, numbers, bytesOf, allowed, same}
 use Rattle.card_format.proofs.Fields.{allowed-all}
-use Rattle.card_format.proofs.Lists.{take-filled}
+use Rattle.cycle.proofs.Lists.{take-filled}
 use Rattle.card_format.proofs.Bytes.{length-bytesOf}
 use Rattle.records.specs.Fields.{wordField, recordFields, recordField, recordFieldCount, startOf, numbersAt, wordCountOf, recordBytes}
 use Rattle.records.specs.Reading.{isWhole, Whole, heldState}

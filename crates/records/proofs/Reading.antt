@@ -15,7 +15,7 @@ use Rattle.refusals.specs.Refusals.{firstOf}
 use Rattle.card_format.specs.Fields.{Bytes, extent, bytesOf, allowed, same}
 use Rattle.card_format.proofs.Fields.{allowed-at}
 use Rattle.card_format.specs.Reading.{present}
-use Rattle.card_format.proofs.Lists.{take-filled}
+use Rattle.cycle.proofs.Lists.{take-filled}
 use Rattle.card_format.proofs.Bytes.{cond-le, length-one, byte-lt, bytesOf-numbers, map-bit}
 use Rattle.records.specs.declared.Optional.{Optional}
 use Rattle.records.specs.declared.Optional.the-variants.{Absent, Value}

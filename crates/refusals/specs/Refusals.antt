@@ -85,6 +85,9 @@ stripWordTooWide = numbered 23 tt  -- strip bits
 abbrev pub bitPageTooSmall : Refusal
 bitPageTooSmall = numbered 24 tt  -- bit page
 
+abbrev pub offMap : Refusal
+offMap = numbered 25 tt  -- off map
+
 -- a refusal and whether its condition holds
 pub record Check : Type 0 where
   pub refusal : Refusal

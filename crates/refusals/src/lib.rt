@@ -48,3 +48,5 @@ pub const STRIP_TOO_LONG: u8 = 22;
 pub const STRIP_WORD_TOO_WIDE: u8 = 23;
 // bit page
 pub const BIT_PAGE_TOO_SMALL: u8 = 24;
+// off map
+pub const OFF_MAP: u8 = 25;

@@ -25,7 +25,7 @@ use Rattle.tsc.proofs.Selector.{selector-lower}
 use Rattle.tsc.proofs.Step.{column-step}
 use Rattle.tsc.proofs.StepBack.{step-back-in-range, step-of-back}
 use Rattle.card_format.specs.Verdict.{Accepted}
-use Rattle.card_format.proofs.Lists.{take-filled}
+use Rattle.cycle.proofs.Lists.{take-filled}
 use Rattle.columns.specs.Replace.{withColumn, imageOf}
 use Rattle.columns.proofs.Placed.{withColumn-low}
 use Rattle.columns.proofs.Powers.{image-power}

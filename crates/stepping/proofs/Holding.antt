@@ -8,7 +8,7 @@ use native.Mathlib.Omega.{arith}
 use lib.ListN.{length, getD, replicate, length-append, length-replicate, List·getD-eq-default}
 use lib.Pow.{pow-pos}
 use lib.Seq.{take-all}
-use Rattle.card_format.proofs.Lists.{getD-filled, over, over-zeros, take-filled}
+use Rattle.cycle.proofs.Lists.{getD-filled, over, over-zeros, take-filled}
 use Rattle.cycle.specs.Notation.{zeroFilled}
 use Rattle.tsc.specs.declared.Card.{Card}
 use Rattle.tsc.specs.Constants.{mostWords}

@@ -7,9 +7,10 @@ use lib.ListN.{length}
 use Rattle.refusals.specs.Refusals.{Check, check, lengthMismatch, noShovel, tooManyShovels, duplicateShovel}
 use Rattle.ties.specs.Ties.{mostShovels, twice}
 
+-- 13 to 15, of the numbers alone
+abbrev pub numberChecks : List ℕ → List Check
+numberChecks shovels =
+    check noShovel (eqb (length shovels) 0) ∷ check tooManyShovels (ltb mostShovels (length shovels)) ∷ check duplicateShovel (twice shovels) ∷ []
+
 unfoldable pub listChecks : List ℕ → List ℕ → List Check
-listChecks shovels times =
-    check lengthMismatch (not (eqb (length shovels) (length times))) ∷ check noShovel (eqb (length shovels) 0)
-    ∷ check tooManyShovels (ltb mostShovels (length shovels))
-    ∷ check duplicateShovel (twice shovels)
-    ∷ []
+listChecks shovels times = check lengthMismatch (not (eqb (length shovels) (length times))) ∷ numberChecks shovels

@@ -4,7 +4,7 @@ ghost use Prim.Native.Nat.{_<_};
 ghost use lib.ListN.{length};
 ghost use Rattle.refusals.specs.Refusals.{firstOf};
 ghost use Rattle.ties.specs.Ties.{twice};
-ghost use Rattle.tie_list.specs.Checks.{listChecks};
+ghost use Rattle.tie_list.specs.Checks.{numberChecks, listChecks};
 ghost use Rattle.tie_list.specs.Repeats.{repeatsAt};
 
 // The most shovels of a pick.
@@ -40,13 +40,10 @@ fn repeated(shovels: &[u16]) -> bool
     false
 }
 
-// The first of refusals 12 to 15 that applies, or 0.
-pub fn list_refusal(shovels: &[u16], times: &[u32]) -> u8
-    ensures { λ r. ⌜ r ≡ firstOf (listChecks (now (shovels .entry)) (now (times .entry))) ⌝ }
+// The first of refusals 13 to 15 that applies to the numbers, or 0.
+pub fn numbers_refusal(shovels: &[u16]) -> u8
+    ensures { λ r. ⌜ r ≡ firstOf (numberChecks (now (shovels .entry))) ⌝ }
 {
-    if shovels.len() != times.len() {
-        return refusals::LENGTH_MISMATCH;
-    }
     if shovels.len() == 0 {
         return refusals::NO_SHOVEL;
     }
@@ -57,4 +54,14 @@ pub fn list_refusal(shovels: &[u16], times: &[u32]) -> u8
         return refusals::DUPLICATE_SHOVEL;
     }
     0
+}
+
+// The first of refusals 12 to 15 that applies, or 0.
+pub fn list_refusal(shovels: &[u16], times: &[u32]) -> u8
+    ensures { λ r. ⌜ r ≡ firstOf (listChecks (now (shovels .entry)) (now (times .entry))) ⌝ }
+{
+    if shovels.len() != times.len() {
+        return refusals::LENGTH_MISMATCH;
+    }
+    numbers_refusal(shovels)
 }

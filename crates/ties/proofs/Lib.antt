@@ -2,3 +2,4 @@
 pub mod Least
 pub mod Rank
 pub mod Order
+pub mod Alike

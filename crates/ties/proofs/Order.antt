@@ -19,7 +19,7 @@ pub count-permute : (n : ℕ) (f : ℕ → ℕ) (p q : ℕ → Bool) → Permute
 unfolding count
 count-permute n f p q s h = count-ext n p (λ i. q (f i)) h ∙ sum-permute n f (λ i. one (q i)) (s .below) (s .onto)
 
-every-permute : (n : ℕ) (f : ℕ → ℕ) (p q : ℕ → Bool) → Permutes n f → ((i : ℕ) → i < n → p i ≡ q (f i)) → every n p ≡ every n q
+pub every-permute : (n : ℕ) (f : ℕ → ℕ) (p q : ℕ → Bool) → Permutes n f → ((i : ℕ) → i < n → p i ≡ q (f i)) → every n p ≡ every n q
 every-permute n f p q s h =
     same-test (every n p) (every n q)
     (λ e. every-of n q (λ j l. let r = s .onto j l in ap q (sym (r .2)) ∙ sym (h (r .0) (r .1)) ∙ every-at n p e (r .0) (r .1)))

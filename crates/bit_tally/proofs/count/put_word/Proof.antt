@@ -6,7 +6,7 @@ use lib.ListN.{length, getD, set, drop}
 use lib.Seq.{take-all}
 use Rattle.tsc.specs.Constants.{widestWidth}
 use Rattle.cycle.proofs.Bits.{bit-lt}
-use Rattle.card_format.proofs.Lists.{over, over-suc, length-over}
+use Rattle.cycle.proofs.Lists.{over, over-suc, length-over}
 use Rattle.bit_counts.specs.Bits.{wordBits, digit, text}
 use Rattle.bit_counts.proofs.Bits.{length-wordBits, length-text}
 use Rattle.bit_tally.specs.declared.tally.Tally.{Tally}

@@ -6,7 +6,7 @@ use native.Mathlib.Omega.{arith}
 use lib.ListN.{length, getD, take, drop, length-drop}
 use lib.Seq.{take-all}
 use Rattle.tsc.specs.Constants.{widestWidth}
-use Rattle.card_format.proofs.Lists.{part-rest, put-next, length-front}
+use Rattle.cycle.proofs.Lists.{part-rest, put-next, length-front}
 use Rattle.bit_counts.specs.Bits.{wordBits, bitsOf, text}
 use Rattle.bit_counts.proofs.Bits.{length-wordBits, length-text}
 use Rattle.bit_tally.specs.declared.tally.Tally.{Tally}

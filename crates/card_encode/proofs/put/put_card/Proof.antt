@@ -1,4 +1,4 @@
-use Rattle.card_format.proofs.Lists.{length-front, part-rest, put-next, set-first, drop-set-first}
+use Rattle.cycle.proofs.Lists.{length-front, part-rest, put-next, set-first, drop-set-first}
 use mathlib.Core.Path.{_≡_, refl, sym, ap, ap₂, _∙_}
 use mathlib.Core.List.{List, _∷_, _++_}
 use Prim.Native.Nat.{ℕ, _+_, _-_, _<_, _≤_}

@@ -4,7 +4,7 @@ use Prim.Native.Nat.{ℕ, _-_, _≤_, _^_}
 use native.Mathlib.Omega.{arith}
 use lib.ListN.{length, getD, set}
 use Rattle.tsc.specs.Constants.{mostWords}
-use Rattle.card_format.proofs.Lists.{over, over-suc, length-over}
+use Rattle.cycle.proofs.Lists.{over, over-suc, length-over}
 use Rattle.card_encode.proofs.put.put_table.Statement.{statement}
 use Rattle.card_encode.proofs.put.put_table.Tie as tie
 

@@ -9,7 +9,7 @@ use lib.Seq.{take-all}
 use Rattle.cycle.proofs.Digits.{getD-tabulate}
 use Rattle.card_fields.specs.LowBytes.{lowBytes}
 use Rattle.card_fields.proofs.LowBytes.{length-lowBytes}
-use Rattle.card_format.proofs.Lists.{over, over-suc, length-over}
+use Rattle.cycle.proofs.Lists.{over, over-suc, length-over}
 use Rattle.card_fields.proofs.number.put_number.Statement.{statement}
 use Rattle.card_fields.proofs.number.put_number.Tie as tie
 

@@ -14,7 +14,7 @@ use Rattle.refusals.proofs.Refusals.{none-first}
 use Rattle.card_format.specs.declared.Reading.{Reading}
 use Rattle.card_format.specs.Fields.{field, fields, fieldCount, tableBit, constantBit}
 use Rattle.card_format.specs.Reading.{reading, answering, values, padded, cardFrom, formChecks}
-use Rattle.card_format.proofs.Lists.{part-rest}
+use Rattle.cycle.proofs.Lists.{part-rest}
 use Rattle.card_fields.proofs.Arrays.{arrayOf}
 use Rattle.card_values.specs.FieldRead.{fieldRead, tableRead, missing}
 use Rattle.card_read.proofs.Map.{lowest-one, left-all, ones-none, ones-some}

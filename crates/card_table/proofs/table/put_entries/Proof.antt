@@ -4,7 +4,7 @@ use Prim.Native.Nat.{ℕ, _-_, _≤_, _^_}
 use native.Mathlib.Omega.{arith}
 use lib.ListN.{length, getD, set}
 use Rattle.tsc.specs.Constants.{mostWords}
-use Rattle.card_format.proofs.Lists.{over, over-suc}
+use Rattle.cycle.proofs.Lists.{over, over-suc}
 use Rattle.card_table.proofs.table.put_entries.Statement.{statement}
 use Rattle.card_table.proofs.table.put_entries.Tie as tie
 

@@ -2,7 +2,7 @@ use mathlib.Core.Path.{refl, _∙_}
 use Prim.Native.Nat.{_^_}
 use native.Mathlib.Omega.{arith}
 use Rattle.tsc.specs.Constants.{mostWords}
-use Rattle.card_format.proofs.Lists.{over-zeros}
+use Rattle.cycle.proofs.Lists.{over-zeros}
 use Rattle.card_table.proofs.table.table_from.Statement.{statement}
 use Rattle.card_table.proofs.table.table_from.Tie as tie
 

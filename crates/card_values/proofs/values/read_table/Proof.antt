@@ -13,7 +13,7 @@ use Rattle.refusals.specs.Refusals.{firstOf}
 use Rattle.card_format.specs.Fields.{field, fields, tableBit, allowed, same}
 use Rattle.card_format.specs.Reading.{partChecks}
 use Rattle.card_format.proofs.Fields.{few-entries, table-short, table-refusal}
-use Rattle.card_format.proofs.Lists.{over, length-over}
+use Rattle.cycle.proofs.Lists.{over, length-over}
 use Rattle.card_values.specs.declared.values.Values.{Values}
 use Rattle.card_values.specs.FieldRead.{fieldRead, tableRead}
 use Rattle.card_values.proofs.FieldRead.{field-refused}

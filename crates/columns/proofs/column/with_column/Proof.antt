@@ -10,7 +10,7 @@ use lib.Pow.{pow-mono}
 use Rattle.cycle.specs.Notation.{bit}
 use Rattle.cycle.proofs.Bits.{bit-lt}
 use Rattle.tsc.specs.Constants.{mostWords}
-use Rattle.card_format.proofs.Lists.{over, over-suc}
+use Rattle.cycle.proofs.Lists.{over, over-suc}
 use Rattle.words.proofs.Masks.{cond-ap, joined}
 use Rattle.columns.specs.Replace.{withColumn}
 use Rattle.columns.proofs.Placed.{placed, above-lt, length-withColumn, getD-withColumn, withColumn-rest}

@@ -5,7 +5,7 @@ use borrow.Author.Needs.{needs}
 use lib.ListN.{length, length-drop}
 use Rattle.tsc.specs.declared.Card.{Card}
 use Rattle.refusals.specs.Refusals.{firstOf}
-use Rattle.card_format.proofs.Lists.{part-rest}
+use Rattle.cycle.proofs.Lists.{part-rest}
 use Rattle.draws.specs.Calls.{refusalFor}
 use Rattle.draws.proofs.Opening.{Clear, told, clear}
 use Rattle.draws.proofs.Called.{few, accepted, ready}

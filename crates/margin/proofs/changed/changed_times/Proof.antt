@@ -3,7 +3,7 @@ use mathlib.Core.List.{List}
 use Prim.Native.Nat.{ℕ, _-_, _≤_}
 use native.Mathlib.Omega.{arith}
 use lib.ListN.{length, getD, set, take, replicate}
-use Rattle.card_format.proofs.Lists.{over, over-suc}
+use Rattle.cycle.proofs.Lists.{over, over-suc}
 use Rattle.ties.specs.Ties.{mostShovels}
 use Rattle.changes.specs.Change.{changed}
 use Rattle.margin.proofs.Front.{front-set}

@@ -8,7 +8,7 @@ use lib.Dec.{eqb}
 use lib.ListN.{length, getD, take}
 use lib.Seq.{length-take-le}
 use Rattle.cycle.specs.Notation.{bit}
-use Rattle.card_format.proofs.Lists.{getD-filler}
+use Rattle.cycle.proofs.Lists.{getD-filler}
 use Rattle.tsc.specs.Constants.{mostWords}
 use Rattle.tsc.specs.Columns.{column}
 use Rattle.tsc.proofs.Columns.{column-lt}

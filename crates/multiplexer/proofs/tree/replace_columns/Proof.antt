@@ -5,7 +5,7 @@ use borrow.Author.Needs.{needs}
 use lib.ListN.{length, getD, length-set}
 use lib.Seq.{getD-set-other}
 use Rattle.cycle.specs.Notation.{bit}
-use Rattle.card_format.proofs.Lists.{getD-filler}
+use Rattle.cycle.proofs.Lists.{getD-filler}
 use Rattle.tsc.specs.Constants.{mostWords}
 use Rattle.columns.specs.Few.{fewWords}
 use Rattle.words.proofs.Words.{Below, below-next}

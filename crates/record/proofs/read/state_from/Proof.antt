@@ -9,7 +9,7 @@ use Rattle.cycle.specs.Notation.{zeroFilled}
 use Rattle.tsc.specs.declared.State.{State}
 use Rattle.tsc.specs.Constants.{mostWords}
 use Rattle.card_format.specs.Fields.{numbers}
-use Rattle.card_format.proofs.Lists.{over, over-suc, over-zeros}
+use Rattle.cycle.proofs.Lists.{over, over-suc, over-zeros}
 use Rattle.records.specs.Fields.{wordField}
 use Rattle.record.proofs.Words.{length-words, word-bytes}
 use Rattle.record.proofs.read.state_from.Statement.{statement}

@@ -5,7 +5,7 @@ use native.Mathlib.Omega.{arith}
 use lib.ListN.{getD, drop, length, length-drop, List·getD-eq-default}
 use Rattle.cycle.specs.Notation.{tabulate}
 use Rattle.card_format.specs.Fields.{numbers}
-use Rattle.card_format.proofs.Lists.{part-rest}
+use Rattle.cycle.proofs.Lists.{part-rest}
 use Rattle.records.specs.Reading.{heldState}
 use Rattle.records.specs.Fields.{wordField}
 use Rattle.record.proofs.read.state_of.Statement.{statement}

@@ -4,7 +4,7 @@ use Prim.Native.Nat.{ℕ, _-_, _≤_}
 use native.Mathlib.Omega.{arith}
 use lib.ListN.{length, getD, set, drop}
 use lib.Seq.{take-all}
-use Rattle.card_format.proofs.Lists.{over, over-suc, length-over}
+use Rattle.cycle.proofs.Lists.{over, over-suc, length-over}
 use Rattle.record_write.proofs.write.put_bytes.Statement.{statement}
 use Rattle.record_write.proofs.write.put_bytes.Tie as tie
 

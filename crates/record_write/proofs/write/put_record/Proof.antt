@@ -4,7 +4,7 @@ use Prim.Native.Nat.{ℕ, _+_, _-_, _/_, _%_}
 use native.Mathlib.Omega.{arith}
 use lib.ListN.{length, take, drop}
 use Rattle.card_format.specs.Fields.{bytesOf}
-use Rattle.card_format.proofs.Lists.{put-next}
+use Rattle.cycle.proofs.Lists.{put-next}
 use Rattle.records.specs.Fields.{wordField}
 use Rattle.records.proofs.Full.{encoded-full, length-full}
 use Rattle.record_write.proofs.Bytes.{length-bytes}

@@ -5,7 +5,7 @@ use native.Mathlib.Omega.{arith}
 use lib.ListN.{length, getD, take, drop, length-drop}
 use lib.Seq.{take-all, length-take-le}
 use Rattle.card_format.specs.Fields.{bytesOf}
-use Rattle.card_format.proofs.Lists.{over, length-over, part-rest, put-next}
+use Rattle.cycle.proofs.Lists.{over, length-over, part-rest, put-next}
 use Rattle.card_fields.specs.LowBytes.{lowBytes}
 use Rattle.card_fields.proofs.LowBytes.{length-lowBytes}
 use Rattle.records.specs.Fields.{wordField}

@@ -5,7 +5,7 @@ use native.Mathlib.Omega.{arith}
 use lib.ListN.{length, take}
 use Rattle.tsc.specs.declared.State.{State}
 use Rattle.tsc.specs.Constants.{mostWords}
-use Rattle.card_format.proofs.Lists.{take-filled}
+use Rattle.cycle.proofs.Lists.{take-filled}
 use Rattle.records.specs.Fields.{recordBytes}
 use Rattle.records.specs.Writing.{recordedOn}
 use Rattle.recorded_picks.specs.Recorded.{recordLeft}

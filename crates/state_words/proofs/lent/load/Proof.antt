@@ -5,7 +5,7 @@ use native.Mathlib.Omega.{arith}
 use lib.ListN.{length, getD, set, replicate}
 use Rattle.tsc.specs.declared.State.{State}
 use Rattle.tsc.specs.Constants.{mostWords}
-use Rattle.card_format.proofs.Lists.{over, over-suc}
+use Rattle.cycle.proofs.Lists.{over, over-suc}
 use Rattle.stepping.proofs.Holding.{over-holding}
 use Rattle.state_words.proofs.lent.load.Statement.{statement}
 use Rattle.state_words.proofs.lent.load.Tie as tie

@@ -6,7 +6,7 @@ use borrow.Author.Needs.{needs}
 use lib.ListN.{length, getD, set, take, length-set}
 use lib.Seq.{drop-length}
 use Rattle.tsc.specs.Constants.{mostWords}
-use Rattle.card_format.proofs.Lists.{over, over-suc}
+use Rattle.cycle.proofs.Lists.{over, over-suc}
 use Rattle.state_words.proofs.lent.store.Statement.{statement}
 use Rattle.state_words.proofs.lent.store.Tie as tie
 
