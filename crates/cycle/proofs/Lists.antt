@@ -22,6 +22,9 @@ over-suc s d i hs hd =
 pub over-all : (s d : List ℕ) (n : ℕ) → length s ≡ n → length d ≡ n → over s d n ≡ s
 over-all s d n hs hd = ap₂ (λ (x y : List ℕ). x ++ y) (take-all n s (le-of-eq hs)) (drop-of-length-le d (le-of-eq hd)) ∙ append-nil s
 
+pub front-over : (s d : List ℕ) (n : ℕ) → length s ≡ n → take n (over s d n) ≡ s
+front-over s d n e = ap (λ (front : List ℕ). take n (front ++ drop n d)) (take-all n s (le-of-eq e)) ∙ take-at s (drop n d) n e
+
 -- a front written over keeps the length
 pub length-front : (w d : List ℕ) (at : ℕ) → length w ≡ at → at ≤ length d → length (w ++ drop at d) ≡ length d
 length-front w d at e h = omega (arith, length-append w (drop at d), length-drop at d)

@@ -12,9 +12,11 @@ use Rattle.refusals.proofs.Refusals.{first-left, first-ext}
 use Rattle.card_format.specs.Reading.{cardOf}
 use Rattle.draws.specs.Calls.{callChecks}
 use Rattle.ties.specs.Ties.{mostShovels, ties, TieAt, chosen}
+use Rattle.ties.specs.Least.{SameTies}
 use Rattle.ties.specs.Order.{Permutes, reordered, SameShovels}
 use Rattle.ties.proofs.Rank.{tie-of-rank, chosen-is}
 use Rattle.ties.proofs.Order.{length-reordered, ties-reordered, chosen-reordered, twice-reordered}
+use Rattle.ties.proofs.Alike.{ties-alike, chosen-alike}
 use Rattle.tie_list.specs.Checks.{listChecks}
 use Rattle.tie_list.proofs.Allowed.{Allowed, list-allowed}
 use Rattle.samples.specs.Samples.{taken, drawnRank, drawnState, tieChecks}
@@ -104,3 +106,11 @@ module _ (f : ℕ → ℕ) (shovels times : List ℕ) (s : Permutes (length shov
 pub pick-order : (bytes xs shovels times shovels₂ times₂ : List ℕ) → SameShovels shovels times shovels₂ times₂
     → (picking bytes xs shovels₂ times₂ ≡ picking bytes xs shovels times) × (picked bytes xs shovels₂ times₂ ≡ picked bytes xs shovels times)
 pick-order bytes xs shovels times shovels₂ times₂ h = rw (h .numbers, h .durations) (pick-reordered (h .order) shovels times (h .permutes) bytes xs)
+
+-- nothing of the times matters but which shovels tie
+pub pick-alike : (bytes xs shovels times times₂ : List ℕ) → SameTies times times₂
+    → (picking bytes xs shovels times₂ ≡ picking bytes xs shovels times) × (picked bytes xs shovels times₂ ≡ picked bytes xs shovels times)
+unfolding pickRefusal picking picked listChecks
+pick-alike bytes xs shovels times times₂ s =
+    let k = ties-alike times times₂ s in
+    (rw (s .many, k, chosen-alike times times₂ s shovels (drawnRank (cardOf bytes) xs (ties times))) refl, rw (s .many, k) refl)

@@ -26,7 +26,7 @@ map-reordered f cs cs₂ p r =
     (every-permute (length cs) f (λ i. isOnMap (getD cs₂ i (pos 0))) (λ i. isOnMap (getD cs i (pos 0))) p (λ i l. ap isOnMap (r .entries i l)))
 
 module _ (q q₂ : Places) (s : SamePlaces q q₂) where
-  paired-alike : paired (q₂ .shovels) (q₂ .xs) (q₂ .ys) ≡ paired (q .shovels) (q .xs) (q .ys)
+  pub paired-alike : paired (q₂ .shovels) (q₂ .xs) (q₂ .ys) ≡ paired (q .shovels) (q .xs) (q .ys)
   paired-alike = rw (s .numbers, length-reordered (s .order) (q .shovels), s .xs-alike .many, s .ys-alike .many) refl
 
   module _ (even : paired (q .shovels) (q .xs) (q .ys) ≡ true) where

@@ -9,12 +9,15 @@ use lib.Dec.{T, eqb, leb, ltb}
 use lib.IntN.{ℤ, pos, negsuc, natAbs}
 use lib.ListN.{length, getD}
 use lib.Signed.{ltZ, leZ}
+use mir.Syntax.{w32}
+use mir.Val.{SFits}
 use Rattle.cycle.proofs.Every.{every-at}
 use Rattle.refusals.specs.Refusals.{firstOf, NoneApplies}
 use Rattle.refusals.proofs.Refusals.{none-first}
 use Rattle.ties.specs.Ties.{mostShovels, twice}
 use Rattle.places.specs.Distances.{distances}
 use Rattle.places.specs.Places.{mostCoordinate, mostRadius, paired, isOnMap, allOnMap, onMap, isRadius, placeChecks, Measurable}
+use Rattle.places.proofs.Signed.{read, read-back}
 use Rattle.places.proofs.Distances.{squared-le, distance-is}
 
 -- ---- the tests of a coordinate and of a radius
@@ -84,3 +87,12 @@ places-passed shovels xs ys allowed z =
       once = h .1 .1 .1 .0;
       all-allowed = not-false allowed (h .1 .1 .1 .1 .0);
     }
+
+-- ---- coordinates as the machine reads them back
+
+pub measured-read : {x y : ℤ} {xs ys : List ℤ} → SFits w32 x → SFits w32 y → Measurable x y xs ys → Measurable (read x) (read y) xs ys
+measured-read {x} {y} {xs} {ys} fx fy m = subst (λ (z : ℤ). Measurable (read x) z xs ys) (sym (read-back fy)) (subst (λ (z : ℤ). Measurable z y xs ys) (sym (read-back fx)) m)
+
+module _ (x y : ℤ) (xs ys : List ℤ) (fx : SFits w32 x) (fy : SFits w32 y) where
+  pub distances-read : distances (read x) (read y) xs ys ≡ distances x y xs ys
+  distances-read = rw (read-back fx, read-back fy)
