@@ -6,8 +6,8 @@ pub mod Count
 pub mod First
 pub mod Pigeonhole
 pub mod Ranking
-pub mod Lists
 pub mod Digits
+pub mod Lists
 pub mod Bits
 pub mod Iterate
 pub mod Cycle

@@ -5,9 +5,10 @@ use Prim.Native.Nat.{ℕ, zero, suc, _+_, _-_, _<_, _≤_}
 use native.Mathlib.Nat.{le-of-eq, zero-add, zero-sub, sub-zero, suc-sub-suc}
 use native.Mathlib.Numerals.{add-one}
 use native.Mathlib.Omega.{arith}
-use lib.ListN.{length, getD, set, take, drop, replicate, length-append, length-drop, drop-of-length-le}
+use lib.ListN.{length, getD, set, take, drop, replicate, length-append, length-drop, length-replicate, drop-of-length-le}
 use lib.Seq.{paste-suc, take-all, length-take-le, drop-nil, drop-drop, take-at, drop-at, take-append-seam}
-use Rattle.cycle.specs.Notation.{zeroFilled}
+use Rattle.cycle.specs.Notation.{tabulate, zeroFilled}
+use Rattle.cycle.proofs.Digits.{length-tabulate, getD-tabulate}
 
 -- d with the first n of s in its place
 abbrev pub over : List ℕ → List ℕ → ℕ → List ℕ
@@ -24,6 +25,17 @@ over-all s d n hs hd = ap₂ (λ (x y : List ℕ). x ++ y) (take-all n s (le-of-
 
 pub front-over : (s d : List ℕ) (n : ℕ) → length s ≡ n → take n (over s d n) ≡ s
 front-over s d n e = ap (λ (front : List ℕ). take n (front ++ drop n d)) (take-all n s (le-of-eq e)) ∙ take-at s (drop n d) n e
+
+-- an array of zeros whose front is filled by f, one entry after the other
+pub filled-next : (n most : ℕ) (f : ℕ → ℕ) (l : List ℕ) (i x : ℕ) → n ≤ most → i < n → l ≡ over (tabulate n f) (replicate most 0) i → x ≡ f i
+    → set l i x ≡ over (tabulate n f) (replicate most 0) (i + 1)
+filled-next n most f l i x h li e ex =
+    ap₂ (λ (l : List ℕ) (y : ℕ). set l i y) e (ex ∙ sym (getD-tabulate n f i li))
+    ∙ over-suc (tabulate n f) (replicate most 0) i (omega (arith, length-tabulate n f)) (omega (arith, length-replicate {A = ℕ} most 0))
+
+pub filled-front : (n most : ℕ) (f : ℕ → ℕ) (l : List ℕ) (i : ℕ) → i ≡ n → l ≡ over (tabulate n f) (replicate most 0) i → take n l ≡ tabulate n f
+filled-front n most f l i e h =
+    ap (take n) (h ∙ ap (over (tabulate n f) (replicate most 0)) e) ∙ front-over (tabulate n f) (replicate most 0) n (length-tabulate n f)
 
 -- a front written over keeps the length
 pub length-front : (w d : List ℕ) (at : ℕ) → length w ≡ at → at ≤ length d → length (w ++ drop at d) ≡ length d

@@ -1,16 +1,14 @@
-use mathlib.Core.Path.{_≡_, refl, sym, ap, ap₂, subst, _∙_}
+use mathlib.Core.Path.{_≡_, refl, sym, ap, subst, _∙_}
 use mathlib.Core.Bool.{not}
 use mathlib.Core.List.{List}
-use Prim.Native.Nat.{ℕ, _+_, _-_, _≤_, _<_}
+use Prim.Native.Nat.{ℕ, _-_, _≤_}
 use native.Mathlib.Omega.{arith}
 use lib.Dec.{eqb}
-use lib.IntN.{ℤ}
-use lib.ListN.{length, getD, set, take, replicate}
+use lib.ListN.{length, getD, take, replicate}
 use mir.Syntax.{w32}
 use mir.Val.{toZ}
 use Rattle.cycle.specs.Notation.{one}
-use Rattle.cycle.proofs.Digits.{length-tabulate, getD-tabulate}
-use Rattle.cycle.proofs.Lists.{over, over-suc, front-over}
+use Rattle.cycle.proofs.Lists.{over, filled-next, filled-front}
 use Rattle.ties.specs.Ties.{mostShovels}
 use Rattle.ties.specs.Least.{LeastOf, SameTies}
 use Rattle.ties.proofs.Alike.{marks, marks-alike}
@@ -27,10 +25,6 @@ Inv-loop x y xs ys least marks₀ i₀ ms i =
 
 abbrev μ-loop : tie.MeasureT-loop
 μ-loop x y xs ys least marks₀ i₀ ms i = length xs - i
-
--- as many marks as places
-length-marks : (x y : ℤ) (xs ys : List ℤ) (least : ℕ) → length (marks (distances x y xs ys) least) ≡ length xs
-length-marks x y xs ys least = length-tabulate (length (distances x y xs ys)) (λ i. one (not (eqb (getD (distances x y xs ys) i 0) least))) ∙ length-distances x y xs ys
 
 least-distance-requires : tie.Need-least-distance-requires Inv-loop μ-loop
 least-distance-requires c κs = (measured-read (c .fits .x) (c .fits .y) (c .pre .0), c .pre .1)
@@ -56,21 +50,18 @@ add-i c = omega arith
 loop-less : tie.Need-loop-less Inv-loop μ-loop
 loop-less c = omega arith
 
--- the mark put at its place
-put : (x y : ℤ) (xs ys : List ℤ) (least i d m : ℕ) (ms : List ℕ) → length xs ≤ mostShovels → i < length xs → let ds = distances x y xs ys in
-    ms ≡ over (marks ds least) (replicate mostShovels 0) i → d ≡ getD ds i 0 → m ≡ one (not (eqb d least))
-    → set ms i m ≡ over (marks ds least) (replicate mostShovels 0) (i + 1)
-put x y xs ys least i d m ms few l em ed eo =
-    let ds = distances x y xs ys in
-    let n = length-marks x y xs ys least in
-    let here = getD-tabulate (length ds) (λ i. one (not (eqb (getD ds i 0) least))) i (omega (arith, length-distances x y xs ys)) in
-    let entry = eo ∙ ap (λ (k : ℕ). one (not (eqb k least))) ed ∙ sym here in
-    ap₂ (λ (l : List ℕ) (k : ℕ). set l i k) em entry ∙ over-suc (marks ds least) (replicate mostShovels 0) i (omega (arith, n)) (omega arith)
-
 loop-again : tie.Need-loop-again Inv-loop μ-loop
 loop-again c =
     let l = c .before .before .before .loop in
-    (omega arith, l .inv .1, put _ _ _ _ _ (l .i) _ _ _ (l .inv .1) (omega arith) (l .inv .2) (c .before .distance-at .ensures) (c .mark .ensures))
+    let a = c .before .before .before .before .before .args in
+    let ds = distances (read (a .x)) (read (a .y)) (a .xs .now) (a .ys .now) in
+    let least = c .before .before .before .before .least-distance .result in
+    let n = length-distances (read (a .x)) (read (a .y)) (a .xs .now) (a .ys .now) in (
+      omega arith,
+      l .inv .1,
+      filled-next (length ds) mostShovels (λ i. one (not (eqb (getD ds i 0) least))) (l .marks) (l .i) _ (omega (arith, n, l .inv .1)) (omega (arith, n)) (l .inv .2)
+          (c .mark .ensures ∙ ap (λ (d : ℕ). one (not (eqb d least))) (c .before .distance-at .ensures)),
+    )
 
 returns : tie.Need-returns Inv-loop μ-loop
 returns c =
@@ -81,13 +72,11 @@ returns c =
     let ys = a .ys .now in
     let least = c .before .before .least-distance .result in
     let ds = distances (read (a .x)) (read (a .y)) xs ys in
-    let e : l .i ≡ length xs = omega arith in
-    let n = length-marks (read (a .x)) (read (a .y)) xs ys least in
-    let front = ap (take (length xs)) (l .inv .2 ∙ ap (over (marks ds least) (replicate mostShovels 0)) e) ∙ front-over (marks ds least) (replicate mostShovels 0) (length xs) n in
-    let h = subst (λ (k : ℕ). LeastOf ds k least) (sym (length-distances (read (a .x)) (read (a .y)) xs ys)) (c .before .before .least-distance .ensures) in
-    let same = marks-alike ds least h in
+    let n = length-distances (read (a .x)) (read (a .y)) xs ys in
+    let front = filled-front (length ds) mostShovels (λ i. one (not (eqb (getD ds i 0) least))) (l .marks) (l .i) (omega (arith, n)) (l .inv .2) in
+    let h = subst (λ (k : ℕ). LeastOf ds k least) (sym n) (c .before .before .least-distance .ensures) in
     subst (λ (d : List ℕ). SameTies d (take (length xs) (l .marks))) (distances-read (a .x) (a .y) xs ys (s .fits .x) (s .fits .y))
-    (subst (SameTies ds) (sym front) same)
+    (subst (SameTies ds) (sym front ∙ ap (λ (k : ℕ). take k (l .marks)) n) (marks-alike ds least h))
 
 pub marks-of-spec : {M : Type 1} → statement M
 marks-of-spec =

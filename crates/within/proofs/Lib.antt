@@ -1,0 +1,3 @@
+-- That sorting by keys comes to the list.
+pub mod Sorting
+pub mod Passed

@@ -1,0 +1,2 @@
+-- What inner functions answer.
+pub mod Sorting
