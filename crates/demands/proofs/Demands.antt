@@ -5,8 +5,9 @@ use mathlib.Core.List.{List, _++_}
 use Prim.Native.Nat.{ℕ, _+_, _-_, _^_}
 use native.Mathlib.Omega.{arith}
 use borrow.Author.Tests.{ne-eqb, le-ltb}
-use lib.Dec.{eqb}
-use lib.ListN.{length, take, drop}
+use native.Mathlib.Nat.{lt-of-le-of-lt}
+use lib.Dec.{eqb, lit<}
+use lib.ListN.{length, getD, take, drop}
 use Rattle.cycle.proofs.Remainder.{multiple-is, multiple-largest, most-kept, ranks-fair}
 use Rattle.refusals.specs.Refusals.{Check, firstOf, NoneApplies}
 use Rattle.refusals.proofs.Refusals.{first-none, none-first, none-left, none-append}
@@ -44,7 +45,7 @@ use Rattle.margins.proofs.Answers.{margin-refused, margin-one}
 use Rattle.margins.proofs.Alike.{margin-order}
 use Rattle.margins.proofs.Firm.{counts-unrefused, told-counts, told-least, firm-exactly, alone-firm}
 use Rattle.picks.specs.declared.Pick.{Pick}
-use Rattle.picks.specs.declared.Pick.the-variants.{Refused}
+use Rattle.picks.specs.declared.Pick.the-variants.{Shovel, Refused}
 use Rattle.records.specs.declared.Order.the-variants as Order
 use Rattle.records.specs.Reading.{recordOf, noRecord, readingRecord}
 use Rattle.records.specs.Orders.{orderFor}
@@ -65,7 +66,17 @@ use Rattle.bit_counts.proofs.Counting.{page-digits, page-back, page-rest}
 use Rattle.bit_counts.proofs.Examples.{examples-hold, no-bits}
 use Rattle.gates.proofs.Formulas.{bit-onWords, equation-16, equation-17}
 use Rattle.gates.proofs.GateStep.{card-p1, tsc1-alone, gate-step, gate-orbit}
-use Rattle.demands.specs.Demands.{ByTable, nothing, AnsweredOrRefused, Ready, Published, Undone, SameBytes, SameLots, AcceptedIffCovers, FilledAsDrawn, FairRanks, NearestChange, UpToEightWords, NoEarlyRepeat, CabAndDesk, BitsCounted, SameByGates, Demands}
+use Rattle.places.proofs.Distances.{squared-is, squared-zero, squared-le}
+use Rattle.ties.specs.Ties.{ties, TieAt}
+use Rattle.samples.specs.Samples.{taken, drawnRank}
+use Rattle.places.specs.Places.{Places, distancesOf}
+use Rattle.map_picks.specs.MapPicks.{mapPickChecks, mapPickRefusal, mapPicking, mapPicked}
+use Rattle.map_picks.proofs.Timed.{map-timed, map-passed}
+use Rattle.map_picks.proofs.Order.{map-pick-order}
+use Rattle.map_picks.proofs.Shift.{mixed-alike, map-undone}
+use Rattle.nearby.specs.Calls.{withinChecks, listing, noList, withinRadius}
+use Rattle.nearby.proofs.Answers.{answer-exactly, answer-only, answer-ascending, answer-once, answer-past, within-order}
+use Rattle.demands.specs.Demands.{ByTable, nothing, AnsweredOrRefused, Ready, Published, Undone, SameBytes, SameLots, AcceptedIffCovers, FilledAsDrawn, FairRanks, NearestChange, UpToEightWords, NoEarlyRepeat, CabAndDesk, BitsCounted, SameByGates, ByTheMap, Demands}
 
 -- ---- demand 1
 
@@ -85,7 +96,7 @@ by-table : {A : Type 0} {refused : ℕ → A} {checks : List Check} {lent : List
 by-table {refused} {lent} {good} = by-first (λ b r. (cond b (good .0) (refused r), cond b (good .1) lent)) (λ r. refl)
 
 pub answered-or-refused : AnsweredOrRefused
-unfolding verdict reading writing pageAfter rewriting pageRewritten refusalFor stepped steppedBack drawing fillRefusal filled filledState pickRefusal picking picked recordedRefusal recordedPicking recordedState recordedPage readingRecord orderFor bitRefusal countingBits bitPage
+unfolding verdict reading writing pageAfter rewriting pageRewritten refusalFor stepped steppedBack drawing fillRefusal filled filledState pickRefusal picking picked recordedRefusal recordedPicking recordedState recordedPage readingRecord orderFor bitRefusal countingBits bitPage mapPickRefusal mapPicking mapPicked withinRadius
 answered-or-refused =
     record {
       ofCheck = λ bytes. by-first (λ b r. (r, nothing)) (λ r. refl);
@@ -104,6 +115,8 @@ answered-or-refused =
       ofReadRecord = λ bytes. by-first (λ b r. (record { refusal = r; values = cond b (recordOf bytes) noRecord }, nothing)) (λ r. refl);
       ofOrder = λ truck bytes. by-first (λ b r. (cond b (Order.Shovel (recordOf bytes .shovel)) (Order.Refused r), nothing)) (λ r. refl);
       ofBitCounts = λ bytes strip page. by-table;
+      ofPickByMap = λ bytes state q. by-table;
+      ofWithin = λ q radius. by-first (λ b r. (cond b (listing q radius) (noList r), nothing)) (λ r. refl);
       ofMargin = λ bytes xs shovels times m h n. margin-refused bytes xs shovels times n m .0 h;
     }
 
@@ -314,6 +327,40 @@ same-by-gates =
       orbits = λ xs. rw card-p1 (gate-orbit xs);
     }
 
+-- ---- document 02, Ten
+
+-- no check of a pick by the map applies: none of the timed pick by its distances does
+module _ (bytes state : List ℕ) (q : Places) (h : NoneApplies (mapPickChecks bytes state q)) where
+  unrefused : mapPickRefusal bytes state q ≡ 0
+  unfolding mapPickRefusal
+  unrefused = first-none (mapPickChecks bytes state q) h
+
+  near : let card = cardOf bytes in let ds = distancesOf q in let k = ties ds in
+      (i : ℕ) × TieAt (q .shovels) ds (drawnRank card state k) i × (mapPicking bytes state q ≡ Shovel (getD (q .shovels) i 0) k (taken card state k))
+  near =
+      let p = map-passed bytes state q unrefused in
+      let c = pick-chooses bytes state (q .shovels) (distancesOf q) (p .1) in
+      (c .0, c .1, map-timed bytes state q (p .0 .is-paired) (p .0 .all-allowed) .0 ∙ c .2)
+
+pub by-the-map : ByTheMap
+by-the-map =
+    record {
+      squared = squared-is;
+      samePlace = squared-zero;
+      narrow = λ ax ay bx by h. lt-of-le-of-lt (squared-le ax ay bx by (h .0) (h .1 .0) (h .1 .1 .0) (h .1 .1 .1 .0)) (lit< tt);
+      timed = map-timed;
+      nearest = near;
+      undone = map-undone;
+      order = map-pick-order;
+      shift = mixed-alike;
+      exactly = λ q radius h. answer-exactly q radius (first-none (withinChecks q radius) h);
+      onlyThese = λ q radius h. answer-only q radius (first-none (withinChecks q radius) h);
+      ascending = λ q radius h. answer-ascending q radius (first-none (withinChecks q radius) h);
+      once = λ q radius h. answer-once q radius (first-none (withinChecks q radius) h);
+      past = λ q radius h. answer-past q radius (first-none (withinChecks q radius) h);
+      sameList = within-order;
+    }
+
 -- ---- the whole
 
 pub demands : Demands
@@ -333,4 +380,5 @@ demands =
       requestSeven = cab-and-desk;
       requestEight = bits-counted;
       requestNine = same-by-gates;
+      requestTen = by-the-map;
     }

@@ -6,7 +6,7 @@ use mathlib.Core.Bool.{true, false}
 use mathlib.Core.List.{List, [], _∷_, _++_, reverse}
 use Prim.Native.Nat.{ℕ, suc, _+_, _-_, _*_, _/_, _%_, _^_, _≤_, _<_, max}
 use lib.Dec.{eqb}
-use lib.IntN.{pos, natAbs, _+ℤ_, _-ℤ_}
+use lib.IntN.{ℤ, pos, natAbs, _+ℤ_, _-ℤ_, _*ℤ_}
 use lib.ListN.{length, getD, take, drop}
 use Rattle.refusals.specs.Refusals.{noSuchChange, Check, firstOf, NoneApplies}
 use Rattle.cycle.specs.Notation.{one, count, All, iterate, bit}
@@ -32,11 +32,18 @@ use Rattle.gates.specs.Formulas.{Formula, onBits, onWords, equation16, equation
 use Rattle.gates.specs.Tsc1.{tsc1Card, GivesPower, gateStep}
 use Rattle.fills.specs.Fills.{fillChecks, fillRefusal, filled, filledState}
 use Rattle.fills.specs.Draws.{drawnStrip, drawsMade}
-use Rattle.ties.specs.Ties.{isTie, ties, chosen, TieAt}
+use Rattle.ties.specs.Ties.{mostShovels, isTie, ties, chosen, TieAt}
 use Rattle.ties.specs.Order.{SameShovels}
 use Rattle.samples.specs.Samples.{mostTaken, limit, taken, drawnRank, drawnState}
 use Rattle.picks.specs.declared.Pick.the-variants as Pick
 use Rattle.picks.specs.Picks.{pickChecks, picking, wordsTaken, picked}
+use Rattle.places.specs.Distances.{square, squaredDistance}
+use Rattle.places.specs.Places.{Places, distancesOf, paired, isOnMap, onMap}
+use Rattle.places.specs.Order.{SamePlaces}
+use Rattle.map_picks.specs.MapPicks.{mapPickChecks, mapPicking, mapPicked}
+use Rattle.map_picks.specs.Shift.{Call, mixedAnswers, mixedState, AlikeCalls}
+use Rattle.nearby.specs.Nearby.{isBefore}
+use Rattle.nearby.specs.Calls.{withinChecks, listing, noList, withinRadius}
 use Rattle.changes.specs.declared.Change.{Change}
 use Rattle.changes.specs.Change.{changed, Counts}
 use Rattle.margins.specs.declared.Nearest.{Nearest}
@@ -105,6 +112,12 @@ pub record AnsweredOrRefused : Type 0 where
   pub ofBitCounts : (bytes strip page : List ℕ) → let bits = stripBits bytes strip in
       ByTable BitCounts.Refused (bitChecks bytes strip (length page)) page
       (BitCounts.Counted (countsOf bits), text bits ++ drop (length bits) page) (countingBits bytes strip (length page), bitPage bytes strip page)
+  -- a pick by the map is the timed pick by the squared distances
+  pub ofPickByMap : (bytes state : List ℕ) (q : Places) → let ds = distancesOf q in
+      ByTable Pick.Refused (mapPickChecks bytes state q) state
+      (picking bytes state (q .shovels) ds, picked bytes state (q .shovels) ds) (mapPicking bytes state q, mapPicked bytes state q)
+  pub ofWithin : (q : Places) (radius : ℤ) →
+      ByTable noList (withinChecks q radius) nothing (listing q radius, nothing) (withinRadius q radius, nothing)
   -- a margin is refused as the pick is; where it is not, document 02, Four, below
   pub ofMargin : (bytes xs shovels times : List ℕ) (m : Margin) → IsMargin bytes xs shovels times m → let r = firstOf (pickChecks bytes xs shovels times) in
       r ≢ 0 → m ≡ Margin.Refused r
@@ -353,6 +366,44 @@ pub record SameByGates : Type 0 where
   pub steps : (xs : List ℕ) → IsState (cardOf p1) xs → gateStep xs ≡ step (cardOf p1) xs
   pub orbits : (xs : List ℕ) → IsState (cardOf p1) xs → (t : ℕ) → iterate gateStep t xs ≡ orbit (cardOf p1) xs t
 
+-- ---- document 02, Ten: grid places in whole metres. The nearest by squared distance is picked, with equals drawn as in a timed pick. All shovels within a radius
+-- are listed, edge counted, by distance and then number, as a count and 64 numbers, 0 past the count
+
+pub record ByTheMap : Type 0 where
+  -- squared distances are those of the integers, 0 at the same place alone, and on the map below 2^63
+  pub squared : (ax ay bx by : ℤ) → pos (squaredDistance ax ay bx by) ≡ ((ax -ℤ bx) *ℤ (ax -ℤ bx)) +ℤ ((ay -ℤ by) *ℤ (ay -ℤ by))
+  pub samePlace : (ax ay bx by : ℤ) → (squaredDistance ax ay bx by ≡ 0) ↔ ((ax ≡ bx) × (ay ≡ by))
+  pub narrow : (ax ay bx by : ℤ) → All (λ c. isOnMap c ≡ true) (ax ∷ ay ∷ bx ∷ by ∷ []) → squaredDistance ax ay bx by < 2 ^ 63
+  -- where neither 12 nor 25 applies, the pick is the timed pick by these distances, refusals included
+  pub timed : (bytes state : List ℕ) (q : Places) → paired (q .shovels) (q .xs) (q .ys) ≡ true → onMap (q .x) (q .y) (q .xs) (q .ys) ≡ true
+      → (mapPicking bytes state q ≡ picking bytes state (q .shovels) (distancesOf q)) × (mapPicked bytes state q ≡ picked bytes state (q .shovels) (distancesOf q))
+  -- and where nothing is refused, the chosen shovel is one of the nearest, of the rank drawn among them
+  pub nearest : (bytes state : List ℕ) (q : Places) → NoneApplies (mapPickChecks bytes state q)
+      → let card = cardOf bytes in let ds = distancesOf q in let k = ties ds in
+      (i : ℕ) × TieAt (q .shovels) ds (drawnRank card state k) i × (mapPicking bytes state q ≡ Pick.Shovel (getD (q .shovels) i 0) k (taken card state k))
+  -- as many steps back as words were taken undo it
+  pub undone : (bytes state : List ℕ) (q : Places) → let t = wordsTaken (mapPicking bytes state q) in
+      iterate (steppedBack bytes) t (mapPicked bytes state q) ≡ state
+  -- the order of the list makes no difference, for one pick and over a shift of timed picks and picks by the map in any mix
+  pub order : (bytes state : List ℕ) (q q₂ : Places) → SamePlaces q q₂
+      → (mapPicking bytes state q₂ ≡ mapPicking bytes state q) × (mapPicked bytes state q₂ ≡ mapPicked bytes state q)
+  pub shift : (bytes state : List ℕ) (calls calls₂ : List Call) → AlikeCalls calls calls₂
+      → (mixedAnswers bytes state calls₂ ≡ mixedAnswers bytes state calls) × (mixedState bytes state calls₂ ≡ mixedState bytes state calls)
+  -- the list: exactly the shovels whose squared distance is at most the radius squared; ascending; each once; 0 past the count
+  pub exactly : (q : Places) (radius : ℤ) → NoneApplies (withinChecks q radius) → (i : ℕ) → i < length (q .shovels) → let w = withinRadius q radius in
+      (getD (distancesOf q) i 0 ≤ square radius) ↔ ((p : ℕ) × (p < w .count) × (getD (w .shovels) p 0 ≡ getD (q .shovels) i 0))
+  pub onlyThese : (q : Places) (radius : ℤ) → NoneApplies (withinChecks q radius) → (p : ℕ) → let w = withinRadius q radius in p < w .count
+      → (i : ℕ) × (i < length (q .shovels)) × (getD (w .shovels) p 0 ≡ getD (q .shovels) i 0)
+  pub ascending : (q : Places) (radius : ℤ) → NoneApplies (withinChecks q radius) → (p r i j : ℕ) → let w = withinRadius q radius in
+      p < r → r < w .count → i < length (q .shovels) → j < length (q .shovels) → getD (w .shovels) p 0 ≡ getD (q .shovels) i 0 → getD (w .shovels) r 0 ≡ getD (q .shovels) j 0
+      → isBefore (q .shovels) (distancesOf q) i j ≡ true
+  pub once : (q : Places) (radius : ℤ) → NoneApplies (withinChecks q radius) → (p r : ℕ) → let w = withinRadius q radius in
+      p < r → r < w .count → getD (w .shovels) p 0 ≢ getD (w .shovels) r 0
+  pub past : (q : Places) (radius : ℤ) → NoneApplies (withinChecks q radius) → (p : ℕ) → let w = withinRadius q radius in
+      w .count ≤ p → p < mostShovels → getD (w .shovels) p 0 ≡ 0
+  -- whatever the order of the shovels handed over
+  pub sameList : (q q₂ : Places) → SamePlaces q q₂ → (radius : ℤ) → withinRadius q₂ radius ≡ withinRadius q radius
+
 -- ---- the whole
 
 pub record Demands : Type 0 where
@@ -370,3 +421,4 @@ pub record Demands : Type 0 where
   pub requestSeven : CabAndDesk
   pub requestEight : BitsCounted
   pub requestNine : SameByGates
+  pub requestTen : ByTheMap

@@ -24,7 +24,7 @@ use Rattle.places.proofs.Order.{distances-reordered, refusal-alike}
 use Rattle.nearby.specs.declared.Within.{Within}
 use Rattle.nearby.specs.Nearby.{isWithin, withinCount, isBefore, numberAt}
 use Rattle.nearby.specs.Calls.{withinChecks, listing, noList, withinRadius}
-use Rattle.nearby.proofs.Listed.{number-past, listed-exactly, listed-ascending, listed-once}
+use Rattle.nearby.proofs.Listed.{at-place, number-is, number-past, listed-exactly, listed-ascending, listed-once}
 use Rattle.nearby.proofs.Order.{count-reordered, number-reordered}
 
 module _ (q : Places) (radius : ℤ) where
@@ -67,6 +67,12 @@ module _ (q : Places) (radius : ℤ) where
           (λ near. let f = h .0 near in (f .0, omega (arith, counted, f .1), entry (f .0) (omega (arith, within-few, f .1)) ∙ f .2)),
           (λ f. h .1 (f .0, omega (arith, counted, f .1), sym (entry (f .0) (omega (arith, counted, within-few, f .1))) ∙ f .2)),
         )
+
+    pub answer-only : (p : ℕ) → let w = withinRadius q radius in p < w .count → (i : ℕ) × (i < length (q .shovels)) × (getD (w .shovels) p 0 ≡ getD (q .shovels) i 0)
+    answer-only p l =
+        let a = at-place (q .shovels) distances limit (passed .once) paired-list p (omega (arith, counted)) in
+        (a .0, omega (arith, paired-list, a .1),
+        entry p (omega (arith, counted, within-few)) ∙ number-is (q .shovels) distances limit (passed .once) paired-list p (a .0) (a .1) (a .2) (a .3))
 
     pub answer-ascending : (p r i j : ℕ) → let w = withinRadius q radius in p < r → r < w .count → i < length (q .shovels) → j < length (q .shovels)
         → getD (w .shovels) p 0 ≡ getD (q .shovels) i 0 → getD (w .shovels) r 0 ≡ getD (q .shovels) j 0 → isBefore (q .shovels) distances i j ≡ true
