@@ -1,2 +1,2 @@
 pub mod Parts
-mod Folds
+pub mod Folds

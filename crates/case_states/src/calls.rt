@@ -81,7 +81,7 @@ pub fn print_run(card: &[u8], state: Numbers, count: usize)
 }
 
 // A pick's answer.
-fn print_picked(picked: Pick, lent: Numbers, words: [u32; ROOM])
+pub fn print_picked(picked: Pick, lent: Numbers, words: [u32; ROOM])
     requires { ⌜ lent .count ≤ room ⌝ }
 {
     match picked {

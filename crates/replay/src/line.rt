@@ -4,6 +4,7 @@ use case_bits::bits;
 use case_cards::cards;
 use case_fields::line;
 use case_fields::list;
+use case_map::lines as map_lines;
 use case_records::lines;
 use case_states::Ask;
 use case_states::Move;
@@ -22,6 +23,7 @@ enum Call {
     Nist,
     Pick,
     Margin,
+    MapPick,
     Recorded,
     Desk,
     Cab,
@@ -44,6 +46,7 @@ fn replay_bytes(line: &[u8], call: Call, bytes: &[u8], n: usize) {
         Call::Nist => bits::replay_nist(line, given),
         Call::Pick => states::replay_asked(line, Ask::Pick, given),
         Call::Margin => states::replay_asked(line, Ask::Margin, given),
+        Call::MapPick => map_lines::replay_map_pick(line, given),
         Call::Recorded => states::replay_recorded(line, given),
         Call::Desk => lines::replay_desk(line, given),
         Call::Cab => lines::replay_cab(line, given),
@@ -62,6 +65,17 @@ fn replay_call(line: &[u8], call: Call) {
     replay_on(line, call, 1);
 }
 
+// A line on the map, by its word.
+fn replay_map(line: &[u8], word: &[u8]) {
+    if check::same(word, b"mappick") {
+        return replay_call(line, Call::MapPick);
+    }
+    if check::same(word, b"within") {
+        return map_lines::replay_within(line);
+    }
+    answer::print_syntax();
+}
+
 // A line on a record, by its word.
 fn replay_record(line: &[u8], word: &[u8]) {
     if check::same(word, b"recpick") {
@@ -73,7 +87,7 @@ fn replay_record(line: &[u8], word: &[u8]) {
     if check::same(word, b"cab") {
         return replay_on(line, Call::Cab, 2);
     }
-    answer::print_syntax();
+    replay_map(line, word);
 }
 
 // A line that is no comment, by its word.

@@ -9,6 +9,9 @@ ghost use Rattle.card_format.specs.Verdict.{verdict, ZeroIffCovers};
 ghost use Rattle.draws.specs.Calls.{refusalFor, stepped, steppedBack, drawing, OnlyBefore};
 ghost use Rattle.fills.specs.Fills.{fillRefusal, filled, filledState};
 ghost use Rattle.picks.specs.Picks.{picking, picked};
+ghost use Rattle.places.specs.Places.{placed};
+ghost use Rattle.map_picks.specs.MapPicks.{mapPicking, mapPicked};
+ghost use Rattle.nearby.specs.Calls.{withinRadius};
 ghost use Rattle.c_answers.specs.Answers.{drawn, choice, IsMarginAnswer, readCard, given, writtenFrom, pageFrom};
 ghost use Rattle.c_answers.specs.Records.{readRecord, toldTo};
 ghost use Rattle.c_answers.specs.Counts.{countedFor};
@@ -33,6 +36,7 @@ use card_read::read;
 use card_table::table;
 use card_write::write;
 use generator::call;
+use nearby::Within;
 use record::order;
 use tsc::Card;
 use tsc::TABLE_SIZE;
@@ -167,6 +171,38 @@ pub extern "C" fn tiedraw_margin(
     ensures { λ r. ⌜ IsMarginAnswer (now (card .entry)) (now (state .entry)) (now (shovels .entry)) (now (times .entry)) r ⌝ }
 {
     nearest::margin_of(margin::call::margin(card, state, shovels, times))
+}
+
+// The same pick by the map: the nearest by squared distance; or refusal 1 to 15, 25 or 18.
+#[no_mangle]
+pub extern "C" fn tiedraw_pick_by_map(
+    card: &[u8],
+    state: &mut [u32],
+    x: i32,
+    y: i32,
+    shovels: &[u16],
+    xs: &[i32],
+    ys: &[i32],
+) -> Choice
+    ensures answer { λ r. ⌜ r ≡ choice (mapPicking (now (card .entry)) (now (state .entry)) (placed x y (now (shovels .entry)) (now (xs .entry)) (now (ys .entry)))) ⌝ }
+    ensures after { λ r. ⌜ now (state .exit) ≡ mapPicked (now (card .entry)) (now (state .entry)) (placed x y (now (shovels .entry)) (now (xs .entry)) (now (ys .entry))) ⌝ }
+{
+    answer::choice_of(map_pick::call::pick_by_map(card, state, x, y, shovels, xs, ys))
+}
+
+// The shovels within a radius, by distance and then by number; or refusal 12 to 15 or 25 and zeros.
+#[no_mangle]
+pub extern "C" fn tiedraw_within(
+    x: i32,
+    y: i32,
+    radius: i32,
+    shovels: &[u16],
+    xs: &[i32],
+    ys: &[i32],
+) -> Within
+    ensures { λ r. ⌜ r ≡ withinRadius (placed x y (now (shovels .entry)) (now (xs .entry)) (now (ys .entry))) radius ⌝ }
+{
+    within::call::within(x, y, radius, shovels, xs, ys)
 }
 
 // The bits of the strip at the front of the page, as text, and what the NIST tests count of them; or refusal 1 to 9 or 22 to 24 and zeros.

@@ -1,0 +1,2 @@
+-- Coordinates with their bias.
+pub mod Biased
