@@ -9,7 +9,15 @@ use nearby::Within;
 use tie_list::check::MOST_SHOVELS;
 
 // A pick by the map.
-pub fn print_map_pick(card: &[u8], state: Numbers, x: i32, y: i32, shovels: &[u16], xs: &[i32], ys: &[i32])
+pub fn print_map_pick(
+    card: &[u8],
+    state: Numbers,
+    x: i32,
+    y: i32,
+    shovels: &[u16],
+    xs: &[i32],
+    ys: &[i32],
+)
     requires { ⌜ state .count ≤ room ⌝ }
 {
     let mut words = state.words;

@@ -14,7 +14,16 @@ use case_fields::list::WORD;
 use case_numbers::number;
 
 // A call on these shovels and places.
-fn replay_call(ask: Ask, card: &[u8], state: Numbers, x: i32, y: i32, shovels: &[u16], xs: &[i32], ys: &[i32])
+fn replay_call(
+    ask: Ask,
+    card: &[u8],
+    state: Numbers,
+    x: i32,
+    y: i32,
+    shovels: &[u16],
+    xs: &[i32],
+    ys: &[i32],
+)
     requires { ⌜ state .count ≤ room ⌝ }
 {
     match ask {
@@ -24,7 +33,16 @@ fn replay_call(ask: Ask, card: &[u8], state: Numbers, x: i32, y: i32, shovels: &
 }
 
 // The first s of the shovels, and their places in a field; a full array can't be read.
-fn replay_places(ask: Ask, card: &[u8], state: Numbers, x: i32, y: i32, shovels: &[u16], s: usize, field: &[u8])
+fn replay_places(
+    ask: Ask,
+    card: &[u8],
+    state: Numbers,
+    x: i32,
+    y: i32,
+    shovels: &[u16],
+    s: usize,
+    field: &[u8],
+)
     requires { ⌜ state .count ≤ room ⌝ }
 {
     let xs = read::coordinates_of(field, false);
@@ -44,7 +62,16 @@ fn replay_places(ask: Ask, card: &[u8], state: Numbers, x: i32, y: i32, shovels:
     let north = ys.words;
     let across = read::unbiased_all(east);
     let up = read::unbiased_all(north);
-    replay_call(ask, card, state, x, y, &shovels[0..s], &across[..m], &up[..n]);
+    replay_call(
+        ask,
+        card,
+        state,
+        x,
+        y,
+        &shovels[0..s],
+        &across[..m],
+        &up[..n],
+    );
 }
 
 // The shovels in field k and their places in the next.
@@ -69,7 +96,15 @@ fn replay_place(line: &[u8], k: usize, j: usize, ask: Ask, card: &[u8], state: N
     if number::MALFORMED <= y {
         return answer::print_syntax();
     }
-    replay_lists(line, j, ask, card, state, read::unbiased(x as u32), read::unbiased(y as u32));
+    replay_lists(
+        line,
+        j,
+        ask,
+        card,
+        state,
+        read::unbiased(x as u32),
+        read::unbiased(y as u32),
+    );
 }
 
 // mappick CARD STATE X:Y SHOVELS PLACES

@@ -27,7 +27,14 @@ pub fn can_measure(shovels: &[u16], xs: &[i32], ys: &[i32], mapped: bool) -> boo
 }
 
 // The first refusal of 1 to 15 and 25 that applies, or 0.
-pub fn first_refusal(card: &[u8], state: &[u32], shovels: &[u16], xs: &[i32], ys: &[i32], mapped: bool) -> u8
+pub fn first_refusal(
+    card: &[u8],
+    state: &[u32],
+    shovels: &[u16],
+    xs: &[i32],
+    ys: &[i32],
+    mapped: bool,
+) -> u8
     ensures { λ r. ⌜ r ≡ firstOf (callChecks (now (card .entry)) (now (state .entry)) ++ placeChecks (now (shovels .entry)) (now (xs .entry)) (now (ys .entry)) mapped) ⌝ }
 {
     let accepted = check::accept(card);

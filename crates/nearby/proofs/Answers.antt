@@ -70,9 +70,11 @@ module _ (q : Places) (radius : ℤ) where
 
     pub answer-only : (p : ℕ) → let w = withinRadius q radius in p < w .count → (i : ℕ) × (i < length (q .shovels)) × (getD (w .shovels) p 0 ≡ getD (q .shovels) i 0)
     answer-only p l =
-        let a = at-place (q .shovels) distances limit (passed .once) paired-list p (omega (arith, counted)) in
-        (a .0, omega (arith, paired-list, a .1),
-        entry p (omega (arith, counted, within-few)) ∙ number-is (q .shovels) distances limit (passed .once) paired-list p (a .0) (a .1) (a .2) (a .3))
+        let a = at-place (q .shovels) distances limit (passed .once) paired-list p (omega (arith, counted)) in (
+          a .0,
+          omega (arith, paired-list, a .1),
+          entry p (omega (arith, counted, within-few)) ∙ number-is (q .shovels) distances limit (passed .once) paired-list p (a .0) (a .1) (a .2) (a .3),
+        )
 
     pub answer-ascending : (p r i j : ℕ) → let w = withinRadius q radius in p < r → r < w .count → i < length (q .shovels) → j < length (q .shovels)
         → getD (w .shovels) p 0 ≡ getD (q .shovels) i 0 → getD (w .shovels) r 0 ≡ getD (q .shovels) j 0 → isBefore (q .shovels) distances i j ≡ true

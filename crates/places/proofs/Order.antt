@@ -56,8 +56,8 @@ module _ (q q₂ : Places) (s : SamePlaces q q₂) where
               rw (s .xs-alike .many, length-distances (q .x) (q .y) (q .xs) (q .ys))
               (tabulate-ext (length (q .xs)) _ _
               (λ i l.
-                  rw (s .truck .0, s .truck .1, s .xs-alike .entries i l, s .ys-alike .entries i (omega (arith, e .0, e .1)))
-                  (sym (distance-is (q .x) (q .y) (q .xs) (q .ys) (s .order i) (below i l)))));
+              rw (s .truck .0, s .truck .1, s .xs-alike .entries i l, s .ys-alike .entries i (omega (arith, e .0, e .1)))
+              (sym (distance-is (q .x) (q .y) (q .xs) (q .ys) (s .order i) (below i l)))));
         }
 
   -- whatever is asked beside the map
