@@ -41,6 +41,38 @@ def on_times():
     return desk.pick, desk.margin, lambda times: desk.pick_recorded(258, times)
 
 
+def by_map(card, state, shovels, coordinates):
+    return tiedraw.pick_by_map(card, state, 0, 0, shovels, coordinates, coordinates)
+
+
+def on_places():
+    """The calls on places."""
+    desk = tiedraw.Generator(PROGRAM, [0, 0])
+    return lambda places: desk.pick_by_map(0, 0, places), lambda places: tiedraw.within(0, 0, 5, places)
+
+
+def on_metres():
+    """The calls that take a truck's place, each with one coordinate, or a radius, of theirs."""
+    desk = tiedraw.Generator(PROGRAM, [0, 0])
+    return {
+        "x": [
+            lambda x: desk.pick_by_map(x, 0, {7: (0, 0)}),
+            lambda x: tiedraw.pick_by_map(PROGRAM, [0, 0], x, 0, [7], [0], [0]),
+            lambda x: tiedraw.within(x, 0, 0, {7: (0, 0)}),
+        ],
+        "y": [
+            lambda y: desk.pick_by_map(0, y, {7: (0, 0)}),
+            lambda y: tiedraw.pick_by_map(PROGRAM, [0, 0], 0, y, [7], [0], [0]),
+            lambda y: tiedraw.within(0, y, 0, {7: (0, 0)}),
+        ],
+        "radius": [lambda radius: tiedraw.within(0, 0, radius, {7: (0, 0)})],
+        "xs[1]": [lambda x: tiedraw.pick_by_map(PROGRAM, [0, 0], 0, 0, [7, 4], [0, x], [0, 0])],
+        "ys[0]": [lambda y: tiedraw.pick_by_map(PROGRAM, [0, 0], 0, 0, [7, 4], [0, 0], [y, 0])],
+        "places[4][0]": [lambda x, call=call: call({7: (0, 0), 4: (x, 0)}) for call in on_places()],
+        "places[0][1][1]": [lambda y, call=call: call([(7, (0, y)), (4, (0, 0))]) for call in on_places()],
+    }
+
+
 def on_trucks():
     """The calls that take a truck's number."""
     desk = tiedraw.Generator(PROGRAM, [0, 0])
@@ -134,6 +166,38 @@ class Named(unittest.TestCase):
         self.told(ValueError, "room: -1 is negative", tiedraw.bit_counts, b"\0", [0], -1)
         self.told(TypeError, "room: 32.0 is not a whole number", tiedraw.bit_counts, b"\0", [0], 32.0)
 
+    def test_metres_are_whole_numbers(self):
+        for place, calls in on_metres().items():
+            for call in calls:
+                for thing in [5.0, "5", None, True, (5,)]:
+                    self.told(TypeError, f"{place}: {thing!r} is not a whole number of metres", call, thing)
+
+    def test_metres_of_any_width_are_off_the_map(self):
+        for calls in on_metres().values():
+            for call in calls:
+                for number in [2**31, 2**32, 2**32 + 1, -(2**31) - 1, -(2**32), -(2**64), 10**30]:
+                    with self.assertRaises(tiedraw.Refused) as caught:
+                        call(number)
+                    self.assertEqual(caught.exception.refusal, tiedraw.Refusal.OFF_MAP)
+
+    def test_places_by_shovel_or_by_place(self):
+        for call in on_places():
+            self.told(ValueError, "a key of places: 65536 is more than 16 bits", call, {65536: (0, 0)})
+            self.told(TypeError, "a key of places: '7' is not a whole number", call, {"7": (0, 0)})
+            self.told(ValueError, "places[1][0]: -1 is negative", call, [(4, (0, 0)), (-1, (0, 0))])
+            self.told(TypeError, "places[7]: 5 is not a pair of x and y", call, {4: (0, 0), 7: 5})
+            self.told(TypeError, "places[7]: (1, 2, 3) is not a pair of x and y", call, {7: (1, 2, 3)})
+            self.told(TypeError, "places[0][1]: None is not a pair of x and y", call, [(7, None)])
+            self.told(TypeError, "places[1]: (7, 0, 0) is not a pair of shovel and place", call, iter([(4, (0, 0)), (7, 0, 0)]))
+            self.told(TypeError, "places: 5 is not a mapping or pairs", call, 5)
+
+    def test_rows_of_coordinates(self):
+        self.told(TypeError, "xs: '00' is text; numbers are asked for", by_map, PROGRAM, [0, 0], [7, 4], "00")
+        self.told(TypeError, "xs: {0} is a set, which has no order", by_map, PROGRAM, [0, 0], [7], {0})
+        self.told(TypeError, "xs: {7: 0} is a dict, which has no order", by_map, PROGRAM, [0, 0], [7], {7: 0})
+        self.told(TypeError, "xs: 5 is not a row of numbers", by_map, PROGRAM, [0, 0], [7], 5)
+        self.told(ValueError, "shovels[0]: 65536 is more than 16 bits", by_map, PROGRAM, [0, 0], [65536], [0])
+
     def test_no_bool_is_a_number(self):
         self.told(TypeError, "card[0]: False is not a whole number", tiedraw.check, [False])
         self.told(TypeError, "state[1]: True is not a whole number", tiedraw.draw, PROGRAM, [0, True])
@@ -190,6 +254,18 @@ class Rows(unittest.TestCase):
             self.assertEqual(tiedraw.bit_counts(kind(PROGRAM), kind([0, 3, 2]), Index(6)).bits, b"001110")
         for words in [wide, memoryview(wide)]:
             self.assertEqual(tiedraw.bit_counts(PROGRAM, words).bits, b"001110")
+
+    def test_places_of_any_kind(self):
+        wide = array.array("q", [3, -4])
+        pairs = [(7, (3, -4)), (4, [-5, 0]), (9, wide), (2, iter([0, 5])), (Index(6), map(Index, [0, 6]))]
+        for kind in [dict, iter, Misjudged]:
+            pairs[3] = 2, iter([0, 5])
+            pairs[4] = Index(6), map(Index, [0, 6])
+            self.assertEqual(tiedraw.within(Index(0), Index(0), Index(5), kind(pairs)), [2, 4, 7, 9])
+        for kind in [list, iter, tuple, Misjudged, lambda numbers: map(Index, numbers), lambda numbers: array.array("q", numbers)]:
+            xs, ys = kind([3, -5, 0]), kind([-4, 0, 5])
+            answer = tiedraw.pick_by_map(iter(PROGRAM), iter([2, 3]), Index(0), 0, iter([7, 4, 9]), xs, ys)
+            self.assertEqual(answer, ((9, 3, 2), (2, 0)))
 
     def test_whole_numbers_of_other_kinds(self):
         desk = tiedraw.Generator(PROGRAM, [Index(2), Index(3)])

@@ -100,6 +100,21 @@ class Command(unittest.TestCase):
             self.assertEqual(self.printed("recpick", PROGRAM, "0,0", "258", *times), answer)
             self.assertEqual(self.printed("pick", PROGRAM, "0,0", *times), answer[:-1])
 
+    def test_mappick(self):
+        for (x, y), places, answer in [
+            ((200, 100), ("7=-200:400", "4=500:500"), ["shovel 7", "ties 2", "taken 1", "state 00000001,00000001"]),
+            ((-3, -4), ("5=0:0", "8=-8:-4", "9=-3:1"), ["shovel 9", "ties 3", "taken 2", "state 00000002,00000000"]),
+            ((0, "-0"), ("7=-1000000:1000000", "4=0001:-1"), ["shovel 4", "ties 1", "taken 0", "state 00000002,00000003"]),
+        ]:
+            self.assertEqual(self.printed("mappick", PROGRAM, "2,3", str(x), str(y), *places), answer)
+
+    def test_within(self):
+        places = "21=950:500", "12=800:-350", "7=-200:400", "4=500:500"
+        for radius, near in {"750": (4, 7, 12), "749": (4, 7), "499": (), "3000000": (4, 7, 12, 21)}.items():
+            answer = [f"count {len(near)}", *(f"shovel {number}" for number in near)]
+            self.assertEqual(self.printed("within", "200", "100", radius, *places), answer)
+        self.assertEqual(self.printed("within", "-5", "-7", "0", "9=-5:-7"), ["count 1", "shovel 9"])
+
     def test_desk(self):
         for record, answer in {
             RECORD: ["truck 258", "shovel 4", "ties 2", "taken 1", "state 00000000,00000000"],
@@ -143,7 +158,7 @@ class Command(unittest.TestCase):
         versions = [f"binding {tiedraw.__version__}", f"library {tiedraw.library_version()}"]
         self.assertEqual(self.printed("--version"), versions)
         told = "\n".join(self.printed("--help"))
-        commands = ["check", "read", "draw", "bits", "pick", "margin", "recpick", "desk", "cab", "new"]
+        commands = ["check", "read", "draw", "bits", "pick", "margin", "recpick", "mappick", "within", "desk", "cab", "new"]
         for text in [*commands, "words in hex with commas", "@FILE", "Exit status"]:
             self.assertIn(text, told)
         for command in commands:
@@ -161,6 +176,11 @@ class Command(unittest.TestCase):
         self.fails(1, "refusal 13 (no shovel): ", "margin", PROGRAM, "0,0")
         self.fails(1, "refusal 19 (firm): no change of one shovel's time", "margin", PROGRAM, "0,0", "7=300")
         self.fails(1, "refusal 13 (no shovel): ", "recpick", PROGRAM, "0,0", "258")
+        self.fails(1, "refusal 13 (no shovel): ", "mappick", PROGRAM, "0,0", "0", "0")
+        self.fails(1, "refusal 25 (off map): a coordinate is outside", "mappick", PROGRAM, "0,0", "0", "-1000001", "7=0:0")
+        self.fails(1, "refusal 25 (off map): ", "mappick", PROGRAM, "0,0", "0", "0", "7=0:0", "4=99999999999999999999:0")
+        self.fails(1, "refusal 25 (off map): ", "within", "0", "0", "-1", "7=0:0")
+        self.fails(1, "refusal 15 (twice): ", "within", "0", "0", "-1", "7=0:0", "7=1:1")
         self.fails(1, "refusal 20 (torn): a record's map, state count", "desk", "")
         self.fails(1, "refusal 20 (torn): ", "cab", "259", f"{RECORD} 00")
         self.fails(1, "refusal 21 (other truck): the record is of another truck", "cab", "259", RECORD)
@@ -187,6 +207,14 @@ class Command(unittest.TestCase):
             ("SECONDS: 4294967296 is more than 32 bits", "margin", PROGRAM, "0,0", "7=4294967296"),
             ("truck: 65536 is more than 16 bits", "recpick", PROGRAM, "0,0", "65536", "7=300"),
             ("'7=300' is not a whole number", "recpick", PROGRAM, "0,0", "7=300", "4=300"),
+            ("required: Y", "mappick", PROGRAM, "0,0", "-5"),
+            ("'7=0:0' is not a whole number of metres", "mappick", PROGRAM, "0,0", "1", "7=0:0"),
+            ("'7=0,0' is not SHOVEL=X:Y", "mappick", PROGRAM, "0,0", "0", "0", "7=0,0"),
+            ("'7=0:0:0' is not SHOVEL=X:Y", "within", "0", "0", "5", "7=0:0:0"),
+            ("'7' is not SHOVEL=X:Y", "within", "0", "0", "5", "7"),
+            ("SHOVEL: 65536 is more than 16 bits", "within", "0", "0", "5", "65536=0:0"),
+            ("'' is not a whole number of metres", "within", "0", "0", "5", "7=0:"),
+            ("'1.5' is not a whole number of metres", "within", "0", "0", "1.5", "7=0:0"),
             ("required: RECORD", "cab", "258"),
             ("'-1' is not a whole number", "cab", "--", "-1", RECORD),
             ("'1f 0' is not bytes in hex", "cab", "258", "1f 0"),

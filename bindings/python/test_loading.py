@@ -16,7 +16,8 @@ SONAME = _load.SONAME
 MAJOR, MINOR, _ = map(int, __version__.split("."))
 TELL = "import tiedraw; print(tiedraw.library_version())"
 ON_RECORDS = ["pick_recorded", "read_record", "order"]
-CALLS = ["check", "read", "step", "step_back", "draw", "fill", "pick", *ON_RECORDS, "margin", "count_bits", "write"]
+ON_THE_MAP = ["pick_by_map", "within"]
+CALLS = ["check", "read", "step", "step_back", "draw", "fill", "pick", *ON_RECORDS, "margin", *ON_THE_MAP, "count_bits", "write"]
 
 
 def patched(patch):

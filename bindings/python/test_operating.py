@@ -52,7 +52,7 @@ class Measured(unittest.TestCase):
 class Typed(unittest.TestCase):
     def test_python_answers_as_shown(self):
         done = doctest.testfile(str(OPERATING), module_relative=False, encoding="utf-8")
-        self.assertEqual((done.failed, done.attempted), (0, 10))
+        self.assertEqual((done.failed, done.attempted), (0, 13))
 
 
 if __name__ == "__main__":

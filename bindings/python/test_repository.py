@@ -67,7 +67,7 @@ class Versions(unittest.TestCase):
 
 
 class Bounds(unittest.TestCase):
-    names = ["MOST_WORDS", "MOST_SHOVELS", "MOST_CARD_BYTES", "MOST_TAKEN", "MOST_STRIP_WORDS"]
+    names = ["MOST_WORDS", "MOST_SHOVELS", "MOST_CARD_BYTES", "MOST_TAKEN", "MOST_STRIP_WORDS", "MOST_COORDINATE", "MOST_RADIUS"]
 
     def same(self, number, found):
         self.assertEqual(found, [str(number)])
@@ -82,6 +82,8 @@ class Bounds(unittest.TestCase):
         self.same(tiedraw.MOST_CARD_BYTES, re.findall(r"\nmostCardBytes = (\d+)\n", text("crates/card_format/specs/Fields.antt")))
         self.same(tiedraw.MOST_TAKEN, re.findall(r"\nmostTaken = (\d+)\n", text("crates/samples/specs/Samples.antt")))
         self.same(tiedraw.MOST_STRIP_WORDS, re.findall(r"\nmostStripWords = (\d+)\n", text("crates/bit_strip/specs/Strip.antt")))
+        self.same(tiedraw.MOST_COORDINATE, re.findall(r"\nmostCoordinate = (\d+)\n", text("crates/places/specs/Places.antt")))
+        self.same(tiedraw.MOST_RADIUS, re.findall(r"\nmostRadius = (\d+)\n", text("crates/places/specs/Places.antt")))
 
     def test_rust(self):
         for name in self.names:

@@ -1,6 +1,7 @@
 """Draws layers.svg, the crates and which rests on which, from crates.txt; and orbit.svg, the sixteen states of the program's card (document 01)
 in the order in which the step brings them up, beside the same card with an even constant; and halves.svg, the words of two cards of 64 states
-in their order, of which one repeats them; and record.svg, the bytes of a record (document 02, Seven) and who is told what of them. `make pictures`."""
+in their order, of which one repeats them; and record.svg, the bytes of a record (document 02, Seven) and who is told what of them; and by_map.svg,
+a truck and shovels on the grid (document 02, Ten), which of them are nearest and which within a radius. `make pictures`."""
 
 import math
 import pathlib
@@ -311,6 +312,118 @@ def record():
     return svg(x + 20, 140, body)
 
 
+# ---- The map.
+
+TRUCK, RADIUS = (200, 100), 750
+PLACES = {4: (500, 500), 7: (-200, 400), 12: (800, -350), 21: (950, 500)}
+WEST, EAST, SOUTH, NORTH = -620, 1180, -720, 920  # what is shown of the grid, in metres
+GRID, METRE, CORNER = 200, 0.33, (56, 20)  # metres between two lines, pixels of a metre, and the place of the grid in the picture
+TIED, INSIDE, OUTSIDE = ("#fdf1dc", "#c98f2b"), ("#e9f5ea", "#4f9a57"), ("#f4f4f4", "#9a9a9a")
+
+
+def squared_distance(place):
+    return sum((a - b) ** 2 for a, b in zip(place, TRUCK))
+
+
+LEAST = min(map(squared_distance, PLACES.values()))
+
+
+def on_picture(place):
+    x, y = place
+    return CORNER[0] + (x - WEST) * METRE, CORNER[1] + (NORTH - y) * METRE
+
+
+def figure(number, sign=""):
+    """A number as text, with its sign where that is +."""
+    return f"{number:{sign},}".replace("-", "\u2212")
+
+
+def grid():
+    """The lines of the grid, with their metres."""
+    (left, top), (right, bottom) = on_picture((WEST, NORTH)), on_picture((EAST, SOUTH))
+    yield f'<rect x="{left}" y="{top}" width="{right - left:.1f}" height="{bottom - top:.1f}" fill="#fbfcfd" stroke="#d5dce3"/>'
+    for x in range(WEST // GRID * GRID + GRID, EAST, GRID):
+        at, _ = on_picture((x, 0))
+        yield f'<path d="M{at:.1f},{top} V{bottom:.1f}" stroke="#e3e8ed"/>'
+        yield text(at, bottom + 18, figure(x), 11, FAINT)
+    for y in range(SOUTH // GRID * GRID + GRID, NORTH, GRID):
+        _, at = on_picture((0, y))
+        yield f'<path d="M{left},{at:.1f} H{right:.1f}" stroke="#e3e8ed"/>'
+        yield text(left - 8, at + 4, figure(y), 11, FAINT, "end")
+
+
+def shade(place):
+    """Of a shovel: nearest, within the radius, or outside."""
+    far = squared_distance(place)
+    return TIED if far == LEAST else INSIDE if far <= RADIUS**2 else OUTSIDE
+
+
+def shovel(number, place):
+    """A shovel with its place, on the side away from the truck, and a line from the truck to it."""
+    (x, y), (u, v), (fill, edge) = on_picture(place), on_picture(TRUCK), shade(place)
+    yield f'<path d="M{u:.1f},{v:.1f} L{x:.1f},{y:.1f}" stroke="{edge}" stroke-width="1.3" stroke-dasharray="2 4"/>'
+    yield f'<circle cx="{x:.1f}" cy="{y:.1f}" r="14" fill="{fill}" stroke="{edge}" stroke-width="2"/>'
+    yield text(x, y + 5, number, 13, more='font-weight="bold"')
+    across, anchor = (8, "start") if x > u else (-8, "end")
+    yield text(x + across, y - 18 if y < v else y + 26, f"{figure(place[0])}, {figure(place[1])}", 11, anchor=anchor)
+
+
+def circle(radius, stroke, more, words, at):
+    """Around the truck, with words at a place."""
+    x, y = on_picture(TRUCK)
+    yield f'<circle cx="{x:.1f}" cy="{y:.1f}" r="{radius * METRE:.1f}" stroke="{stroke}" {more}/>'
+    yield text(*on_picture(at), words, 12, stroke)
+
+
+def row_of(number, place, y, left):
+    """What is told of a shovel beside the map."""
+    fill, edge = shade(place)
+    far = squared_distance(place)
+    verdict = {TIED: "nearest, a tie", INSIDE: "within, on the edge" if far == RADIUS**2 else "within", OUTSIDE: "outside"}[fill, edge]
+    yield f'<circle cx="{left + 18}" cy="{y - 5}" r="12" fill="{fill}" stroke="{edge}" stroke-width="2"/>'
+    yield text(left + 18, y, number, 12, more='font-weight="bold"')
+    yield text(left + 146, y, ", ".join(figure(a - b, "+") for a, b in zip(place, TRUCK)), 12, anchor="end")
+    yield text(left + 256, y, figure(far), 12, anchor="end")
+    yield text(left + 272, y, verdict, 12, anchor="start")
+
+
+def told(left):
+    """The table beside the map, and what both calls answer."""
+    tied = sorted(number for number, place in PLACES.items() if squared_distance(place) == LEAST)
+    near = sorted((squared_distance(place), number) for number, place in PLACES.items() if squared_distance(place) <= RADIUS**2)
+    yield text(left, 60, f"truck at {TRUCK[0]}, {TRUCK[1]}", 15, anchor="start", more='font-weight="bold"')
+    for x, words in [(38, "shovel"), (146, "from the truck"), (256, "squared distance")]:
+        yield text(left + x, 92, words, 11, FAINT, "end")
+    for i, (number, place) in enumerate(PLACES.items()):
+        yield from row_of(number, place, 122 + 34 * i, left)
+    for i, (words, more) in enumerate(
+        [
+            ("the pick by the map", 'font-weight="bold"'),
+            (f"a lot between {' and '.join(map(str, tied))}, as in a timed pick", ""),
+            ("", ""),
+            (f"within {RADIUS} m", 'font-weight="bold"'),
+            (f"{', '.join(str(number) for _, number in near)}: squared distance at most {figure(RADIUS**2)},", ""),
+            ("by distance and then by number", ""),
+        ]
+    ):
+        yield text(left, 292 + 22 * i, words, 13, anchor="start", more=more)
+
+
+def by_map():
+    x, y = on_picture(TRUCK)
+    body = list(grid())
+    body += circle(RADIUS, INSIDE[1], 'fill="#4f9a57" fill-opacity="0.06" stroke-width="2"', f"radius {RADIUS} m, edge counted", (-340, -670))
+    body += circle(LEAST**0.5, TIED[1], 'fill="none" stroke-width="1.5" stroke-dasharray="7 4"', f"{LEAST**0.5:.0f} m", (200, 620))
+    for number, place in PLACES.items():
+        body += shovel(number, place)
+    body.append(f'<rect x="{x - 9:.1f}" y="{y - 9:.1f}" width="18" height="18" rx="3" fill="#5a7bc4" stroke="{INK}" stroke-width="1.5"/>')
+    body.append(text(x, y + 28, "truck", 12))
+    (right, bottom) = on_picture((EAST, SOUTH))
+    body.append(text((CORNER[0] + right) / 2, bottom + 38, "metres of the grid", 12, FAINT))
+    body += told(right + 34)
+    return svg(round(right + 34 + 410), round(bottom + 50), body)
+
+
 if __name__ == "__main__":
-    for draw in (layers, orbit, halves, record):
+    for draw in (layers, orbit, halves, record, by_map):
         save(draw)

@@ -1,8 +1,8 @@
 /* A dispatch server and its standby, each with its own copy of the state and its own order of the list: they send every truck to
    the same shovel, and both leave the same record of each tie, of which the truck's cab shows the shovel and no more. First version
    and card are looked at, and a simulation desk sees the lots of the shift beforehand, and their words as bits; where one shovel is
-   nearest, it is told how firm that is; at the end the dispatcher's desk reads the records and makes their picks again, the lots
-   are taken back one by one, and bad input shows what a refusal is. */
+   nearest, it is told how firm that is; then the radio survey fails, and both go on by the map; at the end the dispatcher's desk
+   reads the records and makes their picks again, the lots are taken back one by one, and bad input shows what a refusal is. */
 #include <inttypes.h>
 #include <stdio.h>
 #include <stdlib.h>
@@ -15,10 +15,11 @@ enum { WORDS = 4, SHOVELS = 5, TRUCKS = 8, LOTS = 6, RECORD_BYTES = 8 + 4 * WORD
 /* TSC-1: every field of the card is absent. */
 static const uint8_t card[] = {0x00};
 
-/* What a server keeps: the state, its list, and the record of the last tie. */
+/* What a server keeps: the state, its list with the shovels' places in metres, and the record of the last tie. */
 typedef struct {
     uint32_t state[WORDS];
     uint16_t shovels[SHOVELS];
+    int32_t xs[SHOVELS], ys[SHOVELS];
     uint8_t record[RECORD_BYTES];
 } pit_server;
 
@@ -52,13 +53,45 @@ static tiedraw_choice pick(pit_server *server, uint16_t truck) {
     return choice;
 }
 
+static void stop_unless_together(const pit_server *server, const pit_server *standby, tiedraw_choice ours, tiedraw_choice theirs) {
+    stop_unless(ours.shovel == theirs.shovel && memcmp(server->state, standby->state, sizeof server->state) == 0, "the servers differ");
+}
+
 /* The pick on both servers: shovel, state and, byte by byte, the record are the same. */
 static tiedraw_choice pick_on_both(pit_server *server, pit_server *standby, uint16_t truck) {
     tiedraw_choice ours = pick(server, truck), theirs = pick(standby, truck);
     printf("truck %u: shovel %2u of %u, words %u, standby server: shovel %2u\n", truck, ours.shovel, ours.ties, ours.taken, theirs.shovel);
-    stop_unless(ours.shovel == theirs.shovel && memcmp(server->state, standby->state, sizeof server->state) == 0, "the servers differ");
+    stop_unless_together(server, standby, ours, theirs);
     stop_unless(memcmp(server->record, standby->record, RECORD_BYTES) == 0, "the records differ");
     return ours;
+}
+
+/* The shovel of a truck at (x, y), without times. */
+static tiedraw_choice pick_by_map(pit_server *server, int32_t x, int32_t y) {
+    tiedraw_choice choice = tiedraw_pick_by_map(card, sizeof card, server->state, WORDS, x, y, server->shovels, SHOVELS, server->xs,
+                                                SHOVELS, server->ys, SHOVELS);
+    stop_unless(choice.refusal == 0, "a pick by the map was refused");
+    return choice;
+}
+
+/* The pick by the map on both servers, from the states that the timed picks left; how many words it took. */
+static int pick_by_map_on_both(pit_server *server, pit_server *standby, uint16_t truck, int32_t x, int32_t y) {
+    tiedraw_choice ours = pick_by_map(server, x, y), theirs = pick_by_map(standby, x, y);
+    printf("truck %u, by the map: shovel %2u of %u, words %u, standby server: shovel %2u\n", truck, ours.shovel, ours.ties, ours.taken,
+           theirs.shovel);
+    stop_unless_together(server, standby, ours, theirs);
+    return ours.taken;
+}
+
+/* The shovels around (x, y), for the dispatcher. */
+static void tell_within(const pit_server *server, int32_t x, int32_t y, int32_t radius) {
+    tiedraw_within_answer listed =
+        tiedraw_within(x, y, radius, server->shovels, SHOVELS, server->xs, SHOVELS, server->ys, SHOVELS);
+    stop_unless(listed.refusal == 0, "a list was refused");
+    printf("within %" PRId32 " m of it, by distance: shovels", radius);
+    for (int i = 0; i < listed.count; i++)
+        printf(" %u", listed.shovels[i]);
+    printf("\n");
 }
 
 /* How firm a truck's shovel is, from the state before its pick, which is only read. */
@@ -120,7 +153,7 @@ static void look_into(uint8_t records[][RECORD_BYTES], int count, const uint16_t
         tiedraw_record record = read_at_desk(records[i], RECORD_BYTES);
         printf("the desk: picked again, shovel %u\n", pick_again(&record, shovels));
     }
-    const uint8_t of_another_pit[] = {0x03, 9, 0, 12, 0};
+    const uint8_t of_another_pit[] = {0x03, 90, 0, 12, 0};
     read_at_desk(of_another_pit, sizeof of_another_pit);
 }
 
@@ -161,7 +194,8 @@ static void look_ahead(const uint32_t *state) {
     tell_bits(strip);
 }
 
-/* A bad card, no card, a strip without room, and more ties than a narrow card has words: each refused, and the state stays. */
+/* A bad card, no card, a strip without room, more ties than a narrow card has words, and a negative radius: each refused, and the
+   state stays. */
 static void try_bad_input(uint32_t *state) {
     uint32_t start[WORDS], strip[LOTS];
     memcpy(start, state, sizeof start);
@@ -181,6 +215,8 @@ static void try_bad_input(uint32_t *state) {
     printf("no card at all: refusal %u\n", tiedraw_draw(NULL, 0, state, WORDS).refusal);
     printf("four words from place 3 of a strip of six: refusal %u\n", span);
     printf("five ties with words of two bits: refusal %u\n", tied.refusal);
+    const int32_t place[] = {0};
+    printf("a radius of -1 m: refusal %u\n", tiedraw_within(0, 0, -1, shovels, 1, place, 1, place, 1).refusal);
 }
 
 /* A record of truck 1 in the cab of truck 2, and without its last byte. */
@@ -190,7 +226,9 @@ static void try_bad_record(const uint8_t *record) {
 }
 
 int main(void) {
-    pit_server server = {{0}, {12, 7, 30, 4, 21}, {0}}, standby = {{0}, {4, 7, 12, 21, 30}, {0}};
+    /* 4, 7 and 12 are 500 m from (0, 0) */
+    pit_server server = {{0}, {12, 7, 30, 4, 21}, {0, -400, 2000, 300, 900}, {-500, 300, -1500, 400, 0}, {0}};
+    pit_server standby = {{0}, {4, 7, 12, 21, 30}, {300, -400, 0, 900, 2000}, {400, 300, -500, 0, -1500}, {0}};
     uint32_t start[WORDS];
     uint8_t records[TRUCKS][RECORD_BYTES];
 
@@ -215,6 +253,9 @@ int main(void) {
         }
         words += choice.taken;
     }
+    words += pick_by_map_on_both(&server, &standby, TRUCKS + 1, 0, 0);
+    tell_within(&server, 0, 0, 900);
+    words += pick_by_map_on_both(&server, &standby, TRUCKS + 2, 800, -100);
     look_into(records, ties, standby.shovels);
 
     for (int i = 0; i < words; i++)

@@ -5,6 +5,7 @@
 
 pub mod bits;
 pub mod gates;
+pub mod map;
 pub mod records;
 
 use reference::{mask, Card};

@@ -1,6 +1,7 @@
 //! The calls, by the library and by the second program, and everything that a caller can observe of them.
 
 pub mod bits;
+pub mod map;
 mod promises;
 pub mod records;
 
@@ -14,7 +15,7 @@ use std::hint::black_box;
 use std::iter::once;
 use tiedraw::{ffi, MOST_TAKEN};
 
-pub const CALLS: [&str; 13] = [
+pub const CALLS: [&str; 15] = [
     "check",
     "step",
     "step_back",
@@ -28,9 +29,11 @@ pub const CALLS: [&str; 13] = [
     "desk",
     "cab",
     "nist",
+    "mappick",
+    "within",
 ];
 const PICK: usize = 5;
-/// those before it are made on each input; it, those of records and the counts of bits have inputs of their own
+/// those before it are made on each input; it, those of records, the counts of bits and those by the map have inputs of their own
 pub const MARGIN: usize = 8;
 /// those of records
 const RECPICK: usize = 9;
@@ -38,6 +41,9 @@ const DESK: usize = 10;
 const CAB: usize = 11;
 /// the counts of bits
 pub const NIST: usize = 12;
+/// those by the map
+pub const MAPPICK: usize = 13;
+pub const WITHIN: usize = 14;
 
 /// The numbers that a call answers, and zeros behind them: at most the reader's, seven and the table.
 type Values = [u64; 7 + TABLE_ENTRIES];
@@ -124,6 +130,8 @@ fn library(call: usize, input: &Input) -> Observed {
         "desk" => return records::library_desk(&input.records.record),
         "cab" => return records::library_cab(input.records.cab, &input.records.record),
         "nist" => return bits::library_counts(input),
+        "mappick" => return map::library_pick(input),
+        "within" => return map::library_within(input),
         _ => {}
     }
     let (card, n) = (shared(&input.card), input.card.len());
@@ -253,6 +261,8 @@ fn second_program(call: usize, input: &Input) -> Observed {
         "desk" => return records::second_desk(&input.records.record),
         "cab" => return records::second_cab(input.records.cab, &input.records.record),
         "nist" => return bits::second_counts(input),
+        "mappick" => return map::second_pick(input),
+        "within" => return map::second_within(input),
         _ => return second_write(&input.values, &input.page),
     };
     expected(answer, state)
@@ -382,6 +392,7 @@ fn untouched(name: &str, input: &Input, after: &Observed) -> bool {
         "recpick" => after.lent == input.state && after.strip == widened(&input.page),
         "desk" | "cab" => after.lent == widened(&input.records.record),
         "nist" => after.lent == widened(&input.page) && after.strip == input.strip,
+        "within" => after.lent.is_empty(),
         _ => after.lent == input.state,
     }
 }

@@ -1,12 +1,14 @@
 //! Random inputs: cards valid and damaged, states and lists of right and wrong size, strips and spans, values and pages for the writer;
-//! and inputs for the margin, which the second program finds by trying, so that each takes long. Those for records and for counts of
-//! bits are in files of their own, and so are P1 and the cards nearly like it.
+//! and inputs for the margin, which the second program finds by trying, so that each takes long. Those for records, for counts of bits and
+//! by the map are in files of their own, and so are P1 and the cards nearly like it.
 
 mod bits;
+pub mod map;
 mod records;
 mod tsc1;
 
 use crate::random::Random;
+use map::Map;
 pub use records::Records;
 use reference::{
     check, encode, mask, step_back, word, Card, MOST_WORDS, TABLE_ENTRIES, TSC1_CONSTANT,
@@ -29,6 +31,8 @@ pub struct Input {
     pub page: Vec<u8>,
     /// empty but in inputs for records
     pub records: Records,
+    /// empty but in inputs by the map
+    pub map: Map,
 }
 
 impl Input {
@@ -54,6 +58,7 @@ impl Input {
             values,
             page,
             records: Records::default(),
+            map: Map::default(),
         }
     }
 

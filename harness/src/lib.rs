@@ -6,6 +6,7 @@ pub mod by_hand;
 pub mod calls;
 pub mod inputs;
 pub mod jitter;
+pub mod map_subjects;
 pub mod random;
 pub mod record_subjects;
 pub mod subjects;

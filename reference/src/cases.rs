@@ -2,13 +2,15 @@
 //!
 //! The walks (`step`, `back`, `draw`, `words`), the picks, the cards (`check`, `read`), the writer
 //! (`write`), the form of a line, the strips (`strip`), the fair ranks of picks, the margins
-//! (`margin`), the cards of five to eight words, the records (`recpick`, `desk`, `cab`) and the counts
-//! of bits (`nist`) have a module each, in the order in which they came, so that earlier cases stay as
-//! they are. States that go on from case to case come from this crate's own calls.
+//! (`margin`), the cards of five to eight words, the records (`recpick`, `desk`, `cab`), the counts of
+//! bits (`nist`) and the map (`mappick`, `within`) have a module each, in the order in which they
+//! came, so that earlier cases stay as they are. States that go on from case to case come from this
+//! crate's own calls.
 
 mod bits;
 mod cards;
 mod large;
+mod map;
 mod margins;
 mod picks;
 mod ranks;
@@ -142,6 +144,7 @@ pub fn cases() -> Vec<u8> {
     large::make(&mut maker);
     records::make(&mut maker);
     bits::make(&mut maker);
+    map::make(&mut maker);
     maker.lines
 }
 
@@ -187,13 +190,15 @@ mod tests {
         ]
     }
 
-    /// Those of recorded picks, desk and cab, and of counts.
-    fn refusals_of_others() -> [(&'static str, Vec<u8>); 4] {
+    /// Those of recorded picks, desk and cab, of counts, and by the map.
+    fn refusals_of_others() -> [(&'static str, Vec<u8>); 6] {
         [
             ("recpick", (1..=16).chain([18]).collect()),
             ("desk", vec![20]),
             ("cab", vec![20, 21]),
             ("nist", (1..=9).chain(22..=24).collect()),
+            ("mappick", (1..=15).chain([18, 25]).collect()),
+            ("within", (12..=15).chain([25]).collect()),
         ]
     }
 
@@ -218,8 +223,8 @@ mod tests {
         assert!(rows.iter().all(|(_, answer)| !answer.contains("CHANGED")));
     }
 
-    /// As many as the programs had that these cases replace, and more picks; strips, margins, records
-    /// and counts are new.
+    /// As many as the programs had that these cases replace, and more picks; strips, margins, records,
+    /// counts and the map are new.
     #[test]
     fn enough_of_each() {
         let rows = answered();
@@ -255,8 +260,11 @@ mod tests {
         assert!(count("cab", "") >= 600);
         assert!(count("nist", "counts") >= 500 && count("nist", "") >= 800);
         assert!(count("nist", "refused 23") >= 100 && count("nist", "refused 24") >= 100);
+        assert!(count("mappick", "shovel") >= 400 && count("mappick", "") >= 600);
+        assert!(count("mappick", "refused 25") >= 60 && count("within", "refused 25") >= 60);
+        assert!(count("within", "count") >= 300 && count("within", "") >= 450);
         assert!(rows.iter().filter(|row| row.1 == "syntax").count() >= 1_000);
-        assert!(cases().len() < 4_300_000);
+        assert!(cases().len() < 4_450_000);
     }
 
     /// The words that a pick took, by the case `words`: all but the last are passed over, the last

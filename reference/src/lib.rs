@@ -12,6 +12,7 @@ pub mod fill;
 pub mod gates;
 #[cfg(test)]
 mod large_tests;
+pub mod map;
 pub mod margin;
 pub mod period;
 pub mod pick;

@@ -14,9 +14,9 @@ pub struct Picked {
     pub taken: usize, // the number of words taken, which is how many steps the state made
 }
 
-/// Refusals 12 to 15 for the lists.
-fn check_lists(shovels: &[u16], times: &[u32]) -> Result<(), u8> {
-    if shovels.len() != times.len() {
+/// Refusals 12 to 15 for the shovels and the lists beside them, which have these counts.
+pub(crate) fn check_lists(shovels: &[u16], counts: &[usize]) -> Result<(), u8> {
+    if counts.iter().any(|&count| count != shovels.len()) {
         return Err(12);
     }
     if shovels.is_empty() {
@@ -33,12 +33,12 @@ fn check_lists(shovels: &[u16], times: &[u32]) -> Result<(), u8> {
     Ok(())
 }
 
-/// The shovels with the least time, the lowest number first.
-fn equals(shovels: &[u16], times: &[u32]) -> Vec<u16> {
-    let least = times.iter().min();
+/// The shovels with the least time or distance, the lowest number first.
+fn equals<T: Ord>(shovels: &[u16], far: &[T]) -> Vec<u16> {
+    let least = far.iter().min();
     let mut equals = Vec::new();
-    for (shovel, time) in shovels.iter().zip(times) {
-        if Some(time) == least {
+    for (shovel, far) in shovels.iter().zip(far) {
+        if Some(far) == least {
             equals.push(*shovel);
         }
     }
@@ -77,8 +77,20 @@ pub fn call_pick(
     times: &[u32],
 ) -> Result<Picked, u8> {
     let width = accept_call(card, state)?.width;
-    check_lists(shovels, times)?;
-    let equals = equals(shovels, times);
+    check_lists(shovels, &[times.len()])?;
+    draw_nearest(card, state, width, shovels, times)
+}
+
+/// One of the shovels with the least time or distance, with the state moved; or 18 with the state
+/// unchanged. Everything else has been checked.
+pub(crate) fn draw_nearest<T: Ord>(
+    card: &[u8],
+    state: &mut [u32],
+    width: u8,
+    shovels: &[u16],
+    far: &[T],
+) -> Result<Picked, u8> {
+    let equals = equals(shovels, far);
     let ties = equals.len();
     if ties as u64 > 1u64 << width {
         return Err(18);

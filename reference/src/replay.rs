@@ -19,6 +19,8 @@
 //! | `desk RECORD` | `truck N shovel S ties K taken T state w,..`, `absent` for one that lacks |
 //! | `cab TRUCK RECORD` | `shovel S` |
 //! | `nist CARD STRIP PAGELEN` | `counts BALANCE FORWARD BACKWARD RUNS page TEXT` |
+//! | `mappick CARD STATE X:Y SHOVELS PLACES` | `shovel S ties K taken T state w,..` |
+//! | `within X:Y RADIUS SHOVELS PLACES` | `count N numbers n,..`, all 64 numbers |
 //!
 //! All but `check` may answer `refused V` instead, with ` CHANGED` behind it if the lent state,
 //! strip or page isn't as it was. A page is lent with every byte a5 and shown whole; that of `nist`
@@ -32,8 +34,13 @@
 //! after `0x`; PLACE and COUNT of `strip` have 32 bits, TRUCK has 16; COUNT of `words` is at most
 //! 1024, PAGELEN at most 600; all other single numbers have 8 bits. Hex digits may have either case,
 //! numbers leading zeros.
+//!
+//! X:Y is a place, two coordinates with a colon between them; PLACES is a list of at most 600. A
+//! coordinate and RADIUS are decimal numbers of -2147483648 to 2147483647 with `-` in front or
+//! nothing.
 
 mod bits;
+mod map;
 mod records;
 
 use crate::fill::call_fill;
@@ -43,6 +50,7 @@ use crate::{
     accept_call, call_draw, call_step, call_step_back, call_write, check, read, Card, TABLE_ENTRIES,
 };
 use bits::counts_answer;
+use map::{map_pick_answer, place, places, signed, within_answer};
 use records::{cab_answer, desk_answer, recorded_answer};
 use std::fmt::Display;
 
@@ -126,6 +134,19 @@ fn replay(line: &[u8]) -> Option<String> {
             &list(strip, 16, MOST_COUNTED)?,
             limited(page, MOST_LISTED)?,
         ),
+        [b"mappick", c, s, truck, shovels, others] => map_pick_answer(
+            &card(c)?,
+            &state(s)?,
+            place(truck)?,
+            &list(shovels, 10, MOST_LISTED)?,
+            &places(others)?,
+        ),
+        [b"within", truck, radius, shovels, others] => within_answer(
+            place(truck)?,
+            signed(radius)?,
+            &list(shovels, 10, MOST_LISTED)?,
+            &places(others)?,
+        ),
         _ => return None,
     })
 }
@@ -175,16 +196,19 @@ fn constant(field: &[u8]) -> Option<u32> {
     }
 }
 
-/// At most `most` numbers with commas between them, or `-`.
-fn list<T: TryFrom<u64>>(field: &[u8], base: u32, most: usize) -> Option<Vec<T>> {
+/// At most `most` entries with commas between them, or `-`.
+fn listed<T>(field: &[u8], most: usize, entry: impl Fn(&[u8]) -> Option<T>) -> Option<Vec<T>> {
     if field == b"-" {
         return Some(Vec::new());
     }
-    let numbers = field.split(|&byte| byte == b',');
-    let list: Vec<T> = numbers
-        .map(|digits| number(digits, base))
-        .collect::<Option<_>>()?;
+    let entries = field.split(|&byte| byte == b',');
+    let list: Vec<T> = entries.map(entry).collect::<Option<_>>()?;
     (list.len() <= most).then_some(list)
+}
+
+/// A list of numbers.
+fn list<T: TryFrom<u64>>(field: &[u8], base: u32, most: usize) -> Option<Vec<T>> {
+    listed(field, most, |digits| number(digits, base))
 }
 
 /// The words of a state, in hex.
@@ -539,6 +563,10 @@ write 2 2 1,2,3,0 1 2 1 1 1 10 = refused 16",
             recpick|recpick 00 0,0,0,0 1 1 1|recpick 00 0,0,0,0 1 1 1 24 0|recpick 00 0,0,0,0 1 1  24|\
             desk|desk |desk 03 03|desk  03|Desk 03|cab|cab 1|cab 03|cab 1 03 03|cab 1  03|cab  03|\
             nist|nist 00|nist 00 1|nist 00 1 32 0|nist 00  32|nist  1 32|nist 00 1 |Nist 00 1 32|\
+            mappick|mappick 00 0,0,0,0 0:0 1|mappick 00 0,0,0,0 0 0 1 0:0|mappick 00 0,0,0,0 0:0 1 0:0 0|\
+            mappick 00 0,0,0,0  1 0:0|Mappick 00 0,0,0,0 0:0 1 0:0|map 00 0,0,0,0 0:0 1 0:0|\
+            within|within 0:0 1|within 0:0 1 1|within 0:0 1 1 0:0 0|within 0 0 1 1 0:0|within 0:0  1 0:0|\
+            Within 0:0 1 1 0:0|within 00 0:0 1 1 0:0|\
             margin|margin 00 0,0,0,0 1|margin 00 0,0,0,0 1 1 1|margin 00 0,0,0,0  1|Margin 00 0 1 1|\
             write 2 2 1,2,3,0 1 2 1 1 1 12 0|chéck 00|check 00#";
         for line in lines.split('|') {
@@ -547,7 +575,7 @@ write 2 2 1,2,3,0 1 2 1 1 1 10 = refused 16",
     }
 
     /// Whether the line is malformed with each of the forms in place of `@`.
-    fn assert_syntax(line: &str, forms: &str, syntax: bool) {
+    pub(super) fn assert_syntax(line: &str, forms: &str, syntax: bool) {
         for form in forms.split(' ') {
             let line = line.replace('@', form);
             assert_eq!(text(&line) == "syntax", syntax, "{line}");
@@ -555,7 +583,7 @@ write 2 2 1,2,3,0 1 2 1 1 1 10 = refused 16",
     }
 
     /// Each decimal field, the largest number it takes, and whether it is a list.
-    const DECIMALS: [(&str, u64, bool); 22] = [
+    const DECIMALS: [(&str, u64, bool); 24] = [
         ("words 00 0,0,0,0 @", 1024, false),
         ("strip 00 0,0,0,0 1 @ 1", 4294967295, false),
         ("strip 00 0,0,0,0 1 0 @", 4294967295, false),
@@ -578,6 +606,8 @@ write 2 2 1,2,3,0 1 2 1 1 1 10 = refused 16",
         ("recpick 00 0,0,0,0 1 1 1 @", 600, false),
         ("cab @ 0301020304", 65535, false),
         ("nist 00 1 @", 600, false),
+        ("mappick 00 0,0,0,0 0:0 @ 0:0", 65535, true),
+        ("within 0:0 0 @ 0:0", 65535, true),
     ];
 
     #[test]
@@ -607,6 +637,7 @@ write 2 2 1,2,3,0 1 2 1 1 1 10 = refused 16",
             "cab 1 @",
             "recpick @ - - - 1 24",
             "nist @ 1 32",
+            "mappick @ - 0:0 - -",
         ] {
             assert_syntax(line, "- 00 aB Ab 0123456789abcdefABCDEF", false);
             assert_syntax(line, "0 000 0x00 0g -- 00, 00,00 +0 00- é", true);
@@ -617,6 +648,7 @@ write 2 2 1,2,3,0 1 2 1 1 1 10 = refused 16",
             "margin 00 @ 1 1",
             "recpick 00 @ 1 1 1 24",
             "nist 00 @ 600",
+            "mappick 00 @ 0:0 1 0:0",
         ] {
             assert_syntax(
                 line,
@@ -659,6 +691,7 @@ write 2 2 1,2,3,0 1 2 1 1 1 10 = refused 16",
         for (count, syntax) in [(600, false), (601, true)] {
             let card = "00".repeat(count);
             let list = commas(vec![1; count]);
+            let places = commas(vec!["0:0"; count]);
             for line in [
                 format!("check {card}"),
                 format!("read {card}"),
@@ -680,6 +713,12 @@ write 2 2 1,2,3,0 1 2 1 1 1 10 = refused 16",
                 format!("desk {card}"),
                 format!("cab 1 {card}"),
                 format!("nist {card} 1 32"),
+                format!("mappick {card} - 0:0 - -"),
+                format!("mappick 00 {list} 0:0 - -"),
+                format!("mappick 00 0,0,0,0 0:0 {list} -"),
+                format!("mappick 00 0,0,0,0 0:0 - {places}"),
+                format!("within 0:0 0 {list} -"),
+                format!("within 0:0 0 - {places}"),
             ] {
                 assert_eq!(text(&line) == "syntax", syntax, "{line}");
             }

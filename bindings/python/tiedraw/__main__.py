@@ -7,16 +7,18 @@ import os
 import sys
 from typing import Any, Callable, Iterator
 
-from . import Generator, Refused, __version__, bit_counts, check, library_version, new_card, order_for, read, read_record
+from . import Generator, Refused, __version__, bit_counts, check, library_version, new_card, order_for, read, read_record, within
 from ._library import MOST_STRIP_WORDS, MOST_WORDS
 from ._new_card import DEFAULT_WORDS, FEWEST_WORDS, NARROWEST, WIDEST, between
 from ._text import (
     choice_lines,
     count_lines,
     hex_bytes,
+    metres,
     number,
     record_lines,
     save,
+    shovel_place,
     shovel_time,
     state_text,
     state_words,
@@ -29,9 +31,17 @@ Tie draws for mine dispatch, proved. Each command prints one fact a line, a name
 
 CARD and RECORD are bytes in hex, with blanks between them or without, and comments from # to the end of a line; or @FILE,
 a file of such text. Quote it if it has blanks. STATE is words in hex with commas between them, the first word first.
-Trucks, shovels, seconds and counts are decimal."""
+Trucks, shovels, seconds, metres and counts are decimal. X and Y are a place in whole metres, and may be negative."""
 
-ARGUMENTS: dict[str, Callable[[str], Any]] = {"CARD": hex_bytes, "STATE": state_words, "TRUCK": truck, "RECORD": hex_bytes}
+ARGUMENTS: dict[str, Callable[[str], Any]] = {
+    "CARD": hex_bytes,
+    "STATE": state_words,
+    "TRUCK": truck,
+    "RECORD": hex_bytes,
+    "X": metres,
+    "Y": metres,
+    "RADIUS": metres,
+}
 
 ENDING = "Exit status: 0; 1 if the library refuses, with number and trade word on standard error; 2 if the usage is wrong."
 
@@ -74,6 +84,19 @@ def _recpick(options: argparse.Namespace) -> Iterator[str]:
     yield from choice_lines(choice)
     yield f"state {state_text(desk.state)}"
     yield f"record {record.hex(' ') if record else 'none'}"
+
+
+def _mappick(options: argparse.Namespace) -> Iterator[str]:
+    desk = Generator(options.card, options.state)
+    yield from choice_lines(desk.pick_by_map(options.x, options.y, options.places))
+    yield f"state {state_text(desk.state)}"
+
+
+def _within(options: argparse.Namespace) -> Iterator[str]:
+    near = within(options.x, options.y, options.radius, options.places)
+    yield f"count {len(near)}"
+    for shovel in near:
+        yield f"shovel {shovel}"
 
 
 def _desk(options: argparse.Namespace) -> Iterator[str]:
@@ -143,6 +166,10 @@ def _parser() -> argparse.ArgumentParser:
     recpick = command(_recpick, "picks for a truck, and prints also the record that a tie leaves", "CARD", "STATE", "TRUCK")
     for added in (pick, margin, recpick):
         added.add_argument("times", metavar="SHOVEL=SECONDS", nargs="*", type=_parsed(shovel_time), help="a shovel and its time")
+    mappick = command(_mappick, "picks by places, for a truck at X, Y, and prints what pick prints", "CARD", "STATE", "X", "Y")
+    near = command(_within, "prints how many shovels are within RADIUS metres of X, Y, and which, by distance", "X", "Y", "RADIUS")
+    for added in (mappick, near):
+        added.add_argument("places", metavar="SHOVEL=X:Y", nargs="*", type=_parsed(shovel_place), help="a shovel and its place")
     command(_desk, "prints every field of a record, `absent` for one that it lacks, or it is refused by 20", "RECORD")
     command(_cab, "prints the shovel of a truck's record, or it is refused by 20, or by 21 if it is another's", "TRUCK", "RECORD")
     _new_options(command(_new, "prints a new card in hex, and its values as comments: a file for @FILE"))

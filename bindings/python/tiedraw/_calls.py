@@ -3,12 +3,12 @@
 from __future__ import annotations
 
 import ctypes
-from ctypes import c_uint8, c_uint16, c_uint32
+from ctypes import c_int32, c_size_t, c_uint8, c_uint16, c_uint32
 from typing import Any, Callable, SupportsIndex
 
 from . import _library
 from ._library import MOST_CARD_BYTES, MOST_RECORD_BYTES, MOST_STRIP_WORDS, Chosen, MarginAnswer
-from ._numbers import Numbers, row, seconds_row, span, truck_number, whole
+from ._numbers import Numbers, Places, metres, metres_row, row, seconds_row, shovels_and_places, span, truck_number, whole
 from ._refusal import unless_refused
 from ._values import BitCounts, Choice, Margin, Record, Recorded, Values
 
@@ -140,6 +140,37 @@ def margin(card: Numbers, state: Numbers, shovels: Numbers, times: Numbers) -> M
     equally small changes the one of the lower shovel number is told, then lowered before raised.
     """
     return margin_of(_on_state(_library.margin, card, state, *_lists(shovels, times))[0])
+
+
+def pick_by_map(
+    card: Numbers, state: Numbers, x: SupportsIndex, y: SupportsIndex, shovels: Numbers, xs: Numbers, ys: Numbers
+) -> tuple[Choice, tuple[int, ...]]:
+    """The shovel nearest to a truck at (x, y), the number of ties and of words taken, and the state after the pick.
+
+    Coordinates are whole metres, each from -1,000,000 to 1,000,000, and shovel i stands at (xs[i], ys[i]). Others are refused
+    by 25, however wide, before too many ties by 18.
+    """
+    place, listed = (metres("x", x), metres("y", y)), row(c_uint16, "shovels", shovels)
+    answer, after = _on_state(_library.pick_by_map, card, state, *place, *listed, *metres_row("xs", xs), *metres_row("ys", ys))
+    return choice_of(answer), after
+
+
+def placed(places: Places) -> tuple[Any, ...]:
+    """Shovels and their coordinates, as C takes them."""
+    shovels, xs, ys = shovels_and_places(places)
+    count, length = len(shovels), c_size_t(len(shovels))
+    return (c_uint16 * count)(*shovels), length, (c_int32 * count)(*xs), length, (c_int32 * count)(*ys), length
+
+
+def within(x: SupportsIndex, y: SupportsIndex, radius: SupportsIndex, places: Places) -> list[int]:
+    """The numbers of the shovels within a radius around (x, y), its edge counted, by distance and then by number.
+
+    Places are {shovel: (x, y)} or pairs (shovel, (x, y)), in whole metres; the radius is 0 to 3,000,000 of them. No card is
+    needed. Lists are refused by 13 to 15, as those of a pick, and then a coordinate or radius outside its limits by 25.
+    """
+    answer = _library.within(metres("x", x), metres("y", y), metres("radius", radius), *placed(places))
+    unless_refused(answer.refusal)
+    return answer.shovels[: answer.count]
 
 
 def bit_counts(card: Numbers, words: Numbers, room: SupportsIndex | None = None) -> BitCounts:

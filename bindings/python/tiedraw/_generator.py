@@ -4,15 +4,15 @@ from __future__ import annotations
 
 import sys
 from array import array
-from ctypes import byref, c_size_t, c_uint8, c_uint16, c_uint32
+from ctypes import byref, c_int32, c_size_t, c_uint8, c_uint16, c_uint32
 from functools import partial
 from threading import RLock
 from typing import Any, SupportsIndex
 
 from ._buffers import Buffer, address, words_of
-from ._calls import choice_of, margin_of, record_size, recorded_of, step
+from ._calls import choice_of, margin_of, placed, record_size, recorded_of, step
 from ._library import Chosen, MarginAnswer, Word, call
-from ._numbers import Numbers, Times, natural, row, shovels_and_times, span, truck_number
+from ._numbers import Numbers, Places, Times, metres, natural, row, shovels_and_times, span, truck_number
 from ._refusal import unless_refused
 from ._values import Choice, Margin, Recorded
 
@@ -24,6 +24,7 @@ _fill = call("tiedraw_fill", c_uint8)
 _pick = call("tiedraw_pick", Chosen)
 _pick_recorded = call("tiedraw_pick_recorded", Chosen)
 _margin = call("tiedraw_margin", MarginAnswer)
+_pick_by_map = call("tiedraw_pick_by_map", Chosen)
 
 
 def _lists(times: Times) -> tuple[Any, ...]:
@@ -52,6 +53,7 @@ class Generator:
         "_pick",
         "_pick_recorded",
         "_margin",
+        "_pick_by_map",
         "__weakref__",
     )
 
@@ -68,6 +70,7 @@ class Generator:
         self._pick = partial(_pick, *lent)
         self._pick_recorded = partial(_pick_recorded, *lent)
         self._margin = partial(_margin, *lent)
+        self._pick_by_map = partial(_pick_by_map, *lent)
 
     @property
     def card(self) -> bytes:
@@ -159,6 +162,21 @@ class Generator:
             answer: MarginAnswer = self._margin(*lists)
         unless_refused(answer.refusal)
         return margin_of(answer)
+
+    def pick_by_map(self, x: SupportsIndex, y: SupportsIndex, places: Places) -> Choice:
+        """The shovel nearest to a truck at (x, y), from {shovel: (x, y)} or pairs (shovel, (x, y)); for when times are missing.
+
+        Places are in whole metres, and the nearest has the least squared distance. Ties are broken as by a pick, on the same
+        state, and such picks and those by times may follow each other in any order. A coordinate that is not from -1,000,000
+        to 1,000,000 is refused by 25, however wide it is, before too many ties by 18; nothing has changed then.
+
+        An error names a coordinate by what is written to get it: places[7][0] of a mapping, places[0][1][0] of pairs.
+        """
+        place, lists = (c_int32(metres("x", x)), c_int32(metres("y", y))), placed(places)
+        with self._lock:
+            answer: Chosen = self._pick_by_map(*place, *lists)
+        unless_refused(answer.refusal)
+        return choice_of(answer)
 
     def __eq__(self, other: object) -> bool:
         if not isinstance(other, Generator):

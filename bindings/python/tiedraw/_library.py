@@ -17,6 +17,8 @@ MOST_CARD_BYTES = 267
 MOST_TAKEN = 16
 MOST_RECORD_BYTES = 8 + 4 * MOST_WORDS
 MOST_STRIP_WORDS = 16384
+MOST_COORDINATE = 1000000
+MOST_RADIUS = 3000000
 
 
 class Card(ctypes.Structure):
@@ -135,6 +137,13 @@ class Counted(ctypes.Structure):
     refusal: int
 
 
+class WithinAnswer(ctypes.Structure):
+    _fields_ = [("shovels", c_uint16 * MOST_SHOVELS), ("count", c_uint8), ("refusal", c_uint8)]
+    shovels: ctypes.Array[c_uint16]
+    count: int
+    refusal: int
+
+
 def library_version() -> str:
     """The version of the library that is loaded."""
     return VERSION
@@ -156,6 +165,7 @@ _BYTES = [POINTER(c_uint8), c_size_t]
 _ON_STATE = [*_BYTES, POINTER(c_uint32), c_size_t]
 _LISTS = [POINTER(c_uint16), c_size_t, POINTER(c_uint32), c_size_t]
 _SPAN = [POINTER(c_uint32), c_size_t, c_size_t, c_size_t]
+_PLACED = [POINTER(c_uint16), c_size_t, POINTER(c_int32), c_size_t, POINTER(c_int32), c_size_t]
 
 check: Callable[..., int] = call("tiedraw_check", c_uint8, _BYTES)
 read: Callable[..., Reading] = call("tiedraw_read", Reading, _BYTES)
@@ -168,6 +178,8 @@ pick_recorded: Callable[..., Chosen] = call("tiedraw_pick_recorded", Chosen, _ON
 read_record: Callable[..., RecordReading] = call("tiedraw_read_record", RecordReading, _BYTES)
 order: Callable[..., OrderAnswer] = call("tiedraw_order", OrderAnswer, [c_uint16, *_BYTES])
 margin: Callable[..., MarginAnswer] = call("tiedraw_margin", MarginAnswer, _ON_STATE + _LISTS)
+pick_by_map: Callable[..., Chosen] = call("tiedraw_pick_by_map", Chosen, [*_ON_STATE, c_int32, c_int32, *_PLACED])
+within: Callable[..., WithinAnswer] = call("tiedraw_within", WithinAnswer, [c_int32, c_int32, c_int32, *_PLACED])
 count_bits: Callable[..., Counted] = call("tiedraw_count_bits", Counted, [*_BYTES, POINTER(c_uint32), c_size_t, *_BYTES])
 write: Callable[..., Written] = call(
     "tiedraw_write", Written, [c_uint8, c_uint8, *_BYTES, c_uint8, c_uint8, c_uint32, c_uint8, c_uint8, *_BYTES]

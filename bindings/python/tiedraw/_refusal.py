@@ -24,19 +24,20 @@ class Refusal(enum.IntEnum):
     POWER_PARITY = 9, "powers", "the odd power is even, or the even power is odd"
     WORD_COUNT = 10, "word count", "the state has not as many words as the card says"
     WORD_TOO_WIDE = 11, "high bits", "a state word is wider than the card says"
-    LENGTH_MISMATCH = 12, "uneven", "shovels and times differ in count"
+    LENGTH_MISMATCH = 12, "uneven", "shovels and times, or shovels and their places, differ in count"
     NO_SHOVEL = 13, "no shovel", "the list is empty"
     TOO_MANY_SHOVELS = 14, "crowd", "more than 64 shovels"
     DUPLICATE_SHOVEL = 15, "twice", "a shovel number stands twice"
     BUFFER_TOO_SMALL = 16, "small page", "the page has fewer bytes than the card or the record needs"
     SPAN_OUT_OF_BOUNDS = 17, "span", "the place is past the strip's end, or the count does not fit behind it"
-    TOO_MANY_TIES = 18, "too many equals", "more shovels have the least time than there are words, 2^n"
+    TOO_MANY_TIES = 18, "too many equals", "more shovels are nearest than there are words, 2^n"
     NO_SUCH_CHANGE = 19, "firm", "no change of one shovel's time sends the truck elsewhere"
     MALFORMED_RECORD = 20, "torn", "a record's map, state count or length is not of its form"
     TRUCK_MISMATCH = 21, "other truck", "the record is of another truck than the cab's"
     STRIP_TOO_LONG = 22, "strip too long", "the strip has more than 16,384 words"
     STRIP_WORD_TOO_WIDE = 23, "strip bits", "a strip word is wider than the card says"
     BIT_PAGE_TOO_SMALL = 24, "bit page", "the page has fewer bytes than the strip has bits"
+    OFF_MAP = 25, "off map", "a coordinate is outside -1,000,000 to 1,000,000, or the radius outside 0 to 3,000,000"
 
     def __new__(cls, number: int, trade_word: str, when: str) -> Refusal:
         self = int.__new__(cls, number)

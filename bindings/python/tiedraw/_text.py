@@ -1,4 +1,4 @@
-"""Cards, states, shovels, records and counts as text, for the command line. What is no such text raises ValueError."""
+"""Cards, states, shovels, places, records and counts as text, for the command line. What is no such text raises ValueError."""
 
 from __future__ import annotations
 
@@ -63,6 +63,22 @@ def shovel_time(text: str) -> tuple[int, int]:
     if not equals:
         raise ValueError(f"{shown(text)} is not SHOVEL=SECONDS")
     return whole("SHOVEL", number(shovel), 16), whole("SECONDS", number(seconds), 32)
+
+
+def metres(text: str) -> int:
+    """Whole metres in decimal; negative ones have a minus sign."""
+    if not re.fullmatch("-?[0-9]{1,20}", text):
+        raise ValueError(f"{shown(text)} is not a whole number of metres")
+    return int(text)
+
+
+def shovel_place(text: str) -> tuple[int, tuple[int, int]]:
+    """SHOVEL=X:Y in decimal."""
+    found = re.fullmatch("([^=]*)=([^:]*):([^:]*)", text)
+    if not found:
+        raise ValueError(f"{shown(text)} is not SHOVEL=X:Y")
+    shovel, x, y = found.groups()
+    return whole("SHOVEL", number(shovel), 16), (metres(x), metres(y))
 
 
 def state_text(words: Iterable[int]) -> str:

@@ -6,10 +6,10 @@ from typing import NamedTuple, Sequence
 
 
 class Choice(NamedTuple):
-    """What a pick answers: the shovel's number, how many shovels had the least time, and how many words were taken.
+    """What a pick answers: the shovel's number, how many shovels were nearest, and how many words were taken.
 
-    No word is taken where one shovel alone had it, else 1 to 16. The state has made as many steps, so that as many steps
-    back take the pick back.
+    Nearest are those of the least time or, by the map, of the least distance. No word is taken where one alone is, else 1 to
+    16. The state has made as many steps, so that as many steps back take the pick back.
     """
 
     shovel: int

@@ -1,7 +1,7 @@
 //! The functions and structs of `include/tiedraw.h`, as they stand there. Nothing here compares versions.
 #![allow(missing_docs)] // the header has them
 
-use crate::{MOST_WORDS, TABLE_SIZE};
+use crate::{MOST_SHOVELS, MOST_WORDS, TABLE_SIZE};
 
 #[repr(C)]
 pub struct Card {
@@ -86,6 +86,13 @@ pub struct BitCounts {
     pub refusal: u8,
 }
 
+#[repr(C)]
+pub struct WithinAnswer {
+    pub shovels: [u16; MOST_SHOVELS],
+    pub count: u8,
+    pub refusal: u8,
+}
+
 extern "C" {
     pub fn tiedraw_version() -> u32;
     pub fn tiedraw_check(card: *const u8, card_len: usize) -> u8;
@@ -139,6 +146,31 @@ extern "C" {
         times: *const u32,
         time_count: usize,
     ) -> MarginAnswer;
+    pub fn tiedraw_pick_by_map(
+        card: *const u8,
+        card_len: usize,
+        state: *mut u32,
+        words: usize,
+        x: i32,
+        y: i32,
+        shovels: *const u16,
+        shovel_count: usize,
+        xs: *const i32,
+        x_count: usize,
+        ys: *const i32,
+        y_count: usize,
+    ) -> Choice;
+    pub fn tiedraw_within(
+        x: i32,
+        y: i32,
+        radius: i32,
+        shovels: *const u16,
+        shovel_count: usize,
+        xs: *const i32,
+        x_count: usize,
+        ys: *const i32,
+        y_count: usize,
+    ) -> WithinAnswer;
     pub fn tiedraw_count_bits(
         card: *const u8,
         card_len: usize,

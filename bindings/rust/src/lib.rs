@@ -3,7 +3,9 @@
 //! [`Generator`] holds an accepted card and a state of its size, so that its draws, fills and steps can't be refused; a
 //! list of [`Shovel`]s can't have more numbers than times. [`Generator::margin`] tells how near a pick would be, and
 //! moves nothing. [`Generator::pick_recorded`] also gives the record of a tie, which [`read_record`] reads for the desk
-//! and [`order_for`] for a cab. [`Card::bit_counts`] gives words as bits for the tests of NIST SP 800-22, with their counts.
+//! and [`order_for`] for a cab. [`Generator::pick_by_map`] picks by places where times are missing, and
+//! [`Place::shovels_within`] lists the shovels within a radius. [`Card::bit_counts`] gives words as bits for the tests of
+//! NIST SP 800-22, with their counts.
 //! The functions of this module are the library's own, on slices, for callers who keep card and state themselves.
 //!
 //! Every call panics where the library has another major or minor version than this binding ([`check_version`]).
@@ -22,11 +24,13 @@
 
 mod bits;
 pub mod ffi;
+mod map;
 mod record;
 mod refusal;
 mod version;
 
 pub use bits::{bit_counts, BitCounts};
+pub use map::{pick_by_map, within, Place, PlacedShovel};
 pub use record::{order_for, pick_recorded, read_record, Record, RecordBytes};
 pub use refusal::Refusal;
 pub use version::{check_version, library_version, Version, VersionMismatch, VERSION};
@@ -45,6 +49,10 @@ pub const MOST_TAKEN: usize = 16;
 pub const MOST_RECORD_BYTES: usize = 8 + 4 * MOST_WORDS;
 /// No strip whose bits are counted has more words.
 pub const MOST_STRIP_WORDS: usize = 16384;
+/// No coordinate is further from 0, in metres.
+pub const MOST_COORDINATE: i32 = 1000000;
+/// No radius is greater, in metres.
+pub const MOST_RADIUS: i32 = 3000000;
 
 /// The card of TSC-1: every field absent.
 const TSC1: &[u8] = &[0];
@@ -54,9 +62,9 @@ const TSC1: &[u8] = &[0];
 pub struct Choice {
     /// the number of the shovel that is chosen
     pub shovel: u16,
-    /// how many had the least time
+    /// how many were nearest: had the least time or, by the map, the least distance
     pub ties: u8,
-    /// how many words were taken, 0 where one alone had the least time; as many steps back take the pick back
+    /// how many words were taken, 0 where one alone was nearest; as many steps back take the pick back
     pub taken: u8,
 }
 

@@ -34,19 +34,20 @@ refusals! {
     (PowerParity, "powers", "the odd power is even, or the even power is odd"),
     (WordCount, "word count", "the state has not as many words as the card says"),
     (WordTooWide, "high bits", "a state word is wider than the card says"),
-    (LengthMismatch, "uneven", "shovels and times differ in count"),
+    (LengthMismatch, "uneven", "shovels and times, or shovels and their places, differ in count"),
     (NoShovel, "no shovel", "the list is empty"),
     (TooManyShovels, "crowd", "more than 64 shovels"),
     (DuplicateShovel, "twice", "a shovel number stands twice"),
     (BufferTooSmall, "small page", "the page has fewer bytes than the card or the record needs"),
     (SpanOutOfBounds, "span", "the place is past the strip's end, or the count does not fit behind it"),
-    (TooManyTies, "too many equals", "more shovels have the least time than there are words, 2^n"),
+    (TooManyTies, "too many equals", "more shovels are nearest than there are words, 2^n"),
     (NoSuchChange, "firm", "no change of one shovel's time sends the truck elsewhere"),
     (MalformedRecord, "torn", "a record's map, state count or length is not of its form"),
     (TruckMismatch, "other truck", "the record is of another truck than the cab's"),
     (StripTooLong, "strip too long", "the strip has more than 16,384 words"),
     (StripWordTooWide, "strip bits", "a strip word is wider than the card says"),
     (BitPageTooSmall, "bit page", "the page has fewer bytes than the strip has bits"),
+    (OffMap, "off map", "a coordinate is outside -1,000,000 to 1,000,000, or the radius outside 0 to 3,000,000"),
 }
 
 impl Refusal {

@@ -5,6 +5,7 @@ use harness::bit_subjects::counts;
 use harness::by_hand::gates::fill_by_gates;
 use harness::by_hand::{self, fill_by_columns, fill_by_joined_columns, fill_by_masks, Fill, State};
 use harness::jitter::steady;
+use harness::map_subjects::{lists, picks, spread, tied};
 use harness::record_subjects::{cabs, desks, recorded_pick};
 use harness::subjects::{check, draw, fill, fill_by_hand, step, step_back, SPAN};
 use harness::ten_million;
@@ -21,6 +22,8 @@ const MARGINS: usize = 100_000;
 const LONG_MARGINS: usize = 10_000;
 /// counts of bits
 const COUNTS: usize = 1_000;
+/// lists within a radius
+const LISTS: usize = 100_000;
 /// checks, draws and steps back for each number of words
 const ROW_CALLS: usize = 200_000;
 
@@ -175,6 +178,8 @@ const MOST_OF_SHORT: f64 = 10.0;
 const MOST_OF_RECORDED: f64 = 1.5;
 /// counts of bits to Rust's
 const MOST_OF_COUNTS: f64 = 1.5;
+/// the most microseconds of a list within a radius, of 64 shovels
+const MOST_OF_LISTS: f64 = 10.0;
 /// the slowest selector to the quickest
 const MOST_OF_JITTER: f64 = 1.05;
 
@@ -215,8 +220,8 @@ struct Bench {
     subjects: Vec<Subject>,
     ratios: Vec<Ratio>,
     rows: Vec<Row>,
-    /// places of the margins of 64
-    long_margins: Vec<usize>,
+    /// places of what has a goal in microseconds, and the most
+    limits: Vec<(usize, f64)>,
 }
 
 impl Bench {
@@ -381,7 +386,35 @@ impl Bench {
         }
         for (name, list) in LONG {
             let margin = self.add_margin(name, LONG_MARGINS, list);
-            self.long_margins.push(margin);
+            self.limits.push((margin, MOST_OF_LONG));
+        }
+    }
+
+    /// Picks by the map beside Rust's.
+    fn add_map_picks(&mut self) {
+        for (count, ties) in [(5, 1), (5, 2), (64, 1), (64, 64)] {
+            let name = format!("{ties} of {count} shovels nearest");
+            let library = format!("pick by map: {name}, P1");
+            let rust =
+                format!("Rust by hand, {name}, P1: its pick by map, the card's part worked out");
+            let subjects = picks([&library, &rust], CALLS, &tied(count, ties));
+            let [library, rust] = subjects.map(|subject| self.add(subject));
+            let name = format!("pick by map to Rust by hand: {name}");
+            self.ratio(&name, library, rust, None);
+        }
+    }
+
+    /// Lists of 64 shovels within a radius, beside Rust's. They stand a kilometre apart.
+    fn add_lists(&mut self) {
+        for near in [64, 32] {
+            let library = format!("within: {near} of 64 shovels");
+            let rust = format!("Rust by hand, within: {near} of 64 shovels");
+            let radius = 1000 * i32::from(near);
+            let subjects = lists([&library, &rust], LISTS, &spread(64), radius, near);
+            let [library, rust] = subjects.map(|subject| self.add(subject));
+            self.limits.push((library, MOST_OF_LISTS));
+            let name = format!("within to Rust by hand: {near} of 64 shovels");
+            self.ratio(&name, library, rust, None);
         }
     }
 
@@ -397,6 +430,8 @@ impl Bench {
         bench.add_margins();
         bench.add_readers();
         bench.add_counts();
+        bench.add_map_picks();
+        bench.add_lists();
         bench.add_rows();
         bench.subjects.extend(others());
         bench
@@ -443,13 +478,13 @@ fn holds(ratio: &Ratio, best: &[f64]) -> bool {
     }
 }
 
-/// Whether the margins of 64 shovels are within their goal.
-fn quick_margins(bench: &Bench, best: &[f64]) -> bool {
-    let quick = |&place: &usize| {
+/// Whether all that has a goal in microseconds is within it.
+fn quick_calls(bench: &Bench, best: &[f64]) -> bool {
+    let quick = |&(place, most): &(usize, f64)| {
         let name = format!("{}, in microseconds", bench.subjects[place].name);
-        within(&name, best[place] / 1000.0, MOST_OF_LONG)
+        within(&name, best[place] / 1000.0, most)
     };
-    let held: Vec<bool> = bench.long_margins.iter().map(quick).collect();
+    let held: Vec<bool> = bench.limits.iter().map(quick).collect();
     !held.contains(&false)
 }
 
@@ -513,7 +548,7 @@ fn main() {
         .iter()
         .map(|ratio| holds(ratio, &best))
         .collect();
-    let quick = quick_margins(&bench, &best);
+    let quick = quick_calls(&bench, &best);
     let steady = steady_calls();
     exit(i32::from(
         held.contains(&false) || !many || !quick || !steady,

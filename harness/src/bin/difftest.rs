@@ -1,9 +1,10 @@
 //! The library against the second program on random inputs, and the check against walks counted out. `difftest SEED INPUTS`.
 
 use harness::calls::bits::{compare_bits, ToldBits, BITS};
+use harness::calls::map::{compare_map, ToldMap, MAPS};
 use harness::calls::records::{compare_records, ToldRecords, RECORDS};
 use harness::calls::{compare, compare_margin, Told, ToldMargin};
-use harness::calls::{CALLS, CARDS, FIELDS, MARGIN, MARGINS, NIST, P1};
+use harness::calls::{CALLS, CARDS, FIELDS, MAPPICK, MARGIN, MARGINS, NIST, P1, WITHIN};
 use harness::hex;
 use harness::inputs::{sound_form, Input};
 use harness::random::Random;
@@ -21,6 +22,8 @@ const OF_MARGIN: usize = 125;
 const OF_RECORDS: usize = 250;
 /// inputs of the counts of bits beside each block
 const OF_BITS: usize = 250;
+/// inputs by the map beside each block
+const OF_MAP: usize = 200;
 /// The sizes whose walks are counted out, and cards of each: up to 12 bits of a state with two to four words, up to 16 with
 /// five to eight.
 const WALKS: [(u8, u8, usize); 15] = [
@@ -44,7 +47,7 @@ const WALKS: [(u8, u8, usize); 15] = [
 const OF_WALKS: usize = 100;
 
 /// the last refusal's number
-const REFUSALS: usize = 24;
+const REFUSALS: usize = 25;
 
 /// The refusals that each call has, 0 for none: all of them must come up.
 const TELLS: [&[usize]; CALLS.len()] = [
@@ -61,10 +64,12 @@ const TELLS: [&[usize]; CALLS.len()] = [
     &[0, 20],
     &[0, 20, 21],
     &[0, 1, 2, 3, 4, 5, 6, 7, 8, 9, 22, 23, 24],
+    &[0, 1, 2, 3, 4, 5, 6, 7, 8, 9, 10, 11, 12, 13, 14, 15, 18, 25],
+    &[0, 12, 13, 14, 15, 25],
 ];
 
 /// The same on P1, of the calls that make steps.
-const P1_TELLS: [(&str, &[usize]); 7] = [
+const P1_TELLS: [(&str, &[usize]); 8] = [
     ("step", &[0, 10]),
     ("step_back", &[0, 10]),
     ("draw", &[0, 10]),
@@ -72,6 +77,7 @@ const P1_TELLS: [(&str, &[usize]); 7] = [
     ("pick", &[0, 10, 12, 13, 14, 15]),
     ("margin", &[0, 10, 12, 13, 14, 15, 19]),
     ("recpick", &[0, 10, 12, 13, 14, 15, 16]),
+    ("mappick", &[0, 10, 12, 13, 14, 15, 25]),
 ];
 /// once in so many calls at least they answer on P1 without a refusal
 const P1_ONCE_IN: usize = 50;
@@ -80,7 +86,7 @@ const P1_ONCE_IN: usize = 50;
 type Answers = [[usize; REFUSALS + 1]; CALLS.len()];
 
 /// How often each call told each refusal, how many picks passed over how many words, how many words were filled in, how many
-/// margins, records and counts there were of each kind, and how many recorded picks with each number of ties.
+/// margins, records, counts and inputs by the map there were of each kind, and how many recorded picks with each number of ties.
 #[derive(Default)]
 struct Tally {
     told: [Answers; CARDS.len()],
@@ -97,6 +103,7 @@ struct Tally {
     /// pairs of records that differ in all but truck and shovel
     twins: usize,
     bits: [usize; BITS.len()],
+    maps: [usize; MAPS.len()],
 }
 
 /// Recorded picks by how many shovels were equally near, from 1 on: the first are those without a tie.
@@ -153,6 +160,7 @@ impl Tally {
         add_up(&mut self.records, &other.records);
         self.twins += other.twins;
         add_up(&mut self.bits, &other.bits);
+        add_up(&mut self.maps, &other.maps);
     }
 
     fn count_answer(&mut self, call: usize, refusal: u8, card: usize) {
@@ -199,6 +207,12 @@ impl Tally {
     fn count_bits(&mut self, told: ToldBits) {
         self.count_answer(NIST, told.refusal, told.card);
         add_up(&mut self.bits, &told.kinds.map(usize::from));
+    }
+
+    fn count_map(&mut self, told: ToldMap) {
+        self.count_answer(MAPPICK, told.pick, told.card);
+        self.count_answer(WITHIN, told.list, told.card);
+        add_up(&mut self.maps, &told.kinds.map(usize::from));
     }
 
     /// One of the refusals that a call never told on these cards.
@@ -254,7 +268,8 @@ impl Tally {
         no_pick.or(no_page).or(no_record).or(no_twins)
     }
 
-    /// What never came up: a refusal of a call, a number of words passed over, a kind of margin or of counts, or what P1 and records must have.
+    /// What never came up: a refusal of a call, a number of words passed over, a kind of margin, of counts or by the map, or what P1 and records
+    /// must have.
     fn missing(&self) -> Option<String> {
         let empty = self.picks.iter().position(|&picks| picks == 0);
         let no_pick = empty.map(|column| match column {
@@ -266,8 +281,10 @@ impl Tally {
         let no_record = self.missing_record();
         let empty = self.bits.iter().position(|&inputs| inputs == 0);
         let no_bits = empty.map(|kind| format!("no strip {}", BITS[kind]));
+        let empty = self.maps.iter().position(|&inputs| inputs == 0);
+        let no_map = empty.map(|kind| format!("no {}", MAPS[kind]));
         let missing = self.untold().or(self.missing_p1()).or(no_pick);
-        missing.or(no_margin).or(no_record).or(no_bits)
+        missing.or(no_margin).or(no_record).or(no_bits).or(no_map)
     }
 
     /// How many words all picks passed over.
@@ -329,6 +346,10 @@ fn compare_block(seed: u64, block: usize) -> Result<Tally, String> {
     for _ in 0..OF_BITS {
         tally.count_bits(told(Input::of_bits(&mut random), compare_bits)?);
     }
+    let mut random = Random::new(seed ^ 1 << 59, block as u64);
+    for _ in 0..OF_MAP {
+        tally.count_map(told(Input::of_map(&mut random), compare_map)?);
+    }
     Ok(tally)
 }
 
@@ -382,6 +403,11 @@ fn print_bits(total: &Tally) {
     println!("{:>9} {}", "", columns(&total.bits));
 }
 
+fn print_maps(total: &Tally) {
+    println!("by the map, picks of one nearest, of equals at different places, at one, of 64, with more than 32 bits, from corner to corner; lists of none, some, all, 64, with one on the edge, just outside, of radius 0 and 3000000; then off the map by truck, shovel, the least number, radii of -1 and 3000001; then uneven by xs, ys, both alike and all three:");
+    println!("{:>9} {}", "", columns(&total.maps));
+}
+
 fn compare_inputs(seed: u64, inputs: usize) {
     let blocks = inputs.div_ceil(BLOCK);
     let mut total = Tally::default();
@@ -404,10 +430,15 @@ fn compare_inputs(seed: u64, inputs: usize) {
         "{} strips whose bits were counted: no difference; also read back, reversed and flipped",
         blocks * OF_BITS
     );
+    println!(
+        "{} picks by the map and as many lists within a radius: no difference; also in another order, turned, and as timed picks",
+        blocks * OF_MAP
+    );
     print_answers(&total);
     print_p1(&total);
     print_records(&total);
     print_bits(&total);
+    print_maps(&total);
     if let Some(missing) = total.missing() {
         println!("{missing}: too few inputs");
         exit(1);

@@ -120,7 +120,7 @@ pub fn random_list(maker: &mut Maker, length: usize, ties: usize) -> Vec<(u16, u
 
 /// The lowest place's shovel and the difference from place to place, most of them small to keep
 /// the lines short: 65535 and up from 0; a hundred or so and up; any 16 bits.
-fn random_shovels(maker: &mut Maker) -> (u16, u16) {
+pub(super) fn random_shovels(maker: &mut Maker) -> (u16, u16) {
     match maker.below(8) {
         0..=3 => (65535, 1),
         4..=6 => (maker.below(300) as u16, 1 + maker.below(9) as u16),

@@ -77,6 +77,46 @@ const FORMS: [&[u8]; 58] = [
     "٣".as_bytes(), // the digit 3 in Arabic
 ];
 
+/// The same for fields with a sign, places and lists of places.
+const SIGNED_FORMS: [&str; 36] = [
+    "1:1",
+    "0:0",
+    "-0:-0",
+    "00:-00",
+    "-1:1",
+    "1:-1",
+    "-1:-1",
+    "+1:1",
+    "1:+1",
+    "--1:1",
+    "1:--1",
+    "1-:1",
+    "1:1-",
+    "-:1",
+    "1:-",
+    ":",
+    "1:",
+    ":1",
+    "1::1",
+    "1:1:1",
+    "1;1",
+    "1.1",
+    "a:1",
+    "0x1:1",
+    "1:1e1",
+    "2147483647:-2147483648",
+    "2147483648:0",
+    "0:-2147483649",
+    "-2147483648",
+    "2147483648",
+    "3:4,-5:0",
+    "3:4,-5:0,",
+    ",3:4,-5:0",
+    "3:4,,-5:0",
+    "3:4,-",
+    "3:4,5,-6:0",
+];
+
 /// Lines of other kinds; some are comments.
 const LINES: [&[u8]; 43] = [
     b"",
@@ -207,6 +247,15 @@ pub fn forms_at(maker: &mut Maker, sample: &str, place: usize) {
     for form in FORMS {
         fields[place] = form;
         maker.line(fields.join(&b' '));
+    }
+}
+
+/// The sample with each form of a number with a sign, of a place and of places in place of one field.
+pub fn signed_forms_at(maker: &mut Maker, sample: &str, place: usize) {
+    let mut fields: Vec<&str> = sample.split(' ').collect();
+    for form in SIGNED_FORMS {
+        fields[place] = form;
+        maker.line(fields.join(" "));
     }
 }
 
