@@ -147,7 +147,7 @@ nist: lib ## a million bits of P1 for the published suite of NIST SP 800-22, in 
 fmt: ## the files of Rattle laid out
 	rt fmt
 
-pictures: ## the pictures of docs/PROOFS.md and docs/PERFORMANCE.md, drawn anew
+pictures: ## the pictures of docs/PROOFS.md, docs/OPERATING.md and docs/PERFORMANCE.md, drawn anew
 	python3 docs/pictures/pictures.py
 	python3 docs/pictures/words.py
 

@@ -36,7 +36,7 @@ extern "C" {
 #define TIEDRAW_VERSION_PATCH 4
 #define TIEDRAW_VERSION_NUMBER (TIEDRAW_VERSION_MAJOR * 1000000 + TIEDRAW_VERSION_MINOR * 1000 + TIEDRAW_VERSION_PATCH)
 
-/* The most words of a state, entries of a table, bytes of an accepted card, shovels of a pick, words taken for it,
+/* The most words of a state, entries of a table, bytes of an accepted card, shovels of a list, words taken for a pick,
    bytes of a record, and words of a strip whose bits are counted; the greatest coordinate and radius, in metres. */
 #define TIEDRAW_MOST_WORDS 8
 #define TIEDRAW_TABLE_SIZE (1 << TIEDRAW_MOST_WORDS)

@@ -13,7 +13,8 @@ use Rattle.ties.specs.Ties.{ties, hasRank}
 use Rattle.changes.specs.declared.Change.{Change}
 use Rattle.changes.specs.Change.{mostTime, Within, changed, Counts, NoLater}
 use Rattle.changes.specs.Others.{changeTo}
-use Rattle.changes.proofs.After.{LeastOther, same-count, same-rank}
+use Rattle.ties.proofs.Alike.{same-count, same-rank}
+use Rattle.changes.proofs.After.{LeastOther}
 use Rattle.changes.proofs.Order.{no-later-refl, no-later-trans, Told, before-told}
 use Rattle.changes.proofs.Nearest.{Close, Beside, ByTies, nearest, several}
 use Rattle.outcomes.specs.declared.Known.{Known}

@@ -1,2 +1,3 @@
+-- For the loops over the text of a case.
 pub mod Parts
 pub mod Folds

@@ -1,12 +1,11 @@
 -- A coordinate fits 32 bits, and so 64; and what a field says is as it is split.
-use mathlib.Core.Path.{_≡_, refl, sym, ap, _∙_}
+use mathlib.Core.Path.{_≡_, refl}
 use mathlib.Core.Bool.{Bool, true, false, cond}
-use Prim.Native.Nat.{ℕ, suc, _-_, _≤_, _<_}
+use Prim.Native.Nat.{ℕ, suc, _-_, _≤_}
 use native.Mathlib.Nat.{lt-of-le-of-lt}
 use native.Mathlib.Omega.{arith}
-use borrow.Author.Tests.{ltb-true, ltb-false}
 use lib.Dec.{ltb, lit<}
-use lib.IntN.{ℤ, pos, negsuc, subℕ}
+use lib.IntN.{pos, negsuc, subℕ}
 use mir.Syntax.{w32, w64}
 use mir.Val.{SFits}
 use mir.Facts.{sfits-widen}

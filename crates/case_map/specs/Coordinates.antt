@@ -1,6 +1,6 @@
 -- Places in the text of a case: x and y with a colon between, and lists of them. A coordinate is read as a number, 2^31 more than it is.
 use mathlib.Core.Bool.{Bool, cond, _&&_}
-use mathlib.Core.List.{List, [], map}
+use mathlib.Core.List.{List, map}
 use Prim.Native.Nat.{ℕ, _+_, _-_}
 use lib.Dec.{eqb, leb, ltb}
 use lib.IntN.{ℤ, pos, _-ℤ_}

@@ -13,7 +13,7 @@ use case_fields::list::ROOM;
 use case_fields::list::WORD;
 use case_numbers::number;
 
-// A call on these shovels and places.
+// A call on the first s of the shovels and their places; a full array can't be read, here and below.
 fn replay_call(
     ask: Ask,
     card: &[u8],
@@ -21,18 +21,22 @@ fn replay_call(
     x: i32,
     y: i32,
     shovels: &[u16],
+    s: usize,
     xs: &[i32],
     ys: &[i32],
 )
     requires { ⌜ state .count ≤ room ⌝ }
 {
+    if shovels.len() <= s {
+        return answer::print_syntax();
+    }
     match ask {
-        Ask::Pick => calls::print_map_pick(card, state, x, y, shovels, xs, ys),
-        Ask::Within(radius) => calls::print_within(x, y, radius, shovels, xs, ys),
+        Ask::Pick => calls::print_map_pick(card, state, x, y, &shovels[0..s], xs, ys),
+        Ask::Within(radius) => calls::print_within(x, y, radius, &shovels[0..s], xs, ys),
     }
 }
 
-// The first s of the shovels, and their places in a field; a full array can't be read.
+// The places in a field.
 fn replay_places(
     ask: Ask,
     card: &[u8],
@@ -49,29 +53,17 @@ fn replay_places(
     let ys = read::coordinates_of(field, true);
     let m = xs.count;
     let n = ys.count;
-    if shovels.len() <= s {
-        return answer::print_syntax();
-    }
     if ROOM <= m {
         return answer::print_syntax();
     }
     if ROOM <= n {
         return answer::print_syntax();
     }
-    let east = xs.words;
-    let north = ys.words;
-    let across = read::unbiased_all(east);
-    let up = read::unbiased_all(north);
-    replay_call(
-        ask,
-        card,
-        state,
-        x,
-        y,
-        &shovels[0..s],
-        &across[..m],
-        &up[..n],
-    );
+    let biased_xs = xs.words;
+    let biased_ys = ys.words;
+    let across = read::unbiased_all(biased_xs);
+    let up = read::unbiased_all(biased_ys);
+    replay_call(ask, card, state, x, y, shovels, s, &across[..m], &up[..n]);
 }
 
 // The shovels in field k and their places in the next.

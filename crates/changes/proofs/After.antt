@@ -11,10 +11,11 @@ use borrow.Author.Tests.{lt-ltb, le-ltb, lt-leb, eq-eqb, ne-eqb}
 use lib.Dec.{eqb, ltb}
 use lib.ListN.{length, getD, set, length-set}
 use lib.Seq.{getD-set-same, getD-set-other}
-use Rattle.cycle.specs.Notation.{one, count, first}
+use Rattle.cycle.specs.Notation.{one, count}
 use Rattle.cycle.proofs.Every.{every-not}
 use Rattle.cycle.proofs.Count.{count-next, count-ext, count-add, count-never}
-use Rattle.ties.specs.Ties.{isTie, ties, rank, hasRank, chosen}
+use Rattle.ties.specs.Ties.{isTie}
+use Rattle.ties.specs.Least.{SameTies}
 use Rattle.ties.proofs.Least.{tie-of}
 use Rattle.changes.specs.Others.{otherAt}
 
@@ -131,37 +132,6 @@ module _ (times : List ℕ) (i x : ℕ) (li : i < length times) (o : LeastOther 
 
   pub count-after : count (length (set times i v)) (λ j. isTie (set times i v) j && p j) ≡ cond (ltb v x) (one (p i)) (others + cond (eqb v x) (one (p i)) 0)
   count-after = ap (λ (n : ℕ). count n (λ j. isTie (set times i v) j && p j)) (length-set times i v) ∙ counted (ltb v x) (eqb v x) refl refl
-
--- ---- lists with the same ties
-
-pub record SameTies (times times₂ : List ℕ) : Type 0 where
-  pub size : length times ≡ length times₂
-  pub same : (j : ℕ) → j < length times → isTie times j ≡ isTie times₂ j
-
-first-ext : (n : ℕ) (p q : ℕ → Bool) → ((j : ℕ) → j < n → p j ≡ q j) → first n p ≡ first n q
-unfolding first
-first-ext zero p q h = refl
-first-ext (suc n) p q h = ap₂ (λ (b : Bool) (m : ℕ). cond b zero (suc m)) (h 0 (omega arith)) (first-ext n (λ j. p (suc j)) (λ j. q (suc j)) (λ j l. h (suc j) (omega arith)))
-
-module _ (times times₂ : List ℕ) (s : SameTies times times₂) where
-  pub same-count : ties times ≡ ties times₂
-  unfolding ties
-  same-count = rw (← s .size) (count-ext (length times) (isTie times) (isTie times₂) (s .same))
-
-  pub same-rank : (shovels : List ℕ) (y : ℕ) → rank shovels times y ≡ rank shovels times₂ y
-  unfolding rank
-  same-rank shovels y =
-      rw (← s .size)
-      (count-ext (length times) _ (λ j. isTie times₂ j && ltb (getD shovels j 0) y) (λ j l. ap (λ (b : Bool). b && ltb (getD shovels j 0) y) (s .same j l)))
-
-  -- the chosen number depends on the ties alone
-  pub same-chosen : (shovels : List ℕ) (r : ℕ) → chosen shovels times r ≡ chosen shovels times₂ r
-  unfolding chosen hasRank
-  same-chosen shovels r =
-      rw (← s .size)
-      (ap (λ (j : ℕ). getD shovels j 0)
-      (first-ext (length times) (hasRank shovels times r) (hasRank shovels times₂ r)
-      (λ j l. ap₂ (λ (b : Bool) (k : ℕ). b && eqb k r) (s .same j l) (same-rank shovels (getD shovels j 0)))))
 
 -- two times on the same side
 pub same-side : (times : List ℕ) (i x : ℕ) → i < length times → LeastOther times i x → (v w : ℕ) → ltb v x ≡ ltb w x → eqb v x ≡ eqb w x

@@ -1,19 +1,18 @@
 -- There is one least change at most, and the order of the list makes no difference to it.
 use mathlib.Core.Path.{_≡_, refl, sym, ap, _∙_, subst}
 use mathlib.Core.Logic.{_↔_}
-use mathlib.Core.Bool.{Bool, true, false}
+use mathlib.Core.Bool.{false}
 use mathlib.Core.List.{List}
 use Prim.Native.Nat.{ℕ, _≤_, _<_}
-use native.Mathlib.Decide.{ℕ-discrete, decLt}
+use native.Mathlib.Decide.{ℕ-discrete}
 use native.Mathlib.Omega.{arith}
-use borrow.Author.Tests.{eqb-true, eq-eqb, leb-true, not-false}
-use lib.Dec.{eqb, leb}
+use borrow.Author.Tests.{eqb-true, eq-eqb}
+use lib.Dec.{eqb}
 use lib.ListN.{length, getD, length-set}
 use lib.Seq.{ext-getD, getD-set-same, getD-set-other}
 use Rattle.cycle.specs.Notation.{count}
-use Rattle.cycle.proofs.Every.{every-at}
 use Rattle.cycle.proofs.Count.{one-place, count-one}
-use Rattle.ties.specs.Ties.{occurs, twice}
+use Rattle.ties.specs.Ties.{twice}
 use Rattle.ties.specs.Order.{Permutes, reordered}
 use Rattle.ties.proofs.Rank.{numbers-apart}
 use Rattle.ties.proofs.Order.{count-permute, length-reordered, getD-reordered}

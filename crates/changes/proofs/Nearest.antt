@@ -14,10 +14,11 @@ use lib.ListN.{length, getD, set, length-set}
 use lib.Seq.{set-getD}
 use Rattle.ties.specs.Ties.{isTie}
 use Rattle.ties.proofs.Least.{tie-of}
+use Rattle.ties.specs.Least.{SameTies}
 use Rattle.changes.specs.declared.Change.{Change}
 use Rattle.changes.specs.Change.{mostTime, moved, Within, changed, Counts, NoLater}
 use Rattle.changes.specs.Others.{changeTo}
-use Rattle.changes.proofs.After.{LeastOther, SameTies, same-side}
+use Rattle.changes.proofs.After.{LeastOther, same-side}
 
 -- ---- a change to v
 

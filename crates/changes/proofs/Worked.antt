@@ -16,7 +16,8 @@ use Rattle.ties.specs.Ties.{isTie, ties, rank, hasRank, chosen}
 use Rattle.changes.specs.declared.Change.{Change}
 use Rattle.changes.specs.Change.{mostTime, moved, Within, changed, Counts, NoLater, LeastChange}
 use Rattle.changes.specs.Others.{changeTo, before}
-use Rattle.changes.proofs.After.{LeastOther, same-count, same-chosen}
+use Rattle.ties.proofs.Alike.{same-count, same-chosen}
+use Rattle.changes.proofs.After.{LeastOther}
 use Rattle.changes.proofs.Order.{no-later-trans, Told, before-told}
 use Rattle.changes.proofs.Nearest.{Beside, ByTies, nearest, several}
 

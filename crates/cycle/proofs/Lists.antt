@@ -1,4 +1,4 @@
--- For the loops: a list whose front is overwritten one by one, and what holds of all numbers below i.
+-- For the loops: lists whose front or part is written over, and arrays filled from the front.
 use mathlib.Core.Path.{_≡_, refl, sym, ap, ap₂, _∙_}
 use mathlib.Core.List.{List, [], _∷_, _++_, append-assoc, append-nil}
 use Prim.Native.Nat.{ℕ, zero, suc, _+_, _-_, _<_, _≤_}

@@ -4,9 +4,10 @@ use mathlib.Core.Bool.{Bool, true, false, cond}
 use mathlib.Core.List.{List, _++_}
 use Prim.Native.Nat.{ℕ, _+_, _-_, _^_}
 use native.Mathlib.Omega.{arith}
-use borrow.Author.Tests.{ne-eqb, le-ltb}
+use borrow.Author.Tests.{ne-eqb, le-ltb, leb-true, le-leb}
 use native.Mathlib.Nat.{lt-of-le-of-lt}
 use lib.Dec.{eqb, lit<}
+use lib.IntN.{natAbs}
 use lib.ListN.{length, getD, take, drop}
 use Rattle.cycle.proofs.Remainder.{multiple-is, multiple-largest, most-kept, ranks-fair}
 use Rattle.refusals.specs.Refusals.{Check, firstOf, NoneApplies}
@@ -66,16 +67,17 @@ use Rattle.bit_counts.proofs.Counting.{page-digits, page-back, page-rest}
 use Rattle.bit_counts.proofs.Examples.{examples-hold, no-bits}
 use Rattle.gates.proofs.Formulas.{bit-onWords, equation-16, equation-17}
 use Rattle.gates.proofs.GateStep.{card-p1, tsc1-alone, gate-step, gate-orbit}
-use Rattle.places.proofs.Distances.{squared-is, squared-zero, squared-le}
+use Rattle.places.proofs.Distances.{squared-is, squared-zero, squared-le, distance-is}
+use Rattle.places.proofs.Places.{radius-is}
 use Rattle.ties.specs.Ties.{ties, TieAt}
 use Rattle.samples.specs.Samples.{taken, drawnRank}
-use Rattle.places.specs.Places.{Places, distancesOf}
+use Rattle.places.specs.Places.{Places, distancesOf, mostCoordinate}
 use Rattle.map_picks.specs.MapPicks.{mapPickChecks, mapPickRefusal, mapPicking, mapPicked}
 use Rattle.map_picks.proofs.Timed.{map-timed, map-passed}
 use Rattle.map_picks.proofs.Order.{map-pick-order}
 use Rattle.map_picks.proofs.Shift.{mixed-alike, map-undone}
 use Rattle.nearby.specs.Calls.{withinChecks, listing, noList, withinRadius}
-use Rattle.nearby.proofs.Answers.{answer-exactly, answer-only, answer-ascending, answer-once, answer-past, within-order}
+use Rattle.nearby.proofs.Answers.{answer-exactly, answer-only, answer-ascending, answer-once, answer-length, answer-past, within-order}
 use Rattle.demands.specs.Demands.{ByTable, nothing, AnsweredOrRefused, Ready, Published, Undone, SameBytes, SameLots, AcceptedIffCovers, FilledAsDrawn, FairRanks, NearestChange, UpToEightWords, NoEarlyRepeat, CabAndDesk, BitsCounted, SameByGates, ByTheMap, Demands}
 
 -- ---- demand 1
@@ -347,7 +349,10 @@ by-the-map =
     record {
       squared = squared-is;
       samePlace = squared-zero;
+      measured = λ q. distance-is (q .x) (q .y) (q .xs) (q .ys);
       narrow = λ ax ay bx by h. lt-of-le-of-lt (squared-le ax ay bx by (h .0) (h .1 .0) (h .1 .1 .0) (h .1 .1 .1 .0)) (lit< tt);
+      coordinates = λ c. (leb-true (natAbs c) mostCoordinate, le-leb (natAbs c) mostCoordinate);
+      radii = radius-is;
       timed = map-timed;
       nearest = near;
       undone = map-undone;
@@ -357,6 +362,7 @@ by-the-map =
       onlyThese = λ q radius h. answer-only q radius (first-none (withinChecks q radius) h);
       ascending = λ q radius h. answer-ascending q radius (first-none (withinChecks q radius) h);
       once = λ q radius h. answer-once q radius (first-none (withinChecks q radius) h);
+      sixtyFour = answer-length;
       past = λ q radius h. answer-past q radius (first-none (withinChecks q radius) h);
       sameList = within-order;
     }

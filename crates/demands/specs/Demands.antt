@@ -32,17 +32,16 @@ use Rattle.gates.specs.Formulas.{Formula, onBits, onWords, equation16, equation
 use Rattle.gates.specs.Tsc1.{tsc1Card, GivesPower, gateStep}
 use Rattle.fills.specs.Fills.{fillChecks, fillRefusal, filled, filledState}
 use Rattle.fills.specs.Draws.{drawnStrip, drawsMade}
-use Rattle.ties.specs.Ties.{mostShovels, isTie, ties, chosen, TieAt}
+use Rattle.ties.specs.Ties.{isTie, ties, chosen, TieAt}
 use Rattle.ties.specs.Order.{SameShovels}
 use Rattle.samples.specs.Samples.{mostTaken, limit, taken, drawnRank, drawnState}
 use Rattle.picks.specs.declared.Pick.the-variants as Pick
 use Rattle.picks.specs.Picks.{pickChecks, picking, wordsTaken, picked}
 use Rattle.places.specs.Distances.{square, squaredDistance}
-use Rattle.places.specs.Places.{Places, distancesOf, paired, isOnMap, onMap}
+use Rattle.places.specs.Places.{Places, distancesOf, paired, isOnMap, onMap, isRadius}
 use Rattle.places.specs.Order.{SamePlaces}
 use Rattle.map_picks.specs.MapPicks.{mapPickChecks, mapPicking, mapPicked}
 use Rattle.map_picks.specs.Shift.{Call, mixedAnswers, mixedState, AlikeCalls}
-use Rattle.nearby.specs.Nearby.{isBefore}
 use Rattle.nearby.specs.Calls.{withinChecks, listing, noList, withinRadius}
 use Rattle.changes.specs.declared.Change.{Change}
 use Rattle.changes.specs.Change.{changed, Counts}
@@ -370,10 +369,15 @@ pub record SameByGates : Type 0 where
 -- are listed, edge counted, by distance and then number, as a count and 64 numbers, 0 past the count
 
 pub record ByTheMap : Type 0 where
-  -- squared distances are those of the integers, 0 at the same place alone, and on the map below 2^63
+  -- squared distances, from the truck to each shovel, are those of the integers, 0 at the same place alone, and on the map below 2^63
   pub squared : (ax ay bx by : ℤ) → pos (squaredDistance ax ay bx by) ≡ ((ax -ℤ bx) *ℤ (ax -ℤ bx)) +ℤ ((ay -ℤ by) *ℤ (ay -ℤ by))
   pub samePlace : (ax ay bx by : ℤ) → (squaredDistance ax ay bx by ≡ 0) ↔ ((ax ≡ bx) × (ay ≡ by))
+  pub measured : (q : Places) (i : ℕ) → i < length (q .xs)
+      → getD (distancesOf q) i 0 ≡ squaredDistance (q .x) (q .y) (getD (q .xs) i (pos 0)) (getD (q .ys) i (pos 0))
   pub narrow : (ax ay bx by : ℤ) → All (λ c. isOnMap c ≡ true) (ax ∷ ay ∷ bx ∷ by ∷ []) → squaredDistance ax ay bx by < 2 ^ 63
+  -- coordinates are allowed up to a million either way, and a radius from 0 to three million
+  pub coordinates : (c : ℤ) → (isOnMap c ≡ true) ↔ (natAbs c ≤ 1000000)
+  pub radii : (r : ℤ) → (isRadius r ≡ true) ↔ ((n : ℕ) × (r ≡ pos n) × (n ≤ 3000000))
   -- where neither 12 nor 25 applies, the pick is the timed pick by these distances, refusals included
   pub timed : (bytes state : List ℕ) (q : Places) → paired (q .shovels) (q .xs) (q .ys) ≡ true → onMap (q .x) (q .y) (q .xs) (q .ys) ≡ true
       → (mapPicking bytes state q ≡ picking bytes state (q .shovels) (distancesOf q)) × (mapPicked bytes state q ≡ picked bytes state (q .shovels) (distancesOf q))
@@ -396,11 +400,12 @@ pub record ByTheMap : Type 0 where
       → (i : ℕ) × (i < length (q .shovels)) × (getD (w .shovels) p 0 ≡ getD (q .shovels) i 0)
   pub ascending : (q : Places) (radius : ℤ) → NoneApplies (withinChecks q radius) → (p r i j : ℕ) → let w = withinRadius q radius in
       p < r → r < w .count → i < length (q .shovels) → j < length (q .shovels) → getD (w .shovels) p 0 ≡ getD (q .shovels) i 0 → getD (w .shovels) r 0 ≡ getD (q .shovels) j 0
-      → isBefore (q .shovels) (distancesOf q) i j ≡ true
+      → let ds = distancesOf q in (getD ds i 0 ≤ getD ds j 0) × (getD ds i 0 ≡ getD ds j 0 → getD (q .shovels) i 0 < getD (q .shovels) j 0)
   pub once : (q : Places) (radius : ℤ) → NoneApplies (withinChecks q radius) → (p r : ℕ) → let w = withinRadius q radius in
       p < r → r < w .count → getD (w .shovels) p 0 ≢ getD (w .shovels) r 0
+  pub sixtyFour : (q : Places) (radius : ℤ) → length (withinRadius q radius .shovels) ≡ 64
   pub past : (q : Places) (radius : ℤ) → NoneApplies (withinChecks q radius) → (p : ℕ) → let w = withinRadius q radius in
-      w .count ≤ p → p < mostShovels → getD (w .shovels) p 0 ≡ 0
+      w .count ≤ p → getD (w .shovels) p 0 ≡ 0
   -- whatever the order of the shovels handed over
   pub sameList : (q q₂ : Places) → SamePlaces q q₂ → (radius : ℤ) → withinRadius q₂ radius ≡ withinRadius q radius
 

@@ -1,5 +1,5 @@
 -- What follows where distances can be worked out, and where they can't.
-use mathlib.Core.Path.{_≡_, refl, sym, ap, _∙_}
+use mathlib.Core.Path.{_≡_, sym, _∙_}
 use mathlib.Core.Logic.{_≢_}
 use mathlib.Core.Bool.{Bool, true, false, _&&_, and-eq-true-iff, true≢false}
 use mathlib.Core.List.{List, _++_}
@@ -63,4 +63,4 @@ module _ (bytes state : List ℕ) (q : Places) where
       let m = measured-parts (q .shovels) (q .xs) (q .ys) mapped-all h in
       let t = map-timed bytes state q (m .1) (m .0) in
       let a = pick-alike bytes state (q .shovels) (distancesOf q) times s in
-      (ep ∙ a .0 ∙ sym (t .0), el ∙ a .1 ∙ sym (t .1))
+      (ep ∙ sym (t .0 ∙ a .0), el ∙ sym (t .1 ∙ a .1))

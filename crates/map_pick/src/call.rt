@@ -8,7 +8,7 @@ use picks::Pick;
 use places::map;
 
 // The shovel of least squared distance from (x, y); of several, the one whose rank by ascending number is drawn. Or the first refusal of 1 to 15, 25 and 18 that
-// applies. Where neither 12 nor 25 does, it is the timed pick of times that tie as the distances do; no distance is worked out before that is known.
+// applies. Where none of 12, 13, 14 and 25 does, it is the timed pick of times that tie as the distances do; no distance is worked out before that is known.
 pub fn pick_by_map(
     card: &[u8],
     state: &mut [u32],

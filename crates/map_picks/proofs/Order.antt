@@ -1,18 +1,17 @@
 -- The order of the places makes no difference to a pick by the map: the same shovels at the same places, the same answer and the same state, refusals included.
-use mathlib.Core.Path.{_≡_, refl, sym, subst, _∙_}
-use mathlib.Core.Bool.{Bool, true}
+use mathlib.Core.Path.{_≡_, sym, _∙_}
 use mathlib.Core.List.{List, _++_}
 use Prim.Native.Nat.{ℕ}
 use native.Mathlib.Decide.{ℕ-discrete}
 use Rattle.refusals.specs.Refusals.{firstOf}
 use Rattle.refusals.proofs.Refusals.{first-ext}
 use Rattle.draws.specs.Calls.{callChecks}
-use Rattle.places.specs.Places.{Places, distancesOf, paired, onMap}
+use Rattle.places.specs.Places.{Places, distancesOf, onMap}
 use Rattle.places.specs.Order.{SamePlaces}
 use Rattle.places.proofs.Places.{places-passed}
 use Rattle.places.proofs.Order.{paired-alike, on-map-alike, distances-reordered, refusal-alike}
 use Rattle.picks.proofs.Choice.{pick-order}
-use Rattle.map_picks.specs.MapPicks.{mapPickRefusal, mapPicking, mapPicked}
+use Rattle.map_picks.specs.MapPicks.{mapPicking, mapPicked}
 use Rattle.map_picks.proofs.Timed.{here, map-refused, refused-here, map-timed}
 
 pub map-pick-order : (bytes state : List ℕ) (q q₂ : Places) → SamePlaces q q₂

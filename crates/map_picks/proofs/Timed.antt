@@ -1,7 +1,7 @@
 -- A pick by the map is the timed pick by its squared distances, refusals included, wherever 12 and 25 do not apply.
-use mathlib.Core.Path.{_≡_, refl, sym, ap, _∙_}
+use mathlib.Core.Path.{_≡_, refl, sym, _∙_}
 use mathlib.Core.Logic.{_≢_}
-use mathlib.Core.Bool.{Bool, true, false}
+use mathlib.Core.Bool.{Bool, true}
 use mathlib.Core.List.{List, _++_}
 use Prim.Native.Nat.{ℕ}
 use native.Mathlib.Decide.{ℕ-discrete}
@@ -11,7 +11,7 @@ use lib.ListN.{length}
 use Rattle.refusals.specs.Refusals.{Check, firstOf}
 use Rattle.refusals.proofs.Refusals.{first-left, first-both, first-ext}
 use Rattle.card_format.specs.Reading.{cardOf}
-use Rattle.draws.specs.Calls.{callChecks, refusalFor}
+use Rattle.draws.specs.Calls.{callChecks}
 use Rattle.ties.specs.Ties.{ties}
 use Rattle.tie_list.specs.Checks.{listChecks}
 use Rattle.samples.specs.Samples.{tieChecks}

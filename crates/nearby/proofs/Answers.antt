@@ -1,36 +1,45 @@
 -- What is answered to places and a radius: refused or listed, whatever the order of the places.
 use mathlib.Core.Path.{_≡_, refl, sym, ap, subst, _∙_}
 use mathlib.Core.Logic.{_≢_, _↔_}
-use mathlib.Core.Bool.{Bool, true, false, _&&_, and-eq-true-iff}
+use mathlib.Core.Bool.{Bool, true, false, cond, _&&_}
 use mathlib.Core.List.{List}
 use Prim.Native.Nat.{ℕ, _≤_, _<_}
-use native.Mathlib.Decide.{ℕ-discrete}
+use native.Mathlib.Decide.{ℕ-discrete, decLt}
 use native.Mathlib.Omega.{arith}
 use borrow.Author.Tests.{ne-eqb}
+use lib.Dec.{eqb}
 use lib.IntN.{ℤ}
 use lib.ListN.{length, getD}
-use Rattle.cycle.specs.Notation.{count, tabulate}
 use Rattle.cycle.proofs.Count.{count-le}
-use Rattle.cycle.proofs.Digits.{tabulate-ext, getD-tabulate}
+use Rattle.cycle.proofs.Digits.{length-tabulate, tabulate-ext, getD-tabulate}
 use Rattle.refusals.specs.Refusals.{firstOf}
-use Rattle.ties.specs.Ties.{mostShovels, twice}
+use Rattle.ties.specs.Ties.{mostShovels}
 use Rattle.ties.specs.Order.{Permutes}
 use Rattle.places.specs.Distances.{square}
-use Rattle.places.specs.Places.{Places, distancesOf, onMap, isRadius, Measurable}
+use Rattle.places.specs.Places.{Places, distancesOf, onMap, isRadius}
 use Rattle.places.specs.Order.{SamePlaces}
 use Rattle.places.proofs.Distances.{length-distances}
 use Rattle.places.proofs.Places.{Passed, places-passed, paired-parts}
 use Rattle.places.proofs.Order.{distances-reordered, refusal-alike}
 use Rattle.nearby.specs.declared.Within.{Within}
-use Rattle.nearby.specs.Nearby.{isWithin, withinCount, isBefore, numberAt}
+use Rattle.nearby.specs.Nearby.{isWithin, withinCount, numberAt}
 use Rattle.nearby.specs.Calls.{withinChecks, listing, noList, withinRadius}
-use Rattle.nearby.proofs.Listed.{at-place, number-is, number-past, listed-exactly, listed-ascending, listed-once}
+use Rattle.nearby.proofs.Keys.{before-says}
+use Rattle.nearby.proofs.Listed.{past-end, at-place, number-is, number-past, listed-exactly, listed-ascending, listed-once}
 use Rattle.nearby.proofs.Order.{count-reordered, number-reordered}
 
 module _ (q : Places) (radius : ℤ) where
   pub within-refused : (r : ℕ) → r ≢ 0 → r ≡ firstOf (withinChecks q radius) → noList r ≡ withinRadius q radius
   unfolding withinRadius
   within-refused r ne e = rw (sym e) (simp (ne-eqb r 0 ne))
+
+  length-by : (b : Bool) (r : ℕ) → length (cond b (listing q radius) (noList r) .shovels) ≡ mostShovels
+  length-by true r = length-tabulate mostShovels (numberAt (q .shovels) (distancesOf q) (square radius))
+  length-by false r = refl
+
+  pub answer-length : length (withinRadius q radius .shovels) ≡ mostShovels
+  unfolding withinRadius
+  answer-length = let r = firstOf (withinChecks q radius) in length-by (eqb r 0) r
 
   module _ (z : firstOf (withinChecks q radius) ≡ 0) where
     pub within-listed : withinRadius q radius ≡ listing q radius
@@ -77,18 +86,24 @@ module _ (q : Places) (radius : ℤ) where
         )
 
     pub answer-ascending : (p r i j : ℕ) → let w = withinRadius q radius in p < r → r < w .count → i < length (q .shovels) → j < length (q .shovels)
-        → getD (w .shovels) p 0 ≡ getD (q .shovels) i 0 → getD (w .shovels) r 0 ≡ getD (q .shovels) j 0 → isBefore (q .shovels) distances i j ≡ true
+        → getD (w .shovels) p 0 ≡ getD (q .shovels) i 0 → getD (w .shovels) r 0 ≡ getD (q .shovels) j 0
+        → (getD distances i 0 ≤ getD distances j 0) × (getD distances i 0 ≡ getD distances j 0 → getD (q .shovels) i 0 < getD (q .shovels) j 0)
     answer-ascending p r i j l lr li lj ep er =
-        listed-ascending (q .shovels) distances limit (passed .once) paired-list p r i j l (omega (arith, counted)) (omega (arith, paired-list)) (omega (arith, paired-list))
-        (sym (entry p (omega (arith, counted, within-few))) ∙ ep) (sym (entry r (omega (arith, counted, within-few))) ∙ er)
+        before-says (getD distances i 0) (getD (q .shovels) i 0) (getD distances j 0) (getD (q .shovels) j 0)
+        (listed-ascending (q .shovels) distances limit (passed .once) paired-list p r i j l (omega (arith, counted)) (omega (arith, paired-list)) (omega (arith, paired-list))
+        (sym (entry p (omega (arith, counted, within-few))) ∙ ep) (sym (entry r (omega (arith, counted, within-few))) ∙ er))
 
     pub answer-once : (p r : ℕ) → let w = withinRadius q radius in p < r → r < w .count → getD (w .shovels) p 0 ≢ getD (w .shovels) r 0
     answer-once p r l lr e =
         listed-once (q .shovels) distances limit (passed .once) paired-list p r l (omega (arith, counted))
         (sym (entry p (omega (arith, counted, within-few))) ∙ e ∙ entry r (omega (arith, counted, within-few)))
 
-    pub answer-past : (p : ℕ) → let w = withinRadius q radius in w .count ≤ p → p < mostShovels → getD (w .shovels) p 0 ≡ 0
-    answer-past p l lp = entry p lp ∙ number-past (q .shovels) distances limit (passed .once) paired-list p (omega (arith, counted))
+    pub answer-past : (p : ℕ) → let w = withinRadius q radius in w .count ≤ p → getD (w .shovels) p 0 ≡ 0
+    answer-past p l = go (decLt p mostShovels)
+      where
+        go : Dec (p < mostShovels) → getD (withinRadius q radius .shovels) p 0 ≡ 0
+        go (yes lp) = entry p lp ∙ number-past (q .shovels) distances limit (passed .once) paired-list p (omega (arith, counted))
+        go (no n) = past-end (withinRadius q radius .shovels) p (omega (arith, answer-length))
 
 -- THE ORDER MAKES NO DIFFERENCE: the same shovels at the same places in any order, the same list, refusals included
 pub within-order : (q q₂ : Places) → SamePlaces q q₂ → (radius : ℤ) → withinRadius q₂ radius ≡ withinRadius q radius

@@ -16,7 +16,7 @@ use Rattle.ties.specs.Least.{SameTies}
 use Rattle.ties.specs.Order.{Permutes, reordered, SameShovels}
 use Rattle.ties.proofs.Rank.{tie-of-rank, chosen-is}
 use Rattle.ties.proofs.Order.{length-reordered, ties-reordered, chosen-reordered, twice-reordered}
-use Rattle.ties.proofs.Alike.{ties-alike, chosen-alike}
+use Rattle.ties.proofs.Alike.{same-count, same-chosen}
 use Rattle.tie_list.specs.Checks.{listChecks}
 use Rattle.tie_list.proofs.Allowed.{Allowed, list-allowed}
 use Rattle.samples.specs.Samples.{taken, drawnRank, drawnState, tieChecks}
@@ -109,8 +109,8 @@ pick-order bytes xs shovels times shovels₂ times₂ h = rw (h .numbers, h .dur
 
 -- nothing of the times matters but which shovels tie
 pub pick-alike : (bytes xs shovels times times₂ : List ℕ) → SameTies times times₂
-    → (picking bytes xs shovels times₂ ≡ picking bytes xs shovels times) × (picked bytes xs shovels times₂ ≡ picked bytes xs shovels times)
+    → (picking bytes xs shovels times ≡ picking bytes xs shovels times₂) × (picked bytes xs shovels times ≡ picked bytes xs shovels times₂)
 unfolding pickRefusal picking picked listChecks
 pick-alike bytes xs shovels times times₂ s =
-    let k = ties-alike times times₂ s in
-    (rw (s .many, k, chosen-alike times times₂ s shovels (drawnRank (cardOf bytes) xs (ties times))) refl, rw (s .many, k) refl)
+    let k = same-count times times₂ s in
+    (rw (s .size, k, same-chosen times times₂ s shovels (drawnRank (cardOf bytes) xs (ties times₂))) refl, rw (s .size, k) refl)

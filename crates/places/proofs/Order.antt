@@ -1,19 +1,16 @@
 -- The order of the places makes no difference to what is refused of them, and the distances come in the same order as the shovels.
-use mathlib.Core.Path.{_≡_, refl, sym, ap, ap₂, subst, _∙_}
-use mathlib.Core.Bool.{Bool, true, false, _&&_}
+use mathlib.Core.Path.{_≡_, refl, sym, ap, subst}
+use mathlib.Core.Bool.{Bool, true, false}
 use mathlib.Core.List.{List}
-use Prim.Native.Nat.{ℕ, _<_}
+use Prim.Native.Nat.{ℕ}
 use native.Mathlib.Omega.{arith}
-use borrow.Author.Tests.{eqb-true}
-use lib.Dec.{eqb}
 use lib.IntN.{ℤ, pos}
 use lib.ListN.{length, getD}
-use Rattle.cycle.specs.Notation.{every}
 use Rattle.cycle.proofs.Digits.{tabulate-ext}
 use Rattle.refusals.specs.Refusals.{firstOf}
-use Rattle.ties.specs.Order.{Permutes, reordered, SameShovels}
+use Rattle.ties.specs.Order.{Permutes, SameShovels}
 use Rattle.ties.proofs.Order.{every-permute, length-reordered, twice-reordered}
-use Rattle.places.specs.Distances.{squaredDistance, distances}
+use Rattle.places.specs.Distances.{distances}
 use Rattle.places.specs.Places.{Places, distancesOf, paired, isOnMap, allOnMap, onMap, placeChecks}
 use Rattle.places.specs.Order.{ReorderedBy, SamePlaces}
 use Rattle.places.proofs.Distances.{length-distances, distance-is}

@@ -1,12 +1,13 @@
 -- What is on the map: the test of a coordinate, and what follows of places that are not refused.
 use mathlib.Core.Path.{_≡_, refl, sym, ap, subst, _∙_}
-use mathlib.Core.Bool.{Bool, true, false, not, _&&_, and-eq-true-iff, true≢false}
+use mathlib.Core.Logic.{_↔_}
+use mathlib.Core.Bool.{Bool, true, false, _&&_, and-eq-true-iff, true≢false}
 use mathlib.Core.List.{List}
 use Prim.Native.Nat.{ℕ, suc, _≤_, _<_}
 use native.Mathlib.Omega.{arith}
-use borrow.Author.Tests.{ltb-true, ltb-false, le-leb, lt-leb, eqb-true, eqb-false, not-false, ltb-false}
-use lib.Dec.{T, eqb, leb, ltb}
-use lib.IntN.{ℤ, pos, negsuc, natAbs}
+use borrow.Author.Tests.{ltb-true, ltb-false, le-leb, lt-leb, leb-true, eqb-true, eqb-false, not-false}
+use lib.Dec.{eqb}
+use lib.IntN.{ℤ, pos, negsuc}
 use lib.ListN.{length, getD}
 use lib.Signed.{ltZ, leZ}
 use mir.Syntax.{w32}
@@ -37,6 +38,10 @@ negative (negsuc n) e = refl
 pub not-negative : (r : ℤ) → ltZ r (pos 0) ≡ false → leZ r (pos mostRadius) ≡ isRadius r
 not-negative (pos n) e = refl
 not-negative (negsuc n) e = absurd (true≢false e)
+
+pub radius-is : (r : ℤ) → (isRadius r ≡ true) ↔ ((n : ℕ) × (r ≡ pos n) × (n ≤ mostRadius))
+radius-is (pos n) = ((λ h. (n, refl, leb-true n mostRadius h)), (λ f. ap isRadius (f .1) ∙ le-leb (f .0) mostRadius (f .2)))
+radius-is (negsuc n) = ((λ h. absurd (true≢false (sym h))), (λ f. ap isRadius (f .1) ∙ le-leb (f .0) mostRadius (f .2)))
 
 -- ---- what is known of places that are on the map
 

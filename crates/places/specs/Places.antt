@@ -52,7 +52,7 @@ abbrev pub isRadius : ℤ → Bool
 isRadius (pos r) = leb r mostRadius
 isRadius (negsuc r) = false
 
--- 12 to 15, then 25 where something is off the map
+-- 12 to 15, then 25 unless coordinates, and a radius where there is one, are allowed
 unfoldable pub placeChecks : List ℕ → List ℤ → List ℤ → Bool → List Check
 placeChecks shovels xs ys allowed =
     check lengthMismatch (not (paired shovels xs ys)) ∷ (numberChecks shovels ++ check offMap (not allowed) ∷ [])

@@ -10,6 +10,7 @@ ghost use mir.Val.{SFits};
 ghost use Rattle.places.specs.Distances.{squaredDistance, distances};
 ghost use Rattle.places.specs.Places.{isOnMap, Measurable};
 
+// A difference that fits.
 fn minus(a: i32, b: i32) -> i32
     requires { ⌜ SFits w32 (a -ℤ b) ⌝ }
     ensures { λ r. ⌜ r ≡ a -ℤ b ⌝ }
@@ -17,6 +18,7 @@ fn minus(a: i32, b: i32) -> i32
     a - b
 }
 
+// A number that is not negative.
 fn whole(z: i32) -> u64
     requires { ⌜ pos 0 ≤ℤ z ⌝ }
     ensures { λ r. ⌜ pos r ≡ z ⌝ }

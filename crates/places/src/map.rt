@@ -4,11 +4,12 @@ ghost use Rattle.refusals.specs.Refusals.{firstOf};
 ghost use Rattle.places.specs.Places.{paired, isOnMap, allOnMap, onMap, isRadius, placeChecks};
 use tie_list::check;
 
-// The greatest coordinate, either way.
+// The greatest and the least coordinate.
 const MOST_COORDINATE: i32 = 1000000;
 
 const LEAST_COORDINATE: i32 = -1000000;
 
+// The greatest radius.
 const MOST_RADIUS: i32 = 3000000;
 
 // Whether a coordinate is on the map.
@@ -71,7 +72,8 @@ pub fn is_paired(shovels: &[u16], xs: &[i32], ys: &[i32]) -> bool
     shovels.len() == ys.len()
 }
 
-// The first refusal of 12 to 15 and 25 that applies, or 0. Callers have found whether all is on the map that is to be.
+// The first refusal of 12 to 15 and 25 that applies, or 0. `allowed` is what callers have found: whether coordinates, and the radius where there is one, are
+// within their limits.
 pub fn places_refusal(shovels: &[u16], xs: &[i32], ys: &[i32], allowed: bool) -> u8
     ensures { λ r. ⌜ r ≡ firstOf (placeChecks (now (shovels .entry)) (now (xs .entry)) (now (ys .entry)) allowed) ⌝ }
 {

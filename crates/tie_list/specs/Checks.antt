@@ -7,7 +7,7 @@ use lib.ListN.{length}
 use Rattle.refusals.specs.Refusals.{Check, check, lengthMismatch, noShovel, tooManyShovels, duplicateShovel}
 use Rattle.ties.specs.Ties.{mostShovels, twice}
 
--- 13 to 15, of the numbers alone
+-- 13 to 15, of the numbers alone, whether times or places stand beside them
 abbrev pub numberChecks : List ℕ → List Check
 numberChecks shovels =
     check noShovel (eqb (length shovels) 0) ∷ check tooManyShovels (ltb mostShovels (length shovels)) ∷ check duplicateShovel (twice shovels) ∷ []

@@ -7,7 +7,7 @@ ghost use Rattle.ties.specs.Ties.{twice};
 ghost use Rattle.tie_list.specs.Checks.{numberChecks, listChecks};
 ghost use Rattle.tie_list.specs.Repeats.{repeatsAt};
 
-// The most shovels of a pick.
+// The most shovels of a list.
 pub const MOST_SHOVELS: usize = 64;
 
 // Whether number i stands before i as well; looked for at every distance d back from i.

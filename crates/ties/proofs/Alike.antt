@@ -2,13 +2,12 @@
 use mathlib.Core.Path.{_≡_, refl, sym, ap, ap₂, _∙_}
 use mathlib.Core.Bool.{Bool, true, false, not, _&&_}
 use mathlib.Core.List.{List}
-use Prim.Native.Nat.{ℕ, _≤_, _<_}
-use native.Mathlib.Decide.{ℕ-discrete}
+use Prim.Native.Nat.{ℕ, _<_}
 use native.Mathlib.Omega.{arith}
-use borrow.Author.Tests.{eq-eqb, ne-eqb}
+use borrow.Author.Tests.{eq-eqb}
 use lib.Dec.{eqb, ltb}
 use lib.ListN.{length, getD}
-use Rattle.cycle.specs.Notation.{one, count, first, tabulate}
+use Rattle.cycle.specs.Notation.{one, tabulate}
 use Rattle.cycle.proofs.Count.{count-ext}
 use Rattle.cycle.proofs.First.{first-ext}
 use Rattle.cycle.proofs.Digits.{length-tabulate, getD-tabulate}
@@ -17,24 +16,24 @@ use Rattle.ties.specs.Least.{LeastOf, SameTies}
 use Rattle.ties.proofs.Least.{tie-least}
 
 module _ (times times₂ : List ℕ) (s : SameTies times times₂) where
-  pub ties-alike : ties times₂ ≡ ties times
+  pub same-count : ties times ≡ ties times₂
   unfolding ties
-  ties-alike = rw (s .many) (count-ext (length times) (isTie times₂) (isTie times) (s .alike))
+  same-count = rw (← s .size) (count-ext (length times) (isTie times) (isTie times₂) (s .same))
 
-  rank-alike : (shovels : List ℕ) (x : ℕ) → rank shovels times₂ x ≡ rank shovels times x
+  pub same-rank : (shovels : List ℕ) (y : ℕ) → rank shovels times y ≡ rank shovels times₂ y
   unfolding rank
-  rank-alike shovels x =
-      rw (s .many)
-      (count-ext (length times) (λ i. isTie times₂ i && ltb (getD shovels i 0) x) (λ i. isTie times i && ltb (getD shovels i 0) x)
-      (λ i l. ap (λ (t : Bool). t && ltb (getD shovels i 0) x) (s .alike i l)))
+  same-rank shovels y =
+      rw (← s .size)
+      (count-ext (length times) _ (λ j. isTie times₂ j && ltb (getD shovels j 0) y) (λ j l. ap (λ (b : Bool). b && ltb (getD shovels j 0) y) (s .same j l)))
 
-  pub chosen-alike : (shovels : List ℕ) (r : ℕ) → chosen shovels times₂ r ≡ chosen shovels times r
+  -- the chosen number depends on the ties alone
+  pub same-chosen : (shovels : List ℕ) (r : ℕ) → chosen shovels times r ≡ chosen shovels times₂ r
   unfolding chosen hasRank
-  chosen-alike shovels r =
-      rw (s .many)
-      (ap (λ (i : ℕ). getD shovels i 0)
-      (first-ext (length times) (hasRank shovels times₂ r) (hasRank shovels times r)
-      (λ i l. ap₂ (λ (t : Bool) (k : ℕ). t && eqb k r) (s .alike i l) (rank-alike shovels (getD shovels i 0)))))
+  same-chosen shovels r =
+      rw (← s .size)
+      (ap (λ (j : ℕ). getD shovels j 0)
+      (first-ext (length times) (hasRank shovels times r) (hasRank shovels times₂ r)
+      (λ j l. ap₂ (λ (b : Bool) (k : ℕ). b && eqb k r) (s .same j l) (same-rank shovels (getD shovels j 0)))))
 
 -- 0 for the least time, 1 for any other
 abbrev pub marks : List ℕ → ℕ → List ℕ
@@ -62,8 +61,8 @@ module _ (times : List ℕ) (x : ℕ) (h : LeastOf times (length times) x) where
   marks-alike =
       let n = length-tabulate (length times) (λ i. one (not (eqb (getD times i 0) x))) in
       record {
-        many = n;
-        alike = λ i l.
-            tie-least (marks times x) 0 least-mark i (omega (arith, n)) ∙ ap (λ (k : ℕ). eqb k 0) (mark-is i l) ∙ is-zero (eqb (getD times i 0) x)
-            ∙ sym (tie-least times x h i l);
+        size = sym n;
+        same = λ i l.
+            tie-least times x h i l
+            ∙ sym (tie-least (marks times x) 0 least-mark i (omega (arith, n)) ∙ ap (λ (k : ℕ). eqb k 0) (mark-is i l) ∙ is-zero (eqb (getD times i 0) x));
       }

@@ -12,5 +12,5 @@ pub record LeastOf (times : List ℕ) (n x : ℕ) : Type 0 where
 
 -- two lists of times in which the same shovels tie
 pub record SameTies (times times₂ : List ℕ) : Type 0 where
-  pub many : length times₂ ≡ length times
-  pub alike : (i : ℕ) → i < length times → isTie times₂ i ≡ isTie times i
+  pub size : length times ≡ length times₂
+  pub same : (j : ℕ) → j < length times → isTie times j ≡ isTie times₂ j

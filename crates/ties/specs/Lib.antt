@@ -1,4 +1,4 @@
--- Ties of a list of shovels and their times, ranks, a least time, and lists in another order.
+-- Ties of a list of shovels and their times, ranks, a least time, lists with the same ties, and lists in another order.
 pub mod Ties
 pub mod Least
 pub mod Order

@@ -1,4 +1,4 @@
--- The shovels with the least time and their ranks (document 01, Step, word and pick). Entry i of a list is shovel i's number, or its time.
+-- The shovels with the least time and their ranks (document 01, Step, word and pick). Entry i of a list is shovel i's number, or its time, or what stands for times (document 02, Ten).
 use mathlib.Core.Path.{_≡_}
 use mathlib.Core.Bool.{Bool, true, not, _&&_}
 use mathlib.Core.List.{List}
@@ -7,7 +7,7 @@ use lib.Dec.{eqb, leb, ltb}
 use lib.ListN.{length, getD}
 use Rattle.cycle.specs.Notation.{every, count, first}
 
--- the most shovels of a pick
+-- the most shovels of a list
 abbrev pub mostShovels : ℕ
 mostShovels = 64
 

@@ -1,7 +1,6 @@
 // The shovels within a radius on lent slices: any place, any radius, any numbers and places.
 ghost use mathlib.Core.Path.{_≡_};
 ghost use mathlib.Core.Bool.{_&&_, true};
-ghost use lib.IntN.{natAbs};
 ghost use Rattle.places.specs.Distances.{square};
 ghost use Rattle.places.specs.Places.{placed, onMap, isRadius};
 ghost use Rattle.nearby.specs.Calls.{noList, withinRadius};

@@ -1,6 +1,6 @@
 use mathlib.Core.Path.{_≡_, ap, _∙_}
 use native.Mathlib.Omega.{arith}
-use Rattle.places.specs.Places.{Places, placed}
+use Rattle.places.specs.Places.{placed}
 use Rattle.places.proofs.Signed.{read, read-back}
 use Rattle.map_picks.specs.MapPicks.{mapPicking, mapPicked}
 use Rattle.c_answers.specs.Answers.{choice}

@@ -25,50 +25,35 @@ print-syntax-requires-2 c κs = tt
 returns-2 : tie.Need-returns-2
 returns-2 c = omega arith
 
-print-syntax-requires-3 : tie.Need-print-syntax-requires-3
-print-syntax-requires-3 c κs = tt
-
-returns-3 : tie.Need-returns-3
-returns-3 c = omega arith
-
 unbiased-all-requires : tie.Need-unbiased-all-requires
 unbiased-all-requires c κs = tt
 
 unbiased-all-requires-2 : tie.Need-unbiased-all-requires-2
 unbiased-all-requires-2 c κs = tt
 
-sub-replay-call : tie.Need-sub-replay-call
-sub-replay-call c = search needs
-
-part-replay-call-start : tie.Need-part-replay-call-start
-part-replay-call-start c = search needs
-
-part-replay-call-end : tie.Need-part-replay-call-end
-part-replay-call-end c = search needs
-
 array-share-prefix-across : tie.Need-array-share-prefix-across
 array-share-prefix-across c = search needs
 
 slice-aggregate-replay-call : tie.Need-slice-aggregate-replay-call
 slice-aggregate-replay-call c =
-    let made = c .before .before .before in
+    let made = c .before .before in
     let z : length (made .unbiased-all .result) ≡ room = search needs in
-    sym (length-take-le (c .before .before .before .before .before .before .before .before .before .before .coordinates-of .result .count) (made .unbiased-all .result) (omega (arith, z, c .before .before .before .before .before .before .before .if2 .left)))
+    sym (length-take-le (c .before .before .before .before .before .before .before .before .coordinates-of .result .count) (made .unbiased-all .result) (omega (arith, z, c .before .before .before .before .before .before .if1 .left)))
 
 array-share-prefix-up : tie.Need-array-share-prefix-up
 array-share-prefix-up c = search needs
 
 slice-aggregate-replay-call-2 : tie.Need-slice-aggregate-replay-call-2
 slice-aggregate-replay-call-2 c =
-    let made = c .before .before .before in
+    let made = c .before .before in
     let z : length (made .unbiased-all2 .result) ≡ room = search needs in
-    sym (length-take-le (c .before .before .before .before .before .before .before .before .before .before .coordinates-of2 .result .count) (made .unbiased-all2 .result) (omega (arith, z, c .before .before .before .before .before .before .before .if3 .left)))
+    sym (length-take-le (c .before .before .before .before .before .before .before .before .coordinates-of2 .result .count) (made .unbiased-all2 .result) (omega (arith, z, c .before .before .before .before .before .before .if2 .left)))
 
 replay-call-requires : tie.Need-replay-call-requires
 replay-call-requires c κs = search needs
 
-returns-4 : tie.Need-returns-4
-returns-4 c = omega arith
+returns-3 : tie.Need-returns-3
+returns-3 c = omega arith
 
 pub replay-places-spec : {M : Type 1} → statement M
 replay-places-spec =
@@ -80,16 +65,11 @@ replay-places-spec =
     returns
     print-syntax-requires-2
     returns-2
-    print-syntax-requires-3
-    returns-3
     unbiased-all-requires
     unbiased-all-requires-2
-    sub-replay-call
-    part-replay-call-start
-    part-replay-call-end
     array-share-prefix-across
     slice-aggregate-replay-call
     array-share-prefix-up
     slice-aggregate-replay-call-2
     replay-call-requires
-    returns-4)
+    returns-3)

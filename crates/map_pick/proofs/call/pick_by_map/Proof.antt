@@ -1,11 +1,10 @@
-use mathlib.Core.Path.{_≡_, sym, ap, ap₂, subst, _∙_}
+use mathlib.Core.Path.{_≡_, sym, ap, subst, _∙_}
 use mathlib.Core.Bool.{Bool, true}
 use mathlib.Core.List.{List, _++_}
 use Prim.Native.Nat.{ℕ}
 use native.Mathlib.Omega.{arith}
 use borrow.Author.Needs.{needs}
 use borrow.Author.Tests.{not-true, not-false}
-use lib.IntN.{ℤ}
 use lib.ListN.{length, take, length-take}
 use Rattle.refusals.specs.Refusals.{firstOf}
 use Rattle.draws.specs.Calls.{callChecks}
@@ -70,7 +69,7 @@ ties-alike c =
     subst (λ (d : List ℕ). SameTies d (take (length (q .xs)) (c .marks-of .result))) (distances-read (q .x) (q .y) (q .xs) (q .ys) (s .fits .x) (s .fits .y)) (c .marks-of .ensures)
 
 as-many : (c : tie.After-marks-of) → let n = length (given (c .before .before) .xs) in length (take n (c .marks-of .result)) ≡ n
-as-many c = let q = given (c .before .before) in ties-alike c .many ∙ length-distances (q .x) (q .y) (q .xs) (q .ys)
+as-many c = let q = given (c .before .before) in sym (ties-alike c .size) ∙ length-distances (q .x) (q .y) (q .xs) (q .ys)
 
 array-share-prefix-marks : tie.Need-array-share-prefix-marks
 array-share-prefix-marks c =

@@ -1,10 +1,8 @@
 use mathlib.Core.Path.{_≡_, sym, _∙_}
-use mathlib.Core.List.{_++_}
 use Rattle.refusals.specs.Refusals.{firstOf}
 use Rattle.refusals.proofs.Refusals.{first-left, first-right}
 use Rattle.draws.specs.Calls.{callChecks, refusalFor}
 use Rattle.draws.proofs.Opening.{told}
-use Rattle.places.specs.Places.{placeChecks}
 use Rattle.map_pick.proofs.refusal.first_refusal.Statement.{statement}
 use Rattle.map_pick.proofs.refusal.first_refusal.Tie as tie
 

@@ -1,4 +1,3 @@
-use mathlib.Core.Path.{sym, _∙_}
 use native.Mathlib.Omega.{arith}
 use Rattle.places.proofs.Signed.{read-back, given}
 use Rattle.places.proofs.Distances.{distance-is}

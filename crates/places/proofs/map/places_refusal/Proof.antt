@@ -1,11 +1,10 @@
 use mathlib.Core.Path.{_≡_, refl, sym, _∙_}
 use mathlib.Core.Bool.{Bool, true, false, not}
-use mathlib.Core.Logic.{_≢_}
 use mathlib.Core.List.{List, [], _∷_, _++_}
 use Prim.Native.Nat.{ℕ}
 use borrow.Author.Tests.{not-true, not-false}
 use lib.IntN.{ℤ}
-use Rattle.refusals.specs.Refusals.{Check, check, firstOf, offMap}
+use Rattle.refusals.specs.Refusals.{check, firstOf, offMap}
 use Rattle.refusals.proofs.Refusals.{first-left, first-right}
 use Rattle.tie_list.specs.Checks.{numberChecks}
 use Rattle.places.specs.Places.{paired, placeChecks}

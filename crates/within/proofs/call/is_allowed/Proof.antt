@@ -1,5 +1,4 @@
 use mathlib.Core.Path.{_≡_, sym, ap, _∙_}
-use mathlib.Core.Bool.{Bool, false, _&&_}
 use Rattle.places.specs.Places.{onMap, isRadius}
 use Rattle.places.proofs.Signed.{read-back}
 use Rattle.within.proofs.call.is_allowed.Statement.{statement}

@@ -1,13 +1,11 @@
-use mathlib.Core.Path.{_≡_, sym, ap, subst}
+use mathlib.Core.Path.{_≡_, sym, ap}
 use mathlib.Core.Bool.{true, true≢false}
-use Prim.Native.Nat.{ℕ, _*_, _≤_}
+use Prim.Native.Nat.{_≤_}
 use native.Mathlib.Nat.{mul-le-mul, lt-of-le-of-lt}
 use borrow.Author.Tests.{leb-true}
 use lib.Dec.{T, lit<}
 use lib.IntN.{ℤ, pos, negsuc, natAbs}
 use lib.Signed.{nonNeg}
-use mir.Syntax.{w64}
-use mir.Val.{Fits}
 use Rattle.places.specs.Distances.{square}
 use Rattle.places.specs.Places.{mostRadius, isRadius}
 use Rattle.places.proofs.Signed.{read-back}

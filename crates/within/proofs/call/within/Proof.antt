@@ -1,7 +1,5 @@
-use mathlib.Core.Path.{_≡_, refl, sym, ap, ap₂, subst, _∙_}
+use mathlib.Core.Path.{_≡_, sym, ap, ap₂, _∙_}
 use mathlib.Core.Bool.{Bool, _&&_}
-use mathlib.Core.List.{List}
-use Prim.Native.Nat.{ℕ, _≤_}
 use native.Mathlib.Omega.{arith}
 use borrow.Author.Needs.{needs}
 use lib.ListN.{length, take, length-take}
@@ -12,7 +10,7 @@ use Rattle.places.specs.Places.{Places, placed, distancesOf, onMap, isRadius, p
 use Rattle.places.proofs.Signed.{read-back}
 use Rattle.places.proofs.Distances.{length-distances}
 use Rattle.places.proofs.Places.{measured-read, distances-read}
-use Rattle.nearby.specs.Calls.{withinChecks, noList}
+use Rattle.nearby.specs.Calls.{withinChecks}
 use Rattle.nearby.proofs.Answers.{within-refused}
 use Rattle.within.specs.Sorting.{keysOf, isListed}
 use Rattle.within.proofs.Sorting.{length-keys}
