@@ -5,7 +5,6 @@ ghost use Rattle.case_fields.specs.Lists.{room};
 use case_answers::answer;
 use case_fields::list::Numbers;
 use case_states::calls;
-use nearby::Within;
 use tie_list::check::MOST_SHOVELS;
 
 // A pick by the map.

@@ -46,7 +46,7 @@ fn mark(d: u64, least: u64) -> u32
     1
 }
 
-// Times at the front of an array, for as many shovels as there are: 0 for the nearest, 1 for the others.
+// Times at the front of an array, for as many shovels as there are: 0 for the nearest, 1 for the others. `can_measure` has found what is required.
 pub fn marks_of(x: i32, y: i32, xs: &[i32], ys: &[i32]) -> [u32; MOST_SHOVELS]
     requires { ⌜ Measurable x y (now xs) (now ys) × (0 < length (now xs)) × (length (now xs) ≤ mostShovels) ⌝ }
     ensures { λ r. ⌜ SameTies (distances x y (now (xs .entry)) (now (ys .entry))) (take (length (now (xs .entry))) r) ⌝ }

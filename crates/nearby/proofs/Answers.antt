@@ -21,7 +21,7 @@ use Rattle.places.specs.Order.{SamePlaces}
 use Rattle.places.proofs.Distances.{length-distances}
 use Rattle.places.proofs.Places.{Passed, places-passed, paired-parts}
 use Rattle.places.proofs.Order.{distances-reordered, refusal-alike}
-use Rattle.nearby.specs.declared.Within.{Within}
+use Rattle.nearby.specs.declared.WithinAnswer.{WithinAnswer}
 use Rattle.nearby.specs.Nearby.{isWithin, withinCount, numberAt}
 use Rattle.nearby.specs.Calls.{withinChecks, listing, noList, withinRadius}
 use Rattle.nearby.proofs.Keys.{before-says}
@@ -64,10 +64,10 @@ module _ (q : Places) (radius : ℤ) where
     within-few = omega (arith, count-le (length distances) (isWithin distances limit), paired-list, passed .few)
 
     entry : (p : ℕ) → p < mostShovels → getD (withinRadius q radius .shovels) p 0 ≡ numberAt (q .shovels) distances limit p
-    entry p l = ap (λ (w : Within). getD (w .shovels) p 0) within-listed ∙ getD-tabulate mostShovels (numberAt (q .shovels) distances limit) p l
+    entry p l = ap (λ (w : WithinAnswer). getD (w .shovels) p 0) within-listed ∙ getD-tabulate mostShovels (numberAt (q .shovels) distances limit) p l
 
     counted : withinRadius q radius .count ≡ withinCount distances limit
-    counted = ap (λ (w : Within). w .count) within-listed
+    counted = ap (λ (w : WithinAnswer). w .count) within-listed
 
     pub answer-exactly : (i : ℕ) → i < length (q .shovels) → let w = withinRadius q radius in
         (getD distances i 0 ≤ limit) ↔ ((p : ℕ) × (p < w .count) × (getD (w .shovels) p 0 ≡ getD (q .shovels) i 0))

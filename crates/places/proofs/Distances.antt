@@ -11,7 +11,7 @@ use lib.IntN.{ℤ, pos, negsuc, natAbs, _+ℤ_, _-ℤ_, _*ℤ_, +ℤ-idl, +ℤ-i
 use lib.ListN.{length, getD}
 use Rattle.cycle.proofs.Digits.{length-tabulate, getD-tabulate}
 use Rattle.places.specs.Distances.{square, squaredDistance, distances}
-use Rattle.places.specs.Places.{mostCoordinate, isOnMap}
+use Rattle.places.specs.Places.{mostCoordinate, mostApart, mostSquared, isOnMap}
 use Rattle.places.proofs.Signed.{size-minus}
 
 -- ---- on integers
@@ -45,10 +45,10 @@ squared-zero ax ay bx by = (
 
 -- ---- on the map
 
-pub apart-le : (a b : ℤ) → isOnMap a ≡ true → isOnMap b ≡ true → natAbs (a -ℤ b) ≤ 2000000
+pub apart-le : (a b : ℤ) → isOnMap a ≡ true → isOnMap b ≡ true → natAbs (a -ℤ b) ≤ mostApart
 apart-le a b s t = omega (arith, size-minus a b, leb-true (natAbs a) mostCoordinate s, leb-true (natAbs b) mostCoordinate t)
 
-pub squared-le : (ax ay bx by : ℤ) → isOnMap ax ≡ true → isOnMap ay ≡ true → isOnMap bx ≡ true → isOnMap by ≡ true → squaredDistance ax ay bx by ≤ 8000000000000
+pub squared-le : (ax ay bx by : ℤ) → isOnMap ax ≡ true → isOnMap ay ≡ true → isOnMap bx ≡ true → isOnMap by ≡ true → squaredDistance ax ay bx by ≤ mostSquared
 unfolding squaredDistance
 squared-le ax ay bx by s t u v = add-le-add (mul-le-mul (apart-le ax bx s u) (apart-le ax bx s u)) (mul-le-mul (apart-le ay by t v) (apart-le ay by t v))
 

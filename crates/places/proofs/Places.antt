@@ -17,7 +17,7 @@ use Rattle.refusals.specs.Refusals.{firstOf, NoneApplies}
 use Rattle.refusals.proofs.Refusals.{none-first}
 use Rattle.ties.specs.Ties.{mostShovels, twice}
 use Rattle.places.specs.Distances.{distances}
-use Rattle.places.specs.Places.{mostCoordinate, mostRadius, paired, isOnMap, allOnMap, onMap, isRadius, placeChecks, Measurable}
+use Rattle.places.specs.Places.{mostCoordinate, mostRadius, mostSquared, paired, isOnMap, allOnMap, onMap, isRadius, placeChecks, Measurable}
 use Rattle.places.proofs.Signed.{read, read-back}
 use Rattle.places.proofs.Distances.{squared-le, distance-is}
 
@@ -60,8 +60,8 @@ module _ (x y : ℤ) (xs ys : List ℤ) (h : onMap x y xs ys ≡ true) where
   unfolding allOnMap
   shovel-mapped i lx ly = (every-at (length xs) (λ i. isOnMap (getD xs i (pos 0))) (parts .2) i lx, every-at (length ys) (λ i. isOnMap (getD ys i (pos 0))) (parts .3) i ly)
 
--- no squared distance needs more than 43 bits
-pub distance-le : {x y : ℤ} {xs ys : List ℤ} → Measurable x y xs ys → (i : ℕ) → i < length xs → getD (distances x y xs ys) i 0 ≤ 8000000000000
+-- no squared distance is larger
+pub distance-le : {x y : ℤ} {xs ys : List ℤ} → Measurable x y xs ys → (i : ℕ) → i < length xs → getD (distances x y xs ys) i 0 ≤ mostSquared
 distance-le {x} {y} {xs} {ys} m i l =
     let t = truck-mapped x y xs ys (m .mapped) in
     let s = shovel-mapped x y xs ys (m .mapped) i l (omega (arith, m .even)) in

@@ -11,6 +11,7 @@ use lib.Signed.{mag, ltZ, _≤ℤ_, leZ-yes}
 use mir.Syntax.{w32}
 use mir.Val.{hbits, SFits, toZ, ofZ}
 use mir.Facts.{toZ-ofZ}
+use Rattle.places.specs.Places.{mostApart}
 
 -- ---- differences
 
@@ -41,9 +42,9 @@ nonneg (negsuc n) e = absurd (subst T e tt)
 
 -- ---- what a machine integer of 32 bits reads back
 
-pub small-fits : (z : ℤ) → natAbs z ≤ 2000000 → SFits w32 z
+pub small-fits : (z : ℤ) → natAbs z ≤ mostApart → SFits w32 z
 small-fits (pos n) h = record { sfits = lt-of-le-of-lt h (lit< tt) }
-small-fits (negsuc n) h = let k : n ≤ 2000000 = omega arith in record { sfits = lt-of-le-of-lt k (lit< tt) }
+small-fits (negsuc n) h = let k : n ≤ mostApart = omega arith in record { sfits = lt-of-le-of-lt k (lit< tt) }
 
 -- as it is told of an entry of a slice
 abbrev pub given : {z : ℤ} → mag z < 2 ^ hbits w32 → SFits w32 z
@@ -56,7 +57,7 @@ module _ {z : ℤ} (fits : SFits w32 z) where
   pub read-back : read z ≡ z
   read-back = toZ-ofZ fits
 
-  pub turned : (r : ℤ) → natAbs z ≤ 2000000 → ltZ (read z) (pos 0) ≡ true → r ≡ pos 0 -ℤ read z → read r ≡ pos (natAbs z)
+  pub turned : (r : ℤ) → natAbs z ≤ mostApart → ltZ (read z) (pos 0) ≡ true → r ≡ pos 0 -ℤ read z → read r ≡ pos (natAbs z)
   turned r h t e =
       let same : r ≡ pos (natAbs z) = e ∙ ap (λ (y : ℤ). pos 0 -ℤ y) read-back ∙ opposite z (rw (read-back) at t) in
       ap read same ∙ toZ-ofZ (small-fits (pos (natAbs z)) h)

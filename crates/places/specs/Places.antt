@@ -2,7 +2,7 @@
 use mathlib.Core.Path.{_≡_}
 use mathlib.Core.Bool.{Bool, true, false, not, _&&_}
 use mathlib.Core.List.{List, [], _∷_, _++_}
-use Prim.Native.Nat.{ℕ}
+use Prim.Native.Nat.{ℕ, _*_}
 use lib.Dec.{eqb, leb}
 use lib.IntN.{ℤ, pos, negsuc, natAbs}
 use lib.ListN.{length, getD}
@@ -17,6 +17,13 @@ mostCoordinate = 1000000
 
 abbrev pub mostRadius : ℕ
 mostRadius = 3000000
+
+-- so the most that two coordinates are apart, and two places by squared distance
+abbrev pub mostApart : ℕ
+mostApart = 2 * mostCoordinate
+
+abbrev pub mostSquared : ℕ
+mostSquared = 2 * (mostApart * mostApart)
 
 -- what is handed over: the truck's place and, for each shovel, its number and its place
 pub record Places : Type 0 where

@@ -8,7 +8,7 @@ ghost use lib.Signed.{_≤ℤ_};
 ghost use mir.Syntax.{w32};
 ghost use mir.Val.{SFits};
 ghost use Rattle.places.specs.Distances.{squaredDistance, distances};
-ghost use Rattle.places.specs.Places.{isOnMap, Measurable};
+ghost use Rattle.places.specs.Places.{mostApart, isOnMap, Measurable};
 
 // A difference that fits.
 fn minus(a: i32, b: i32) -> i32
@@ -28,7 +28,7 @@ fn whole(z: i32) -> u64
 
 // The size of a difference of two coordinates.
 fn size(z: i32) -> u64
-    requires { ⌜ natAbs z ≤ 2000000 ⌝ }
+    requires { ⌜ natAbs z ≤ mostApart ⌝ }
     ensures { λ r. ⌜ r ≡ natAbs z ⌝ }
 {
     if z < 0 {
@@ -40,7 +40,7 @@ fn size(z: i32) -> u64
 // How far two coordinates are apart.
 fn apart(a: i32, b: i32) -> u64
     requires { ⌜ (isOnMap a ≡ true) × (isOnMap b ≡ true) ⌝ }
-    ensures { λ r. ⌜ (r ≡ natAbs (a -ℤ b)) × (r ≤ 2000000) ⌝ }
+    ensures { λ r. ⌜ (r ≡ natAbs (a -ℤ b)) × (r ≤ mostApart) ⌝ }
 {
     size(minus(a, b))
 }

@@ -36,7 +36,7 @@ use card_read::read;
 use card_table::table;
 use card_write::write;
 use generator::call;
-use nearby::Within;
+use nearby::WithinAnswer;
 use record::order;
 use tsc::Card;
 use tsc::TABLE_SIZE;
@@ -199,7 +199,7 @@ pub extern "C" fn tiedraw_within(
     shovels: &[u16],
     xs: &[i32],
     ys: &[i32],
-) -> Within
+) -> WithinAnswer
     ensures { λ r. ⌜ r ≡ withinRadius (placed x y (now (shovels .entry)) (now (xs .entry)) (now (ys .entry))) radius ⌝ }
 {
     within::call::within(x, y, radius, shovels, xs, ys)

@@ -10,10 +10,10 @@ use Rattle.cycle.specs.Notation.{count}
 use Rattle.refusals.specs.Refusals.{firstOf}
 use Rattle.ties.specs.Ties.{mostShovels}
 use Rattle.places.specs.Distances.{square}
-use Rattle.places.specs.Places.{Places, distancesOf, onMap, isRadius, Measurable}
+use Rattle.places.specs.Places.{mostSquared, Places, distancesOf, onMap, isRadius, Measurable}
 use Rattle.places.proofs.Distances.{length-distances}
 use Rattle.places.proofs.Places.{places-passed, paired-parts, distance-le}
-use Rattle.nearby.specs.declared.Within.{Within}
+use Rattle.nearby.specs.declared.WithinAnswer.{WithinAnswer}
 use Rattle.nearby.specs.Calls.{withinChecks, withinRadius}
 use Rattle.nearby.proofs.Answers.{within-listed, paired-list}
 use Rattle.within.specs.Sorting.{keysOf, isListed, withFirst}
@@ -37,7 +37,7 @@ module _ (q : Places) (radius : ℤ) (z : firstOf (withinChecks q radius) ≡ 0)
   -- the keys, how many are listed, and the numbers put at their places
   pub listed-by : ((i : ℕ) → getD (q .shovels) i 0 < 65536) → {keys numbers : List ℕ} {k : ℕ} → keys ≡ keysOf (q .shovels) (distancesOf q) (square radius)
       → k ≡ count (length keys) (isListed keys) → numbers ≡ withFirst keys (q .shovels) (length keys) (replicate mostShovels 0)
-      → _≡_ {A = Within} (record { shovels = numbers; count = k; refusal = 0 }) (withinRadius q radius)
+      → _≡_ {A = WithinAnswer} (record { shovels = numbers; count = k; refusal = 0 }) (withinRadius q radius)
   listed-by narrow {keys} {numbers} {k} e ek en =
       let p = places-passed (q .shovels) (q .xs) (q .ys) (onMap (q .x) (q .y) (q .xs) (q .ys) && isRadius radius) z in
       let ds = distancesOf q in
@@ -45,7 +45,7 @@ module _ (q : Places) (radius : ℤ) (z : firstOf (withinChecks q radius) ≡ 0)
       let n = length-distances (q .x) (q .y) (q .xs) (q .ys) in
       let paired = paired-list q radius z in
       let slim : (i : ℕ) → i < length ds → getD (q .shovels) i 0 < 65536 = λ i l. narrow i in
-      let small : (i : ℕ) → i < length ds → getD ds i 0 ≤ 8000000000000 = λ i l. distance-le (free .measurable) i (omega (arith, n)) in
+      let small : (i : ℕ) → i < length ds → getD ds i 0 ≤ mostSquared = λ i l. distance-le (free .measurable) i (omega (arith, n)) in
       let many = ap length e ∙ length-keys (q .shovels) ds limit in
       let counted = ek ∙ ap₂ (λ (m : ℕ) (ks : List ℕ). count m (isListed ks)) many e ∙ count-is (q .shovels) ds limit slim small in
       let listed = en ∙ ap₂ (λ (m : ℕ) (ks : List ℕ). withFirst ks (q .shovels) m (replicate mostShovels 0)) many e

@@ -6,7 +6,7 @@ ghost use Rattle.places.specs.Places.{placed, onMap, isRadius};
 ghost use Rattle.nearby.specs.Calls.{noList, withinRadius};
 use super::keys;
 use super::list;
-use nearby::Within;
+use nearby::WithinAnswer;
 use places::map;
 use tie_list::check::MOST_SHOVELS;
 
@@ -21,11 +21,11 @@ fn is_allowed(x: i32, y: i32, radius: i32, xs: &[i32], ys: &[i32]) -> bool
 }
 
 // A refusal, with no list.
-fn refused(number: u8) -> Within
+fn refused(number: u8) -> WithinAnswer
     ensures { λ r. ⌜ r ≡ noList number ⌝ }
 {
     let none = [0u16; MOST_SHOVELS];
-    Within {
+    WithinAnswer {
         shovels: none,
         count: 0,
         refusal: number,
@@ -43,7 +43,7 @@ fn squared(radius: i32) -> u64
 
 // The shovels within the radius around (x, y), by distance and then by number; or the first refusal of 12 to 15 and 25 that applies. No distance is worked out
 // before that is known.
-pub fn within(x: i32, y: i32, radius: i32, shovels: &[u16], xs: &[i32], ys: &[i32]) -> Within
+pub fn within(x: i32, y: i32, radius: i32, shovels: &[u16], xs: &[i32], ys: &[i32]) -> WithinAnswer
     ensures { λ r. ⌜ r ≡ withinRadius (placed x y (now (shovels .entry)) (now (xs .entry)) (now (ys .entry))) radius ⌝ }
 {
     let allowed = is_allowed(x, y, radius, xs, ys);
@@ -55,7 +55,7 @@ pub fn within(x: i32, y: i32, radius: i32, shovels: &[u16], xs: &[i32], ys: &[i3
     let n = xs.len();
     let mut numbers = [0u16; MOST_SHOVELS];
     let count = list::list_by(&found[..n], shovels, &mut numbers);
-    Within {
+    WithinAnswer {
         shovels: numbers,
         count: count as u8,
         refusal: 0,

@@ -2,11 +2,12 @@ use Prim.Native.Nat.{ℕ, _*_, _≤_}
 use native.Mathlib.Nat.{mul-le-mul, lt-of-le-of-lt, add-le-add}
 use lib.Dec.{lit<}
 use Rattle.places.specs.Distances.{squaredDistance}
+use Rattle.places.specs.Places.{mostApart}
 use Rattle.places.proofs.Signed.{read-back}
 use Rattle.places.proofs.distance.squared_distance.Statement.{statement}
 use Rattle.places.proofs.distance.squared_distance.Tie as tie
 
-squared : {n : ℕ} → n ≤ 2000000 → n * n ≤ 2000000 * 2000000
+squared : {n : ℕ} → n ≤ mostApart → n * n ≤ mostApart * mostApart
 squared h = mul-le-mul h h
 
 apart-requires : tie.Need-apart-requires
