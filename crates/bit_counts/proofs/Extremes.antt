@@ -13,13 +13,13 @@ use lib.ListN.{length, take, length-reverse, length-append}
 use lib.Seq.{take_all, take-append-le, length-take-le}
 use Rattle.bit_counts.specs.Counts.{balance, running_sum, above, largest, furthest, peak, trough}
 use Rattle.bit_counts.proofs.Difference.{difference_plus, difference_minus, difference_opposite, difference_size, difference_above}
-use Rattle.bit_counts.proofs.Largest.{largest_ge, largest-at, largest_le, largest_ext}
-use Rattle.bit_counts.proofs.Sums.{meeting, meeting-back, ones, zeros, balance_difference, balance-size, balance-back, balance-bound}
+use Rattle.bit_counts.proofs.Largest.{largest_ge, largest_at, largest_le, largest_ext}
+use Rattle.bit_counts.proofs.Sums.{meeting, meeting_back, ones, zeros, balance_difference, balance-size, balance_back, balance-bound}
 
 -- the largest excess of u over d, where neither has any at 0, is an excess
 module _ (n : ℕ) (u d : ℕ → ℕ) (begin : u 0 ≡ d 0) where
   reached : (k : ℕ) × (k ≤ n) × (u k ≡ d k + largest n (λ j. u j - d j))
-  reached = go (ℕ_discrete (largest n (λ j. u j - d j)) 0) (largest-at n (λ j. u j - d j))
+  reached = go (ℕ_discrete (largest n (λ j. u j - d j)) 0) (largest_at n (λ j. u j - d j))
     where
       go : Dec (largest n (λ j. u j - d j) ≡ 0) → (k : ℕ) × (k ≤ n) × (largest n (λ j. u j - d j) ≡ u k - d k)
           → (k : ℕ) × (k ≤ n) × (u k ≡ d k + largest n (λ j. u j - d j))
@@ -53,11 +53,11 @@ module _ (bits : List ℕ) where
   unfolding meeting
   begun = refl
 
-  pub peak-at : (k : ℕ) × (k ≤ length bits) × (u k ≡ d k + peak bits)
-  peak-at = let r = reached (length bits) u d begun in (r.0, r.1, r.2 ∙ ap (λ (p : ℕ). d r.0 + p) (sym peak_is))
+  pub peak_at : (k : ℕ) × (k ≤ length bits) × (u k ≡ d k + peak bits)
+  peak_at = let r = reached (length bits) u d begun in (r.0, r.1, r.2 ∙ ap (λ (p : ℕ). d r.0 + p) (sym peak_is))
 
-  pub trough-at : (k : ℕ) × (k ≤ length bits) × (d k ≡ u k + trough bits)
-  trough-at = let r = reached (length bits) d u (sym begun) in (r.0, r.1, r.2 ∙ ap (λ (p : ℕ). u r.0 + p) (sym trough_is))
+  pub trough_at : (k : ℕ) × (k ≤ length bits) × (d k ≡ u k + trough bits)
+  trough_at = let r = reached (length bits) d u (sym begun) in (r.0, r.1, r.2 ∙ ap (λ (p : ℕ). u r.0 + p) (sym trough_is))
 
   -- all of the bits
   whole : take (length bits) bits ≡ bits
@@ -67,20 +67,20 @@ module _ (bits : List ℕ) where
   ends = let w = within (length bits) (omega arith) in (omega (arith, ap ones whole, ap zeros whole, w.0), omega (arith, ap ones whole, ap zeros whole, w.1))
 
   -- READ FORWARD the largest distance is the larger extreme's
-  size-at : (k : ℕ) → nat_abs (running_sum bits k) ≡ (u k - d k) + (d k - u k)
-  size-at k = balance-size (take k bits)
+  size_at : (k : ℕ) → nat_abs (running_sum bits k) ≡ (u k - d k) + (d k - u k)
+  size_at k = balance-size (take k bits)
 
-  pub forward-extremes : furthest bits ≡ max (peak bits) (trough bits)
+  pub forward_extremes : furthest bits ≡ max (peak bits) (trough bits)
   unfolding furthest
-  forward-extremes =
-      let p = peak-at in
-      let t = trough-at in
+  forward_extremes =
+      let p = peak_at in
+      let t = trough_at in
       le_antisymm
-      (largest_le (length bits) (λ k. nat_abs (running_sum bits k)) _ (λ k l. omega (arith, size-at k, within k l)))
+      (largest_le (length bits) (λ k. nat_abs (running_sum bits k)) _ (λ k l. omega (arith, size_at k, within k l)))
       (omega (
         arith,
-        size-at p.0,
-        size-at t.0,
+        size_at p.0,
+        size_at t.0,
         p.2,
         t.2,
         largest_ge (length bits) (λ k. nat_abs (running_sum bits k)) p.0 p.1,
@@ -95,7 +95,7 @@ module _ (bits : List ℕ) where
   rest : (p : ℕ → Bool) (j : ℕ) → j ≤ length bits → meeting p (take (length bits - j) (reverse bits)) + meeting p (take j bits) ≡ meeting p bits
   rest p j l =
       let others : length bits - (length bits - j) ≡ j = omega arith in
-      ap (λ (i : ℕ). meeting p (take (length bits - j) (reverse bits)) + meeting p (take i bits)) (sym others) ∙ meeting-back p bits (length bits - j) (omega arith)
+      ap (λ (i : ℕ). meeting p (take (length bits - j) (reverse bits)) + meeting p (take i bits)) (sym others) ∙ meeting_back p bits (length bits - j) (omega arith)
 
   -- how far the total is above the lowest sum, and below the highest
   abbrev pub fall : ℕ
@@ -126,19 +126,19 @@ module _ (bits : List ℕ) where
     abbrev b : ℕ
     b = zeros (take (length bits - j) (reverse bits))
 
-    back-size : (back (length bits - j) ≡ (a - b) + (b - a)) × (a + u j ≡ ones bits) × (b + d j ≡ zeros bits)
-    back-size = (balance-size (take (length bits - j) (reverse bits)), rest (λ x. not (eqb x 0)) j l, rest (λ x. eqb x 0) j l)
+    back_size : (back (length bits - j) ≡ (a - b) + (b - a)) × (a + u j ≡ ones bits) × (b + d j ≡ zeros bits)
+    back_size = (balance-size (take (length bits - j) (reverse bits)), rest (λ x. not (eqb x 0)) j l, rest (λ x. eqb x 0) j l)
 
     back_between : back (length bits - j) ≤ max fall rise
-    back_between = omega (arith, back-size, within j l, fall_is, rise_is)
+    back_between = omega (arith, back_size, within j l, fall_is, rise_is)
 
     back_at : back (length bits - j) ≤ furthest (reverse bits)
     unfolding furthest
     back_at = largest_ge (length (reverse bits)) back (length bits - j) (omega (arith, length-reverse bits))
 
-  back-all : furthest (reverse bits) ≤ max fall rise
+  back_all : furthest (reverse bits) ≤ max fall rise
   unfolding furthest
-  back-all = largest_le (length (reverse bits)) back _ each
+  back_all = largest_le (length (reverse bits)) back _ each
     where
       each : (k : ℕ) → k ≤ length (reverse bits) → back k ≤ max fall rise
       each k l =
@@ -146,13 +146,13 @@ module _ (bits : List ℕ) where
           let same : length bits - (length bits - k) ≡ k = omega arith in
           subst (λ (i : ℕ). back i ≤ max fall rise) same (back_between (length bits - k) (omega arith))
 
-  pub backward-extremes : furthest (reverse bits) ≡ max (nat_abs (balance bits +ℤ pos (trough bits))) (nat_abs (pos (peak bits) -ℤ balance bits))
-  backward-extremes =
-      let p = peak-at in
-      let t = trough-at in
-      let low : fall ≤ furthest (reverse bits) = omega (arith, back_at t.0 t.1, back-size t.0 t.1, t.2, fall_is) in
-      let high : rise ≤ furthest (reverse bits) = omega (arith, back_at p.0 p.1, back-size p.0 p.1, p.2, rise_is) in
-      le_antisymm back-all (omega arith)
+  pub backward_extremes : furthest (reverse bits) ≡ max (nat_abs (balance bits +ℤ pos (trough bits))) (nat_abs (pos (peak bits) -ℤ balance bits))
+  backward_extremes =
+      let p = peak_at in
+      let t = trough_at in
+      let low : fall ≤ furthest (reverse bits) = omega (arith, back_at t.0 t.1, back_size t.0 t.1, t.2, fall_is) in
+      let high : rise ≤ furthest (reverse bits) = omega (arith, back_at p.0 p.1, back_size p.0 p.1, p.2, rise_is) in
+      le_antisymm back_all (omega arith)
 
 -- ---- the largest distance, the balance and the length
 
@@ -161,17 +161,17 @@ module _ (bits : List ℕ) where
   unfolding furthest
   forward-lower = omega (arith, ap (λ (s : List ℕ). nat_abs (balance s)) (whole bits), largest_ge (length bits) (λ k. nat_abs (running_sum bits k)) (length bits) (omega arith))
 
-  forward-upper : furthest bits ≤ length bits
+  forward_upper : furthest bits ≤ length bits
   unfolding furthest
-  forward-upper = largest_le (length bits) _ _ (λ k l. omega (arith, balance-bound (take k bits), length-take-le k bits l))
+  forward_upper = largest_le (length bits) _ _ (λ k l. omega (arith, balance-bound (take k bits), length-take-le k bits l))
 
 -- THE DISTANCE IS BETWEEN THE BALANCE AND THE LENGTH, forward and backward
-pub forward-bounds : (bits : List ℕ) → (nat_abs (balance bits) ≤ furthest bits) × (furthest bits ≤ length bits)
-forward-bounds bits = (forward-lower bits, forward-upper bits)
+pub forward_bounds : (bits : List ℕ) → (nat_abs (balance bits) ≤ furthest bits) × (furthest bits ≤ length bits)
+forward_bounds bits = (forward-lower bits, forward_upper bits)
 
-pub backward-bounds : (bits : List ℕ) → (nat_abs (balance bits) ≤ furthest (reverse bits)) × (furthest (reverse bits) ≤ length bits)
-backward-bounds bits =
-    (omega (arith, ap nat_abs (balance-back bits), forward-lower (reverse bits)), omega (arith, length-reverse bits, forward-upper (reverse bits)))
+pub backward_bounds : (bits : List ℕ) → (nat_abs (balance bits) ≤ furthest (reverse bits)) × (furthest (reverse bits) ≤ length bits)
+backward_bounds bits =
+    (omega (arith, ap nat_abs (balance_back bits), forward-lower (reverse bits)), omega (arith, length-reverse bits, forward_upper (reverse bits)))
 
 -- each sum is as near to zero as that, and one is as far
 pub furthest_is : (bits : List ℕ) → ((k : ℕ) → k ≤ length bits → nat_abs (running_sum bits k) ≤ furthest bits)
@@ -179,7 +179,7 @@ pub furthest_is : (bits : List ℕ) → ((k : ℕ) → k ≤ length bits → nat
 unfolding furthest
 furthest_is bits =
     let f : ℕ → ℕ = λ k. nat_abs (running_sum bits k) in
-    let r = largest-at (length bits) f in
+    let r = largest_at (length bits) f in
     (largest_ge (length bits) f, (r.0, r.1, sym r.2))
 
 -- ---- a bit more
@@ -188,21 +188,21 @@ module _ (bits : List ℕ) (b : ℕ) where
   abbrev more : List ℕ
   more = bits ++ b ∷ []
 
-  more-length : length more ≡ suc (length bits)
-  more-length = length-append bits (b ∷ []) ∙ omega arith
+  more_length : length more ≡ suc (length bits)
+  more_length = length-append bits (b ∷ []) ∙ omega arith
 
-  largest-next : (g : ℤ → ℕ) → largest (length more) (λ k. g (running_sum more k)) ≡ max (largest (length bits) (λ k. g (running_sum bits k))) (g (balance more))
+  largest_next : (g : ℤ → ℕ) → largest (length more) (λ k. g (running_sum more k)) ≡ max (largest (length bits) (λ k. g (running_sum bits k))) (g (balance more))
   unfolding largest
-  largest-next g =
-      ap (λ (n : ℕ). largest n (λ k. g (running_sum more k))) more-length
+  largest_next g =
+      ap (λ (n : ℕ). largest n (λ k. g (running_sum more k))) more_length
       ∙ ap₂ max
       (largest_ext (length bits) _ _ (λ k l. ap (λ (s : List ℕ). g (balance s)) (take-append-le k bits (b ∷ []) l)))
-      (ap (λ (s : List ℕ). g (balance s)) (take_all (suc (length bits)) more (omega (arith, more-length))))
+      (ap (λ (s : List ℕ). g (balance s)) (take_all (suc (length bits)) more (omega (arith, more_length))))
 
-  pub peak-next : peak more ≡ max (peak bits) (above (balance more))
+  pub peak_next : peak more ≡ max (peak bits) (above (balance more))
   unfolding peak
-  peak-next = largest-next above
+  peak_next = largest_next above
 
-  pub trough-next : trough more ≡ max (trough bits) (above (neg_ℤ (balance more)))
+  pub trough_next : trough more ≡ max (trough bits) (above (neg_ℤ (balance more)))
   unfolding trough
-  trough-next = largest-next (λ z. above (neg_ℤ z))
+  trough_next = largest_next (λ z. above (neg_ℤ z))

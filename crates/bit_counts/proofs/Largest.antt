@@ -14,17 +14,17 @@ largest_ge (suc n) f k l = go (dec_le k n) (largest_ge n f k)
     go (yes h) ih = omega (arith, ih h)
     go (no h) ih = let e : k ≡ suc n = omega arith in omega (arith, ap f e)
 
-pub largest-at : (n : ℕ) (f : ℕ → ℕ) → (k : ℕ) × (k ≤ n) × (largest n f ≡ f k)
+pub largest_at : (n : ℕ) (f : ℕ → ℕ) → (k : ℕ) × (k ≤ n) × (largest n f ≡ f k)
 unfolding largest
-largest-at zero f = (0, omega arith, refl)
-largest-at (suc n) f = go (dec_le (largest n f) (f (suc n))) (largest-at n f)
+largest_at zero f = (0, omega arith, refl)
+largest_at (suc n) f = go (dec_le (largest n f) (f (suc n))) (largest_at n f)
   where
     go : Dec (largest n f ≤ f (suc n)) → (k : ℕ) × (k ≤ n) × (largest n f ≡ f k) → (k : ℕ) × (k ≤ suc n) × (max (largest n f) (f (suc n)) ≡ f k)
     go (yes h) r = (suc n, omega arith, omega arith)
     go (no h) r = (r.0, omega (arith, r.1), omega (arith, r.2))
 
 pub largest_le : (n : ℕ) (f : ℕ → ℕ) (b : ℕ) → ((k : ℕ) → k ≤ n → f k ≤ b) → largest n f ≤ b
-largest_le n f b h = let r = largest-at n f in omega (arith, r.2, h r.0 r.1)
+largest_le n f b h = let r = largest_at n f in omega (arith, r.2, h r.0 r.1)
 
 pub largest_ext : (n : ℕ) (f g : ℕ → ℕ) → ((k : ℕ) → k ≤ n → f k ≡ g k) → largest n f ≡ largest n g
 unfolding largest

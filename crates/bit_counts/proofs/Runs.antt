@@ -15,19 +15,19 @@ pub runs-first : (b : ℕ) → runs (b ∷ []) ≡ 1
 unfolding runs
 runs-first b = ap (λ (c : ℕ). 1 + c) (count_none _)
 
-runs-front : (a b : ℕ) (bs : List ℕ) → runs (a ∷ b ∷ bs) ≡ one (not (eqb a b)) + runs (b ∷ bs)
+runs_front : (a b : ℕ) (bs : List ℕ) → runs (a ∷ b ∷ bs) ≡ one (not (eqb a b)) + runs (b ∷ bs)
 unfolding runs
-runs-front a b bs = omega (arith, count-first (length bs) (λ k. not (eqb (get_or (a ∷ b ∷ bs) k 0) (get_or (b ∷ bs) k 0))))
+runs_front a b bs = omega (arith, count-first (length bs) (λ k. not (eqb (get_or (a ∷ b ∷ bs) k 0) (get_or (b ∷ bs) k 0))))
 
 -- the last run of the first list and the first of the second are one where the bits on both sides are equal
 pub runs_append : (x : ℕ) (s : List ℕ) (y : ℕ) (t : List ℕ)
     → runs ((x ∷ s) ++ y ∷ t) + one (eqb (get_or (x ∷ s) (length s) 0) y) ≡ runs (x ∷ s) + runs (y ∷ t)
-runs_append x [] y t = omega (arith, runs-front x y t, runs-first x, one_or_other (eqb x y))
-runs_append x (z ∷ s) y t = omega (arith, runs-front x z (s ++ y ∷ t), runs-front x z s, runs_append z s y t)
+runs_append x [] y t = omega (arith, runs_front x y t, runs-first x, one_or_other (eqb x y))
+runs_append x (z ∷ s) y t = omega (arith, runs_front x z (s ++ y ∷ t), runs_front x z s, runs_append z s y t)
 
 -- one run more where the bit differs from the last one
-pub runs-next : (x b : ℕ) (bits : List ℕ) → runs (x ∷ (bits ++ b ∷ [])) ≡ runs (x ∷ bits) + one (not (eqb (get_or (x ∷ bits) (length bits) 0) b))
-runs-next x b bits = omega (arith, runs_append x bits b [], runs-first b, one_or_other (eqb (get_or (x ∷ bits) (length bits) 0) b))
+pub runs_next : (x b : ℕ) (bits : List ℕ) → runs (x ∷ (bits ++ b ∷ [])) ≡ runs (x ∷ bits) + one (not (eqb (get_or (x ∷ bits) (length bits) 0) b))
+runs_next x b bits = omega (arith, runs_append x bits b [], runs-first b, one_or_other (eqb (get_or (x ∷ bits) (length bits) 0) b))
 
 -- there are no more runs than bits
 pub runs-bound : (bits : List ℕ) → runs bits ≤ length bits

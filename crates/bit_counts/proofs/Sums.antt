@@ -18,10 +18,10 @@ meeting p [] = 0
 meeting p (b ∷ bs) = one (p b) + meeting p bs
 
 module _ (p : ℕ → Bool) where
-  pub meeting-append : (s t : List ℕ) → meeting p (s ++ t) ≡ meeting p s + meeting p t
+  pub meeting_append : (s t : List ℕ) → meeting p (s ++ t) ≡ meeting p s + meeting p t
   unfolding meeting
-  meeting-append [] t = omega arith
-  meeting-append (b ∷ s) t = omega (arith, meeting-append s t)
+  meeting_append [] t = omega arith
+  meeting_append (b ∷ s) t = omega (arith, meeting_append s t)
 
   meeting_aux : (s t : List ℕ) → meeting p (reverse_aux s t) ≡ meeting p s + meeting p t
   unfolding meeting
@@ -29,10 +29,10 @@ module _ (p : ℕ → Bool) where
   meeting_aux (b ∷ s) t = omega (arith, meeting_aux s (b ∷ t))
 
   -- of the first k entries read backward: those that are not among the others
-  pub meeting-back : (bits : List ℕ) (k : ℕ) → k ≤ length bits
+  pub meeting_back : (bits : List ℕ) (k : ℕ) → k ≤ length bits
       → meeting p (take k (reverse bits)) + meeting p (take (length bits - k) bits) ≡ meeting p bits
   unfolding meeting
-  meeting-back bits k l =
+  meeting_back bits k l =
       let a = take (length bits - k) bits in
       let b = drop (length bits - k) bits in
       let parts : reverse bits ≡ reverse b ++ reverse a
@@ -43,7 +43,7 @@ module _ (p : ℕ → Bool) where
         arith,
         ap (meeting p) front,
         meeting_aux b [],
-        meeting-append a b,
+        meeting_append a b,
         ap (meeting p) (take-append-drop (length bits - k) bits),
       )
 
@@ -59,10 +59,10 @@ pub one_or_other : (t : Bool) → one (not t) + one t ≡ 1
 one_or_other true = refl
 one_or_other false = refl
 
-pub ones-zeros : (bits : List ℕ) → ones bits + zeros bits ≡ length bits
+pub ones_zeros : (bits : List ℕ) → ones bits + zeros bits ≡ length bits
 unfolding meeting
-ones-zeros [] = refl
-ones-zeros (b ∷ bs) = omega (arith, one_or_other (eqb b 0), ones-zeros bs)
+ones_zeros [] = refl
+ones_zeros (b ∷ bs) = omega (arith, one_or_other (eqb b 0), ones_zeros bs)
 
 -- the sum of the signs is ones less zeros
 sign_difference : (t : Bool) → Difference (cond t (negsuc 0) (pos 1)) (one (not t)) (one t)
@@ -80,16 +80,16 @@ balance-size bits = difference_size (balance bits) (ones bits) (zeros bits) (bal
 -- of two lists, one after the other, the balances add up
 pub balance-append : (s t : List ℕ) → balance (s ++ t) ≡ balance s +ℤ balance t
 balance-append s t =
-    let o = meeting-append (λ b. not (eqb b 0)) s t in
-    let z = meeting-append (λ b. eqb b 0) s t in
+    let o = meeting_append (λ b. not (eqb b 0)) s t in
+    let z = meeting_append (λ b. eqb b 0) s t in
     difference_one (balance (s ++ t)) (balance s +ℤ balance t) (ones s + ones t) (zeros s + zeros t)
     (difference_shift (balance (s ++ t)) (ones (s ++ t)) (zeros (s ++ t)) _ _ (balance_difference (s ++ t)) (omega arith))
     (difference_plus (balance s) (balance t) (ones s) (zeros s) (ones t) (zeros t) (balance_difference s) (balance_difference t))
 
 -- read backward it is the same
-pub balance-back : (bits : List ℕ) → balance (reverse bits) ≡ balance bits
+pub balance_back : (bits : List ℕ) → balance (reverse bits) ≡ balance bits
 unfolding meeting
-balance-back bits =
+balance_back bits =
     let o = meeting_aux (λ b. not (eqb b 0)) bits [] in
     let z = meeting_aux (λ b. eqb b 0) bits [] in
     difference_one (balance (reverse bits)) (balance bits) (ones bits) (zeros bits)
@@ -97,7 +97,7 @@ balance-back bits =
 
 -- BALANCE AND LENGTH: of the same parity, and the balance is not the larger
 pub balance-parity : (bits : List ℕ) → nat_abs (balance bits) % 2 ≡ length bits % 2
-balance-parity bits = omega (arith, balance-size bits, ones-zeros bits)
+balance-parity bits = omega (arith, balance-size bits, ones_zeros bits)
 
 pub balance-bound : (bits : List ℕ) → nat_abs (balance bits) ≤ length bits
-balance-bound bits = omega (arith, balance-size bits, ones-zeros bits)
+balance-bound bits = omega (arith, balance-size bits, ones_zeros bits)

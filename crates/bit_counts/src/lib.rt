@@ -1,7 +1,7 @@
 // The bits of a strip of words, counted for the tests of NIST SP 800-22, on the definitions. What that means is in specs/, and what holds of it in proofs/.
 
 // The four integers (document 02, Eight).
-#[derive(Drop)]
+#[derive(Clone, Copy)]
 pub struct Counts {
     // ones minus zeros
     pub balance: i32,
@@ -14,7 +14,7 @@ pub struct Counts {
 }
 
 // What a count of bits answers: the integers, or the refusal.
-#[derive(Drop)]
+#[derive(Clone, Copy)]
 pub enum BitCounts {
     Counted(Counts),
     Refused(u8),

@@ -5,7 +5,7 @@ use Prim.Native.Nat.{ℕ, ◌*◌, ◌^◌, ◌≤◌, ◌<◌}
 use borrow.Author.Tests.{ltb-true, ltb-false, not-false}
 use lib.Dec.{ltb}
 use lib.ListN.{length, get_or}
-use Rattle.cycle.proofs.Every.{every-at}
+use Rattle.cycle.proofs.Every.{every_at}
 use Rattle.refusals.specs.Refusals.{first_of, NoneApplies}
 use Rattle.refusals.proofs.Refusals.{none_first}
 use Rattle.bit_strip.specs.Strip.{most_strip_words, strip_checks}
@@ -22,6 +22,6 @@ strip_fits n strip room z =
     let h = none_first (strip_checks n strip room) z in
     record {
       short = ltb-false most_strip_words (length strip) h.0;
-      narrow = λ k l. ltb-true _ _ (every-at (length strip) (λ k. ltb (get_or strip k 0) (2 ^ n)) (not-false _ h.1.0) k l);
+      narrow = λ k l. ltb-true _ _ (every_at (length strip) (λ k. ltb (get_or strip k 0) (2 ^ n)) (not-false _ h.1.0) k l);
       enough = ltb-false room (n * length strip) h.1.1.0;
     }

@@ -13,9 +13,9 @@ use Rattle.cycle.specs.Notation.{All, one}
 use Rattle.cycle.proofs.Parity.{bit_cases}
 use Rattle.bit_counts.specs.Counts.{balance, largest, furthest, peak, trough, runs, counts_of}
 use Rattle.bit_counts.proofs.Difference.{difference_of, difference_shift, difference_opposite, difference_above, difference_one}
-use Rattle.bit_counts.proofs.Sums.{meeting, meeting-append, ones, zeros, ones-zeros, balance_difference}
-use Rattle.bit_counts.proofs.Extremes.{peak-next, trough-next, ends, forward-extremes, backward-extremes, forward-bounds, fall_is, rise_is}
-use Rattle.bit_counts.proofs.Runs.{runs-first, runs-next}
+use Rattle.bit_counts.proofs.Sums.{meeting, meeting_append, ones, zeros, ones_zeros, balance_difference}
+use Rattle.bit_counts.proofs.Extremes.{peak_next, trough_next, ends, forward_extremes, backward_extremes, forward_bounds, fall_is, rise_is}
+use Rattle.bit_counts.proofs.Runs.{runs-first, runs_next}
 use Rattle.bit_tally.specs.declared.tally.Tally.{Tally}
 use Rattle.bit_tally.specs.Tally.{base, tally_of_none, with_bit, tallied, Extremes, counts_from}
 
@@ -38,28 +38,28 @@ module _ (bits : List ℕ) (b : ℕ) (l : b < 2) (room : length bits < base) whe
   one_more : (ones more ≡ ones bits + b) × (zeros more + b ≡ zeros bits + 1)
   unfolding meeting
   one_more = bit_cases (λ b. (ones (bits ++ b ∷ []) ≡ ones bits + b) × (zeros (bits ++ b ∷ []) + b ≡ zeros bits + 1))
-      (meeting-append (λ x. not (eqb x 0)) bits (0 ∷ []) ∙ omega arith, omega (arith, meeting-append (λ x. eqb x 0) bits (0 ∷ [])))
-      (meeting-append (λ x. not (eqb x 0)) bits (1 ∷ []) ∙ omega arith, omega (arith, meeting-append (λ x. eqb x 0) bits (1 ∷ [])))
+      (meeting_append (λ x. not (eqb x 0)) bits (0 ∷ []) ∙ omega arith, omega (arith, meeting_append (λ x. eqb x 0) bits (0 ∷ [])))
+      (meeting_append (λ x. not (eqb x 0)) bits (1 ∷ []) ∙ omega arith, omega (arith, meeting_append (λ x. eqb x 0) bits (1 ∷ [])))
       b l
 
   sum_more : base + ones bits - zeros bits - 1 + 2 * b ≡ base + ones more - zeros more
-  sum_more = omega (arith, one_more, ones-zeros bits)
+  sum_more = omega (arith, one_more, ones_zeros bits)
 
-  low-more : min (base - trough bits) (base + ones more - zeros more) ≡ base - trough more
-  low-more =
-      let below = trough-next bits b
+  low_more : min (base - trough bits) (base + ones more - zeros more) ≡ base - trough more
+  low_more =
+      let below = trough_next bits b
       ∙ ap (max (trough bits)) (difference_above (neg_ℤ (balance more)) _ _ (difference_opposite (balance more) (ones more) (zeros more) (balance_difference more))) in
       omega (arith, below)
 
-  high-more : max (base + peak bits) (base + ones more - zeros more) ≡ base + peak more
-  high-more =
-      let over = peak-next bits b ∙ ap (max (peak bits)) (difference_above (balance more) _ _ (balance_difference more)) in
+  high_more : max (base + peak bits) (base + ones more - zeros more) ≡ base + peak more
+  high_more =
+      let over = peak_next bits b ∙ ap (max (peak bits)) (difference_above (balance more) _ _ (balance_difference more)) in
       omega (arith, over)
 
-runs-more : (bits : List ℕ) (b : ℕ) → b < 2 → runs bits + one (not (eqb (last_of bits) b)) ≡ runs (bits ++ b ∷ [])
+runs_more : (bits : List ℕ) (b : ℕ) → b < 2 → runs bits + one (not (eqb (last_of bits) b)) ≡ runs (bits ++ b ∷ [])
 unfolding last_of runs
-runs-more [] b l = ap (λ (t : Bool). 0 + one (not t)) (ne_eqb 2 b (λ e. omega arith)) ∙ sym (runs-first b)
-runs-more (x ∷ bits) b l = sym (runs-next x b bits)
+runs_more [] b l = ap (λ (t : Bool). 0 + one (not t)) (ne_eqb 2 b (λ e. omega arith)) ∙ sym (runs-first b)
+runs_more (x ∷ bits) b l = sym (runs_next x b bits)
 
 last_more : (bits : List ℕ) (b : ℕ) → b ≡ last_of (bits ++ b ∷ [])
 unfolding last_of
@@ -68,21 +68,21 @@ last_more (x ∷ bits) b =
     let n : length (bits ++ b ∷ []) ≡ suc (length bits) = length-append bits (b ∷ []) ∙ omega arith in
     sym (ap (λ (n : ℕ). get_or (x ∷ (bits ++ b ∷ [])) n 0) n ∙ get_or-append_seam bits b [] 0)
 
-bit-more : (bits : List ℕ) (b : ℕ) → b < 2 → length bits < base → with_bit (tally_of bits) b ≡ tally_of (bits ++ b ∷ [])
+bit_more : (bits : List ℕ) (b : ℕ) → b < 2 → length bits < base → with_bit (tally_of bits) b ≡ tally_of (bits ++ b ∷ [])
 unfolding with_bit tally_of
-bit-more bits b l room =
+bit_more bits b l room =
     let s = sum_more bits b l room in
-    let low = ap (min (base - trough bits)) s ∙ low-more bits b l room in
-    let high = ap (max (base + peak bits)) s ∙ high-more bits b l room in
-    λ i. record { sum = s i; low = low i; high = high i; runs = runs-more bits b l i; last = last_more bits b i }
+    let low = ap (min (base - trough bits)) s ∙ low_more bits b l room in
+    let high = ap (max (base + peak bits)) s ∙ high_more bits b l room in
+    λ i. record { sum = s i; low = low i; high = high i; runs = runs_more bits b l i; last = last_more bits b i }
 
-bits-more : (bits rest : List ℕ) → All (λ b. b < 2) rest → length bits + length rest ≤ base → tallied (tally_of bits) rest ≡ tally_of (bits ++ rest)
+bits_more : (bits rest : List ℕ) → All (λ b. b < 2) rest → length bits + length rest ≤ base → tallied (tally_of bits) rest ≡ tally_of (bits ++ rest)
 unfolding tallied
-bits-more bits [] a room = ap tally_of (sym (append-nil bits))
-bits-more bits (b ∷ rest) a room =
+bits_more bits [] a room = ap tally_of (sym (append-nil bits))
+bits_more bits (b ∷ rest) a room =
     let size = length-append bits (b ∷ []) in
-    ap (λ (t : Tally). tallied t rest) (bit-more bits b a.0 (omega arith))
-    ∙ bits-more (bits ++ b ∷ []) rest a.1 (omega (arith, size))
+    ap (λ (t : Tally). tallied t rest) (bit_more bits b a.0 (omega arith))
+    ∙ bits_more (bits ++ b ∷ []) rest a.1 (omega (arith, size))
     ∙ ap tally_of (append_assoc bits (b ∷ []) rest)
 
 first : tally_of_none ≡ tally_of []
@@ -90,38 +90,38 @@ unfolding tally_of meeting largest balance peak trough runs last_of
 first = refl
 
 kept : (bits : List ℕ) → All (λ b. b < 2) bits → length bits ≤ base → tallied tally_of_none bits ≡ tally_of bits
-kept bits a room = ap (λ (t : Tally). tallied t bits) first ∙ bits-more [] bits a (omega arith)
+kept bits a room = ap (λ (t : Tally). tallied t bits) first ∙ bits_more [] bits a (omega arith)
 
 -- ---- the integers
 
 module _ (bits : List ℕ) (room : length bits ≤ base) where
   few : (peak bits ≤ base) × (trough bits ≤ base)
-  few = let f = forward-extremes bits in let b = forward-bounds bits in (omega (arith, f, b), omega (arith, f, b))
+  few = let f = forward_extremes bits in let b = forward_bounds bits in (omega (arith, f, b), omega (arith, f, b))
 
   extremes : Extremes (tally_of bits)
   unfolding tally_of
   extremes =
       let e = ends bits in
       let f = few in
-      let n = ones-zeros bits in
+      let n = ones_zeros bits in
       record { low = omega arith; high = omega arith; low_now = omega arith; high_now = omega arith; most = omega arith }
 
   balance-kept : sub_ℕ (base + ones bits - zeros bits) base ≡ balance bits
   balance-kept =
       let s = base + ones bits - zeros bits in
       difference_one (sub_ℕ s base) (balance bits) (ones bits) (zeros bits)
-      (difference_shift (sub_ℕ s base) s base (ones bits) (zeros bits) (difference_of s base) (omega (arith, ones-zeros bits)))
+      (difference_shift (sub_ℕ s base) s base (ones bits) (zeros bits) (difference_of s base) (omega (arith, ones_zeros bits)))
       (balance_difference bits)
 
   forward-kept : max (base + peak bits - base) (base - (base - trough bits)) ≡ furthest bits
-  forward-kept = omega (arith, forward-extremes bits, few)
+  forward-kept = omega (arith, forward_extremes bits, few)
 
   backward-kept : let s = base + ones bits - zeros bits in max (s - (base - trough bits)) (base + peak bits - s) ≡ furthest (reverse bits)
   backward-kept =
       let s = base + ones bits - zeros bits in
-      let low : s - (base - trough bits) + zeros bits ≡ ones bits + trough bits = omega (arith, ends bits, few, ones-zeros bits) in
-      let high : base + peak bits - s + ones bits ≡ peak bits + zeros bits = omega (arith, ends bits, few, ones-zeros bits) in
-      ap₂ max (omega (arith, low, fall_is bits)) (omega (arith, high, rise_is bits)) ∙ sym (backward-extremes bits)
+      let low : s - (base - trough bits) + zeros bits ≡ ones bits + trough bits = omega (arith, ends bits, few, ones_zeros bits) in
+      let high : base + peak bits - s + ones bits ≡ peak bits + zeros bits = omega (arith, ends bits, few, ones_zeros bits) in
+      ap₂ max (omega (arith, low, fall_is bits)) (omega (arith, high, rise_is bits)) ∙ sym (backward_extremes bits)
 
   counts-kept : counts_from (tally_of bits) ≡ counts_of bits
   unfolding counts_from counts_of tally_of

@@ -19,13 +19,13 @@ room-bit t b n l h =
     let o = one_le (not (eqb t.last b)) in
     record { down = omega (arith, h.down); up = omega (arith, h.up, h.down); runs = omega (arith, h.runs) }
 
-pub room-less : (t : Tally) (m n : ℕ) → n ≤ m → HasRoom t m → HasRoom t n
-room-less t m n l h = record { down = omega (arith, h.down); up = omega (arith, h.up); runs = omega (arith, h.runs) }
+pub room_less : (t : Tally) (m n : ℕ) → n ≤ m → HasRoom t m → HasRoom t n
+room_less t m n l h = record { down = omega (arith, h.down); up = omega (arith, h.up); runs = omega (arith, h.runs) }
 
-pub room-bits : (t : Tally) (bits : List ℕ) (n : ℕ) → All (λ b. b < 2) bits → HasRoom t (length bits + n) → HasRoom (tallied t bits) n
+pub room_bits : (t : Tally) (bits : List ℕ) (n : ℕ) → All (λ b. b < 2) bits → HasRoom t (length bits + n) → HasRoom (tallied t bits) n
 unfolding tallied
-room-bits t [] n a h = room-less t (0 + n) n (omega arith) h
-room-bits t (b ∷ bs) n a h = room-bits (with_bit t b) bs n a.1 (room-bit t b (length bs + n) a.0 (room-less t (suc (length bs) + n) (suc (length bs + n)) (omega arith) h))
+room_bits t [] n a h = room_less t (0 + n) n (omega arith) h
+room_bits t (b ∷ bs) n a h = room_bits (with_bit t b) bs n a.1 (room-bit t b (length bs + n) a.0 (room_less t (suc (length bs) + n) (suc (length bs + n)) (omega arith) h))
 
 -- no strip has more bits than the sum has room for
 pub few_bits : (n k : ℕ) → n ≤ widest_width → k ≤ most_strip_words → n * k ≤ base

@@ -15,10 +15,10 @@ use Rattle.bit_tally.specs.declared.tally.Tally.{Tally}
 use Rattle.bit_tally.specs.Tally.{with_bit, tallied}
 
 -- bits are 0 or 1
-pub word-bits : (n w : ℕ) → All (λ b. b < 2) (word_bits n w)
+pub word_bits_lem : (n w : ℕ) → All (λ b. b < 2) (word_bits n w)
 unfolding word_bits
-word-bits zero w = tt
-word-bits (suc n) w = (bit_lt n w, word-bits n w)
+word_bits_lem zero w = tt
+word_bits_lem (suc n) w = (bit_lt n w, word_bits_lem n w)
 
 all_append : (s t : List ℕ) → All (λ b. b < 2) s → All (λ b. b < 2) t → All (λ b. b < 2) (s ++ t)
 all_append [] t a b = b
@@ -27,7 +27,7 @@ all_append (x ∷ s) t a b = (a.0, all_append s t a.1 b)
 pub strip_bits_lem : (n : ℕ) (strip : List ℕ) → All (λ b. b < 2) (bits_of n strip)
 unfolding bits_of
 strip_bits_lem n [] = tt
-strip_bits_lem n (w ∷ ws) = all_append (word_bits n w) (bits_of n ws) (word-bits n w) (strip_bits_lem n ws)
+strip_bits_lem n (w ∷ ws) = all_append (word_bits n w) (bits_of n ws) (word_bits_lem n w) (strip_bits_lem n ws)
 
 -- ---- a word
 
@@ -37,10 +37,10 @@ digit_at n w left i h e =
     let same : n - 1 - i ≡ left - 1 = omega arith in
     sym (text_at (word_bits n w) i (omega (arith, length-word_bits n w)) ∙ ap digit (word_bits_at n w i (omega arith) ∙ ap (λ (j : ℕ). bit j w) same))
 
-pub bit-next : (t : Tally) (left w : ℕ) → 0 < left → tallied (with_bit t (bit (left - 1) w)) (word_bits (left - 1) w) ≡ tallied t (word_bits left w)
+pub bit_next : (t : Tally) (left w : ℕ) → 0 < left → tallied (with_bit t (bit (left - 1) w)) (word_bits (left - 1) w) ≡ tallied t (word_bits left w)
 unfolding word_bits tallied
-bit-next t zero w h = absurd (omega arith)
-bit-next t (suc l) w h = let e : suc l - 1 ≡ l = omega arith in ap (λ (j : ℕ). tallied (with_bit t (bit j w)) (word_bits j w)) e
+bit_next t zero w h = absurd (omega arith)
+bit_next t (suc l) w h = let e : suc l - 1 ≡ l = omega arith in ap (λ (j : ℕ). tallied (with_bit t (bit j w)) (word_bits j w)) e
 
 pub no_bits : (t : Tally) (left w : ℕ) → left ≡ 0 → tallied t (word_bits left w) ≡ t
 unfolding word_bits tallied
@@ -65,9 +65,9 @@ module _ (n : ℕ) (strip : List ℕ) (k : ℕ) (l : k < length strip) where
       sym (tallied-append t (word_bits n w) (bits_of n (drop (k + 1) strip))) ∙ ap (λ (s : List ℕ). tallied t (bits_of n s)) first
 
   -- and those up to it end with it
-  pub text-next : text (bits_of n (take k strip)) ++ text (word_bits n w) ≡ text (bits_of n (take (k + 1) strip))
+  pub text_next : text (bits_of n (take k strip)) ++ text (word_bits n w) ≡ text (bits_of n (take (k + 1) strip))
   unfolding bits_of
-  text-next =
+  text_next =
       let last : take k strip ++ w ∷ [] ≡ take (k + 1) strip = rw add-one (sym (take-suc strip k 0 l)) in
       sym (map-append digit (bits_of n (take k strip)) (word_bits n w))
       ∙ ap text (ap (λ (r : List ℕ). bits_of n (take k strip) ++ r) (sym (append-nil (word_bits n w))) ∙ sym (bits_of-append n (take k strip) (w ∷ [])))
@@ -81,18 +81,18 @@ pub no_words : (n : ℕ) (strip page : List ℕ) → page ≡ text (bits_of n (t
 unfolding bits_of
 no_words n strip page = ap (λ (m : ℕ). drop m page) (sym (mul-zero n))
 
-pub all-counted : (n : ℕ) (strip : List ℕ) (t : Tally) (k : ℕ) → k ≡ length strip → t ≡ tallied t (bits_of n (drop k strip))
+pub all_counted : (n : ℕ) (strip : List ℕ) (t : Tally) (k : ℕ) → k ≡ length strip → t ≡ tallied t (bits_of n (drop k strip))
 unfolding bits_of tallied
-all-counted n strip t k e = ap (λ (s : List ℕ). tallied t (bits_of n s)) (sym (ap (λ (i : ℕ). drop i strip) e ∙ drop-length strip))
+all_counted n strip t k e = ap (λ (s : List ℕ). tallied t (bits_of n s)) (sym (ap (λ (i : ℕ). drop i strip) e ∙ drop-length strip))
 
 -- ---- places on the page
 
 module _ (n k m : ℕ) where
-  pub place-next : n * k + n ≡ n * (k + 1)
-  place-next = rw (add-one, mul-suc) refl
+  pub place_next : n * k + n ≡ n * (k + 1)
+  place_next = rw (add-one, mul-suc) refl
 
-  pub place-room : k < m → n * k + n ≤ n * m
-  place-room l = omega (arith, place-next, mul-le-mul_left {m = k + 1} {n = m} n (omega arith))
+  pub place_room : k < m → n * k + n ≤ n * m
+  place_room l = omega (arith, place_next, mul-le-mul_left {m = k + 1} {n = m} n (omega arith))
 
-  pub places-left : k < m → n * (m - k) ≡ n + n * (m - (k + 1))
-  places-left l = let e : m - k ≡ suc (m - (k + 1)) = omega arith in ap (λ (x : ℕ). n * x) e ∙ omega (arith, mul-suc n (m - (k + 1)))
+  pub places_left : k < m → n * (m - k) ≡ n + n * (m - (k + 1))
+  places_left l = let e : m - k ≡ suc (m - (k + 1)) = omega arith in ap (λ (x : ℕ). n * x) e ∙ omega (arith, mul-suc n (m - (k + 1)))

@@ -11,7 +11,7 @@ use bit_strip::check::MOST_STRIP_WORDS;
 const BASE: u32 = 32 * MOST_STRIP_WORDS as u32;
 
 // The running sum, the lowest and the highest it has been, the runs, and the last bit, which is 2 before the first.
-#[derive(Drop)]
+#[derive(Clone, Copy)]
 pub struct Tally {
     pub sum: u32,
     pub low: u32,

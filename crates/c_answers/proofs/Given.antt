@@ -32,9 +32,9 @@ module _ (table : List ℕ) where
   pub padded-long : 2 ^ most_words < length table → 2 ^ most_words < length (padded table)
   padded-long l = omega (arith, length-append table (replicate (2 ^ most_words - length table) 0))
 
-  pub padded-full : length table ≤ 2 ^ most_words → length (padded table) ≡ 2 ^ most_words
-  padded-full l = omega (arith, length-append table (replicate (2 ^ most_words - length table) 0), length-replicate {A = ℕ} (2 ^ most_words - length table) 0)
+  pub padded_full : length table ≤ 2 ^ most_words → length (padded table) ≡ 2 ^ most_words
+  padded_full l = omega (arith, length-append table (replicate (2 ^ most_words - length table) 0), length-replicate {A = ℕ} (2 ^ most_words - length table) 0)
 
   -- a table filled from all the entries given
-  pub filled-all : (filled : List ℕ) → filled ≡ padded (take (length table) table) → filled ≡ padded table
-  filled-all filled e = e ∙ ap padded (take_all (length table) table (omega arith))
+  pub filled_all : (filled : List ℕ) → filled ≡ padded (take (length table) table) → filled ≡ padded table
+  filled_all filled e = e ∙ ap padded (take_all (length table) table (omega arith))

@@ -17,10 +17,10 @@ use Rattle.records.specs.declared.Order.{Order}
 use Rattle.records.specs.Reading.{record_checks, no_record, reading_record}
 use Rattle.records.specs.Orders.{order_checks, order_for}
 use Rattle.recorded_picks.specs.Recorded.{recorded_refusal, recorded_picking, recorded_state, recorded_page}
-use Rattle.recorded_picks.proofs.Recorded.{not_refused, call-refused}
+use Rattle.recorded_picks.proofs.Recorded.{not_refused, call_refused}
 use Rattle.c_answers.specs.Answers.{choice}
 use Rattle.c_answers.specs.Records.{record_values, order_answer, read_record, told_to}
-use Rattle.c_answers.proofs.Refused.{told, pick-told}
+use Rattle.c_answers.proofs.Refused.{told, pick_told}
 
 -- the desk's answer
 module _ (bytes : List ℕ) where
@@ -34,13 +34,13 @@ module _ (bytes : List ℕ) where
 
 -- a cab's
 module _ (truck : ℕ) (bytes : List ℕ) where
-  pub order-told : (told_to truck bytes).refusal ≡ first_of (order_checks truck bytes)
+  pub order_told : (told_to truck bytes).refusal ≡ first_of (order_checks truck bytes)
   unfolding order_for
-  order-told = told (λ (o : Order). (order_answer o).refusal) (first_of (order_checks truck bytes)) _ _ refl refl
+  order_told = told (λ (o : Order). (order_answer o).refusal) (first_of (order_checks truck bytes)) _ _ refl refl
 
   pub order-refused : (told_to truck bytes).refusal ≢ 0 → (told_to truck bytes).shovel ≡ 0
   unfolding order_for
-  order-refused ne = rw (ne_eqb (first_of (order_checks truck bytes)) 0 (λ z. ne (order-told ∙ z))) refl
+  order-refused ne = rw (ne_eqb (first_of (order_checks truck bytes)) 0 (λ z. ne (order_told ∙ z))) refl
 
 -- a recorded pick's
 module _ (bytes xs shovels times : List ℕ) (truck : ℕ) (page : List ℕ) where
@@ -53,12 +53,12 @@ module _ (bytes xs shovels times : List ℕ) (truck : ℕ) (page : List ℕ) whe
     where
       go : Dec (recorded_refusal bytes xs shovels times (length page) ≡ 0) → let r = recorded_refusal bytes xs shovels times (length page) in
           (choice (cond (eqb r 0) (picking bytes xs shovels times) (Refused r))).refusal ≡ r
-      go (yes z) = rw z (pick-told bytes xs shovels times ∙ not_refused bytes xs shovels times (length page) z)
+      go (yes z) = rw z (pick_told bytes xs shovels times ∙ not_refused bytes xs shovels times (length page) z)
       go (no ne) = rw (ne_eqb (recorded_refusal bytes xs shovels times (length page)) 0 ne) refl
 
   pub recorded_zeros : recorded_refusal bytes xs shovels times (length page) ≢ 0 → let r = recorded_refusal bytes xs shovels times (length page) in
       (choice answer ≡ record { shovel = 0; ties = 0; taken = 0; refusal = r })
       × (recorded_state bytes xs shovels times (length page) ≡ xs) × (recorded_page bytes xs shovels times truck page ≡ page)
   recorded_zeros ne =
-      let c = call-refused bytes xs shovels times truck page _ ne refl in
+      let c = call_refused bytes xs shovels times truck page _ ne refl in
       (sym (ap choice c.0), sym c.1.0, sym c.1.1)

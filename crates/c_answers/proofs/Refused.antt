@@ -54,14 +54,14 @@ module _ (bytes xs : List ℕ) where
       (ap (λ (d : Draw). (drawn d).word) (sym (drawing-refused bytes xs _ refl n)), (step-refused n).0)
 
 module _ (bytes xs shovels times : List ℕ) where
-  pub pick-told : (choice (picking bytes xs shovels times)).refusal ≡ pick_refusal bytes xs shovels times
+  pub pick_told : (choice (picking bytes xs shovels times)).refusal ≡ pick_refusal bytes xs shovels times
   unfolding picking
-  pick-told = told (λ (p : Pick). (choice p).refusal) (pick_refusal bytes xs shovels times) _ _ refl refl
+  pick_told = told (λ (p : Pick). (choice p).refusal) (pick_refusal bytes xs shovels times) _ _ refl refl
 
-  pub pick-refused : let c = choice (picking bytes xs shovels times) in
+  pub pick_refused : let c = choice (picking bytes xs shovels times) in
       c.refusal ≢ 0 → (c.shovel ≡ 0) × (c.ties ≡ 0) × (c.taken ≡ 0) × (picked bytes xs shovels times ≡ xs)
-  pick-refused ne =
-      let p = picking-refused bytes xs shovels times _ (λ z. ne (pick-told ∙ z)) refl in
+  pick_refused ne =
+      let p = picking-refused bytes xs shovels times _ (λ z. ne (pick_told ∙ z)) refl in
       let c = sym (ap choice p.0) in
       (λ i. (c i).shovel, λ i. (c i).ties, λ i. (c i).taken, sym p.1)
 
@@ -90,15 +90,15 @@ module _ (bytes : List ℕ) where
   read_told = refl
 
   -- every value is 0
-  pub read-refused : (read_card bytes).refusal ≢ 0 → (read_card bytes).card ≡ card_values no_card
+  pub read_refused : (read_card bytes).refusal ≢ 0 → (read_card bytes).card ≡ card_values no_card
   unfolding reading
-  read-refused ne = ap (λ (r : Reading). card_values r.card) (sym (answering-refused (card_of bytes) _ ne))
+  read_refused ne = ap (λ (r : Reading). card_values r.card) (sym (answering-refused (card_of bytes) _ ne))
 
 module _ (card : Card) (page : List ℕ) where
   -- the writer's own refusal, for a table that the array can hold
-  writing-told : (written_length (writing card (length page))).refusal ≡ first_of (write_checks card (length page))
+  writing_told : (written_length (writing card (length page))).refusal ≡ first_of (write_checks card (length page))
   unfolding writing
-  writing-told = told (λ (w : Written). (written_length w).refusal) (first_of (write_checks card (length page))) _ _ refl refl
+  writing_told = told (λ (w : Written). (written_length w).refusal) (first_of (write_checks card (length page))) _ _ refl refl
 
   pub write_told : (written_from card (length page)).refusal ≡ cond (overlong card) out_of_range.number (first_of (write_checks card (length page)))
   unfolding written_from
@@ -107,7 +107,7 @@ module _ (card : Card) (page : List ℕ) where
       go : (b : Bool) → (written_length (cond b (Refused out_of_range.number) (writing card (length page)))).refusal
           ≡ cond b out_of_range.number (first_of (write_checks card (length page)))
       go true = refl
-      go false = writing-told
+      go false = writing_told
 
   pub write_refused : (written_from card (length page)).refusal ≢ 0 → ((written_from card (length page)).length ≡ 0) × (page_from card page ≡ page)
   unfolding written_from page_from
@@ -117,5 +117,5 @@ module _ (card : Card) (page : List ℕ) where
           w.refusal ≢ 0 → (w.length ≡ 0) × (cond b page (page_after card page) ≡ page)
       go true ne = (refl, refl)
       go false ne =
-          let w = writing-refused card page _ (λ z. ne (writing-told ∙ z)) refl in
+          let w = writing-refused card page _ (λ z. ne (writing_told ∙ z)) refl in
           (ap (λ (w : Written). (written_length w).length) (sym w.0), sym w.1)

@@ -3,7 +3,7 @@ use tsc::{MOST_WORDS, TABLE_SIZE};
 
 // What a draw answers, tiedraw_word: 0 and the word, or the refusal and 0.
 #[repr(C)]
-#[derive(Drop)]
+#[derive(Clone, Copy)]
 pub struct DrawnWord {
     pub word: u32,
     pub refusal: u8,
@@ -11,7 +11,7 @@ pub struct DrawnWord {
 
 // What a pick answers, tiedraw_choice: 0, the shovel, how many ties there were and how many words were taken; or the refusal and zeros.
 #[repr(C)]
-#[derive(Drop)]
+#[derive(Clone, Copy)]
 pub struct Choice {
     pub shovel: u16,
     pub ties: u8,
@@ -21,7 +21,7 @@ pub struct Choice {
 
 // What margin answers, tiedraw_margin_answer: 0, the change and the changed pick; or the refusal and zeros.
 #[repr(C)]
-#[derive(Drop)]
+#[derive(Clone, Copy)]
 pub struct MarginAnswer {
     pub seconds: u32,
     pub changed: u16,
@@ -34,7 +34,7 @@ pub struct MarginAnswer {
 
 // What the writer answers, tiedraw_written: 0 and the length, or the refusal and 0.
 #[repr(C)]
-#[derive(Drop)]
+#[derive(Clone, Copy)]
 pub struct WrittenLength {
     pub length: usize,
     pub refusal: u8,
@@ -42,7 +42,7 @@ pub struct WrittenLength {
 
 // The eight values of a card, tiedraw_card: those of crate tsc, in the order of the header.
 #[repr(C)]
-#[derive(Drop)]
+#[derive(Clone, Copy)]
 pub struct CardValues {
     pub words: u8,
     pub width: u8,
@@ -56,7 +56,7 @@ pub struct CardValues {
 
 // What the reader answers, tiedraw_reading: 0 and the values, or the refusal and zeros.
 #[repr(C)]
-#[derive(Drop)]
+#[derive(Clone, Copy)]
 pub struct CardReading {
     pub card: CardValues,
     pub refusal: u8,
@@ -64,7 +64,7 @@ pub struct CardReading {
 
 // The fields of a record, tiedraw_record: beside each that may lack a flag, 1 where it is given; else the flag and the number are 0.
 #[repr(C)]
-#[derive(Drop)]
+#[derive(Clone, Copy)]
 pub struct RecordValues {
     pub state: [u32; MOST_WORDS],
     pub truck: u16,
@@ -79,7 +79,7 @@ pub struct RecordValues {
 
 // What the desk is answered, tiedraw_record_reading: 0 and the fields, or the refusal and zeros.
 #[repr(C)]
-#[derive(Drop)]
+#[derive(Clone, Copy)]
 pub struct RecordAnswer {
     pub values: RecordValues,
     pub refusal: u8,
@@ -87,7 +87,7 @@ pub struct RecordAnswer {
 
 // What a cab is answered, tiedraw_order_answer: 0 and the shovel, or the refusal and 0.
 #[repr(C)]
-#[derive(Drop)]
+#[derive(Clone, Copy)]
 pub struct OrderAnswer {
     pub shovel: u16,
     pub refusal: u8,
@@ -95,7 +95,7 @@ pub struct OrderAnswer {
 
 // What a count of bits answers, tiedraw_bit_counts: 0 and the four integers, or the refusal and zeros.
 #[repr(C)]
-#[derive(Drop)]
+#[derive(Clone, Copy)]
 pub struct BitCountsAnswer {
     pub balance: i32,
     pub forward: u32,

@@ -15,7 +15,7 @@ use Rattle.changes.specs.Change.{most_time, Within, changed, Counts, NoLater}
 use Rattle.changes.specs.Others.{change_to}
 use Rattle.ties.proofs.Alike.{same_count, same_rank}
 use Rattle.changes.proofs.After.{LeastOther}
-use Rattle.changes.proofs.Order.{no_later_refl, no_later_trans, Told, before-told}
+use Rattle.changes.proofs.Order.{no_later_refl, no_later_trans, Told, before_told}
 use Rattle.changes.proofs.Nearest.{Close, Beside, ByTies, nearest, several}
 use Rattle.outcomes.specs.declared.Known.{Known}
 use Rattle.change_order.specs.declared.Best.{Best}
@@ -26,14 +26,14 @@ use Rattle.candidates.specs.Best.{attempted, Sound, LeadsOver, BestOf}
 
 -- ---- the places of changes
 
-pub placed-either : (n : ℕ) (b : Bool) (r s : Best) → Placed n r → Placed n s → Placed n (cond b r s)
-placed-either n true r s p q = p
-placed-either n false r s p q = q
+pub placed_either : (n : ℕ) (b : Bool) (r s : Best) → Placed n r → Placed n s → Placed n (cond b r s)
+placed_either n true r s p q = p
+placed_either n false r s p q = q
 
-pub placed-next : (known : Known) (shovels times : List ℕ) (n : ℕ) (c : Change) (best : Best) → c.place < n → Placed n best → Placed n (attempted known shovels times c best)
+pub placed_next : (known : Known) (shovels times : List ℕ) (n : ℕ) (c : Change) (best : Best) → c.place < n → Placed n best → Placed n (attempted known shovels times c best)
 unfolding attempted Placed
-placed-next known shovels times n c best l p =
-    placed-either n (ltb 0 c.seconds && (comes_first shovels c best && elsewhere known shovels (changed times c))) (Least c) best l p
+placed_next known shovels times n c best l p =
+    placed_either n (ltb 0 c.seconds && (comes_first shovels c best && elsewhere known shovels (changed times c))) (Least c) best l p
 
 pub placed-sound : (shovels times : List ℕ) (Wanted : List ℕ → Type 0) (best : Best) → Sound shovels times Wanted best → Placed (length times) best
 unfolding Sound Placed
@@ -83,7 +83,7 @@ module _ (known : Known) (shovels times : List ℕ) where
     later : (best : Best) → comes_first shovels c best ≡ false → LeadsOver shovels times Wanted best c
     unfolding comes_first LeadsOver
     later Nothing q = absurd (true≢false q)
-    later (Least d) q = λ k. subst (Told shovels c d) q (before-told shovels c d)
+    later (Least d) q = λ k. subst (Told shovels c d) q (before_told shovels c d)
 
     taken : (best : Best) → 0 < c.seconds → comes_first shovels c best ≡ true → Wanted (changed times c) → Tried c best (Least c)
     unfolding comes_first LeadsOver Sound
@@ -96,7 +96,7 @@ module _ (known : Known) (shovels times : List ℕ) where
       where
         over : (best : Best) → comes_first shovels c best ≡ true → (e : Change) → LeadsOver shovels times Wanted best e → Counts times Wanted e → NoLater shovels c e
         over Nothing q e h k = absurd (h k)
-        over (Least d) q e h k = no_later_trans shovels c d e (subst (Told shovels c d) q (before-told shovels c d)) (h k)
+        over (Least d) q e h k = no_later_trans shovels c d e (subst (Told shovels c d) q (before_told shovels c d)) (h k)
 
     tried : (best : Best) → Tried c best (attempted known shovels times c best)
     unfolding attempted
@@ -110,30 +110,30 @@ module _ (known : Known) (shovels times : List ℕ) where
         go false b w p q r = left c best (no_change c best (λ k. absurd (omega (arith, ltb-false 0 c.seconds p, k.some))))
 
   -- the change to a time v
-  within-to : (i v : ℕ) → v ≤ most_time → Within (ltb (get_or times i 0) v) (get_or times i 0) (change_to times i v).seconds
+  within_to : (i v : ℕ) → v ≤ most_time → Within (ltb (get_or times i 0) v) (get_or times i 0) (change_to times i v).seconds
   unfolding Within
-  within-to i v l = go (dec_lt (get_or times i 0) v)
+  within_to i v l = go (dec_lt (get_or times i 0) v)
     where
       go : Dec (get_or times i 0 < v) → Within (ltb (get_or times i 0) v) (get_or times i 0) (change_to times i v).seconds
       go (yes h) = rw (lt-ltb (get_or times i 0) v h) (omega arith)
       go (no h) = rw (le-ltb (get_or times i 0) v (omega arith)) (omega arith)
 
-  tried-to : (i v : ℕ) → i < length times → v ≤ most_time → (best : Best) → Tried (change_to times i v) best (attempted known shovels times (change_to times i v) best)
-  tried-to i v li l best = tried (change_to times i v) li (within-to i v l) best
+  tried_to : (i v : ℕ) → i < length times → v ≤ most_time → (best : Best) → Tried (change_to times i v) best (attempted known shovels times (change_to times i v) best)
+  tried_to i v li l best = tried (change_to times i v) li (within_to i v l) best
 
   -- ---- those of a shovel
 
   -- r leads over e where it leads over one that counts and is no later
-  leads-by : (r : Best) (e : Change) → (Counts times Wanted e → (c : Change) × LeadsOver shovels times Wanted r c × Counts times Wanted c × NoLater shovels c e)
+  leads_by : (r : Best) (e : Change) → (Counts times Wanted e → (c : Change) × LeadsOver shovels times Wanted r c × Counts times Wanted c × NoLater shovels c e)
       → LeadsOver shovels times Wanted r e
   unfolding LeadsOver
-  leads-by Nothing e h = λ k. let n = h k in n.1 n.2
-  leads-by (Least d) e h = λ k. let n = h k in no_later_trans shovels d n.0 e (n.1 n.2) n.3
+  leads_by Nothing e h = λ k. let n = h k in n.1 n.2
+  leads_by (Least d) e h = λ k. let n = h k in no_later_trans shovels d n.0 e (n.1 n.2) n.3
 
   module _ (h : Listed known shovels times) where
-    by-ties : ByTies (length times) Wanted
+    by_ties : ByTies (length times) Wanted
     unfolding elsewhere has_rank
-    by-ties xs ys l s w =
+    by_ties xs ys l s w =
         rw (← same_count xs ys s, ← same_rank xs ys s shovels (get_or shovels known.chosen 0), ← s.same known.chosen (omega (arith, h.place))) w
 
     not_yet : Wanted times → ⊥
@@ -147,7 +147,7 @@ module _ (known : Known) (shovels times : List ℕ) where
 
     pub best_alone : length times < 2 → BestOf shovels times Wanted (length times) Nothing
     unfolding Sound LeadsOver
-    best_alone l = record { sound = tt; leads = λ e le k. absurd (omega (arith, several shovels times Wanted by-ties not_yet e k)) }
+    best_alone l = record { sound = tt; leads = λ e le k. absurd (omega (arith, several shovels times Wanted by_ties not_yet e k)) }
 
     module _ (i x : ℕ) (li : i < length times) (o : LeastOther times i x) (lx : x ≤ most_time) (best : Best) (b : BestOf shovels times Wanted i best) where
       abbrev step : ℕ → Best → Best
@@ -180,11 +180,11 @@ module _ (known : Known) (shovels times : List ℕ) where
           go (yes e) d = rw (eq-eqb x 0 e) (none, λ l h. absurd (omega arith))
           go (no n) (yes l) = rw (ne_eqb x 0 n, lt-ltb t x l) (none, λ z h. absurd (omega arith))
           go (no n) (no d) =
-              let r = tried-to i (x - 1) li (omega arith) best in
+              let r = tried_to i (x - 1) li (omega arith) best in
               rw (ne_eqb x 0 n, le-ltb t x (omega arith)) (record { sound = r.sound; still = r.still }, λ l h. r.leads)
 
-      tried-at : Tried (change_to times i x) below at
-      tried-at = tried-to i x li lx below
+      tried_at : Tried (change_to times i x) below at
+      tried_at = tried_to i x li lx below
 
       tried-above : Next at above × (x < most_time → t ≤ x → LeadsOver shovels times Wanted above (change_to times i (x + 1)))
       tried-above = go (ℕ_discrete x most_time) (dec_lt x t)
@@ -196,31 +196,31 @@ module _ (known : Known) (shovels times : List ℕ) where
           go (yes e) d = rw (eq-eqb x most_time e) (none, λ l h. absurd (omega arith))
           go (no n) (yes l) = rw (ne_eqb x most_time n, lt-ltb x t l) (none, λ z h. absurd (omega arith))
           go (no n) (no d) =
-              let r = tried-to i (x + 1) li (omega arith) at in
+              let r = tried_to i (x + 1) li (omega arith) at in
               rw (ne_eqb x most_time n, le-ltb x t (omega arith)) (record { sound = r.sound; still = r.still }, λ l h. r.leads)
 
       own : (e : Change) → e.place ≡ i → LeadsOver shovels times Wanted above e
-      own e q = leads-by above e (λ k. go k (nearest shovels times Wanted by-ties not_yet e k x (subst (λ (j : ℕ). LeastOther times j x) (sym q) o)))
+      own e q = leads_by above e (λ k. go k (nearest shovels times Wanted by_ties not_yet e k x (subst (λ (j : ℕ). LeastOther times j x) (sym q) o)))
         where
           to : (v : ℕ) → Close shovels times Wanted e v → LeadsOver shovels times Wanted above (change_to times i v)
               → (c : Change) × LeadsOver shovels times Wanted above c × Counts times Wanted c × NoLater shovels c e
           to v c l = (change_to times e.place v, subst (λ (j : ℕ). LeadsOver shovels times Wanted above (change_to times j v)) (sym q) l, c.counts, c.earlier)
 
           go : Counts times Wanted e → Beside shovels times Wanted e x → (c : Change) × LeadsOver shovels times Wanted above c × Counts times Wanted c × NoLater shovels c e
-          go k (inl c) = to x c (tried-above.0.still _ tried-at.leads)
-          go k (inr (inl c)) = to (x - 1) c.2 (tried-above.0.still _ (tried-at.still _ (tried-below.1 c.0 (rw (ap (λ (j : ℕ). get_or times j 0) q) at c.1))))
+          go k (inl c) = to x c (tried-above.0.still _ tried_at.leads)
+          go k (inr (inl c)) = to (x - 1) c.2 (tried-above.0.still _ (tried_at.still _ (tried-below.1 c.0 (rw (ap (λ (j : ℕ). get_or times j 0) q) at c.1))))
           go k (inr (inr c)) = to (x + 1) c.2 (tried-above.1 c.0 (rw (ap (λ (j : ℕ). get_or times j 0) q) at c.1))
 
       best_next : BestOf shovels times Wanted (i + 1) above
       best_next =
           record {
-            sound = tried-above.0.sound (tried-at.sound (tried-below.0.sound b.sound));
+            sound = tried-above.0.sound (tried_at.sound (tried-below.0.sound b.sound));
             leads = λ e l. go e l (ℕ_discrete e.place i);
           }
         where
           go : (e : Change) → e.place < i + 1 → Dec (e.place ≡ i) → LeadsOver shovels times Wanted above e
           go e l (yes q) = own e q
-          go e l (no n) = tried-above.0.still e (tried-at.still e (tried-below.0.still e (b.leads e (omega arith))))
+          go e l (no n) = tried-above.0.still e (tried_at.still e (tried-below.0.still e (b.leads e (omega arith))))
 
       -- as they are answered one after the other
       pub best_found : (r₁ r₂ r₃ : Best) → r₁ ≡ cond (eqb x 0 || ltb t x) best (step (x - 1) best) → r₂ ≡ step x r₁

@@ -11,7 +11,7 @@ use card_table::table;
 use tsc::{Card, TABLE_SIZE};
 
 // The map of a card's bytes, and how many they are.
-#[derive(Drop)]
+#[derive(Clone, Copy)]
 pub struct Outline {
     pub map: u8,
     pub length: usize,

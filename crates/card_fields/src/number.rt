@@ -8,7 +8,7 @@ ghost use Rattle.card_fields.specs.Number.{number_read};
 use super::field;
 
 // What the reader of a numeric field answers.
-#[derive(Drop)]
+#[derive(Clone, Copy)]
 pub enum Number {
     Value(u32),
     Refused(u8),

@@ -80,18 +80,18 @@ bytes_of-numbers f part b l = tabulate_ext (extent f) _ (λ p. get_or part p 0) 
 
 -- ---- a field, read and written. It is written where it differs from its absent value
 
-pub read-differs : (f : Field) (part : List ℕ) (here : Bool) (cs : List Check) → NoneApplies (cond here (part_checks f part) cs)
+pub read_differs : (f : Field) (part : List ℕ) (here : Bool) (cs : List Check) → NoneApplies (cond here (part_checks f part) cs)
     → not (same (cond here (numbers f part) f.absent) f.absent) ≡ here
 unfolding part_checks NoneApplies
-read-differs f part true cs h = rw h.1.1.0
-read-differs f part false cs h = rw (same_refl f.absent)
+read_differs f part true cs h = rw h.1.1.0
+read_differs f part false cs h = rw (same_refl f.absent)
 
-pub read-bytes : (f : Field) (part : List ℕ) (here : Bool) (cs : List Check) → NoneApplies (cond here (part_checks f part) cs)
+pub read_bytes : (f : Field) (part : List ℕ) (here : Bool) (cs : List Check) → NoneApplies (cond here (part_checks f part) cs)
     → ((i : ℕ) → get_or part i 0 < 256)
     → cond here (bytes_of f (cond here (numbers f part) f.absent)) [] ≡ take (cond here (extent f) 0) part
 unfolding part_checks NoneApplies
-read-bytes f part true cs h b = bytes_of-numbers f part b (ltb-false (length part) (extent f) h.0)
-read-bytes f part false cs h b = refl
+read_bytes f part true cs h b = bytes_of-numbers f part b (ltb-false (length part) (extent f) h.0)
+read_bytes f part false cs h b = refl
 
 pub written_read : (f : Field) (part xs rest : List ℕ) (cs : List Check) → Fitting f xs → f.most < 256 ^ f.size
     → (xs ≡ f.absent → NoneApplies cs) → let here = not (same xs f.absent) in

@@ -24,6 +24,6 @@ rows_hold = ((refl, (refl, refl)), ((refl, (refl, refl)), ((refl, tt), ((refl, t
 abbrev pub longest : List ℕ
 longest = 0xff ∷ 8 ∷ 31 ∷ (tabulate 255 suc ++ (0 ∷ 3 ∷ 0 ∷ 1 ∷ 0 ∷ 0 ∷ 0 ∷ 2 ∷ 0 ∷ []))
 
-pub longest-accepted : (verdict longest ≡ 0) × ((card_of longest).words ≡ most_words) × (length longest ≡ most_card_bytes)
+pub longest_accepted : (verdict longest ≡ 0) × ((card_of longest).words ≡ most_words) × (length longest ≡ most_card_bytes)
 unfolding sum tabulate iterate return_from first_return first_of fields field numbers allowed same offset values_at words_of card_of part_checks field_checks checks_to form_checks period_checks verdict
-longest-accepted = (refl, refl, refl)
+longest_accepted = (refl, refl, refl)

@@ -67,10 +67,10 @@ numbers-one f part one =
     (sum_ext f.size _ _ (λ i l. ap (λ (p : ℕ). get_or part p 0 * 256 ^ i) (ap (λ (z : ℕ). z + i) (zero-mul f.size) ∙ zero-add i))))
 
 -- the refusal of a field, by its numbers
-pub part-refusal : (f : Field) (part xs : List ℕ) → numbers f part ≡ xs
+pub part_refusal : (f : Field) (part xs : List ℕ) → numbers f part ≡ xs
     → first_of (part_checks f part) ≡ cond (ltb (length part) (extent f)) 1 (cond (not (allowed f xs)) 2 (cond (same xs f.absent) 3 0))
 unfolding part_checks first_of
-part-refusal f part xs e = rw e refl
+part_refusal f part xs e = rw e refl
 
 -- ---- tests of lists by their entries
 
@@ -97,12 +97,12 @@ allowed_all f (x ∷ xs) h =
 pub allowed_not : (f : Field) (xs : List ℕ) (i : ℕ) → i < length xs → f.most < get_or xs i 0 → allowed f xs ≡ false
 allowed_not f xs i l h = not_so (allowed f xs) (λ t. omega (arith, (allowed_at f xs t i l).1))
 
-pub same-all : (xs ys : List ℕ) → length xs ≡ length ys → ((i : ℕ) → i < length xs → get_or xs i 0 ≡ get_or ys i 0) → same xs ys ≡ true
+pub same_all : (xs ys : List ℕ) → length xs ≡ length ys → ((i : ℕ) → i < length xs → get_or xs i 0 ≡ get_or ys i 0) → same xs ys ≡ true
 unfolding same
-same-all [] [] e h = refl
-same-all [] (y ∷ ys) e h = absurd (omega arith)
-same-all (x ∷ xs) [] e h = absurd (omega arith)
-same-all (x ∷ xs) (y ∷ ys) e h = simp (eq-eqb x y (h 0 (omega arith))) (same-all xs ys (suc_inj e) (λ i l. h (suc i) (omega arith)))
+same_all [] [] e h = refl
+same_all [] (y ∷ ys) e h = absurd (omega arith)
+same_all (x ∷ xs) [] e h = absurd (omega arith)
+same_all (x ∷ xs) (y ∷ ys) e h = simp (eq-eqb x y (h 0 (omega arith))) (same_all xs ys (suc_inj e) (λ i l. h (suc i) (omega arith)))
 
 pub same_refl : (xs : List ℕ) → same xs xs ≡ true
 unfolding same
@@ -147,7 +147,7 @@ table_short m part h = simp (mul-one, lt-ltb _ _ h)
 pub table_refusal : (m : ℕ) (part : List ℕ) → 2 ^ m ≤ length part → (xs : List ℕ) → xs ≡ take (2 ^ m) part
     → first_of (part_checks (field m table_bit) part) ≡ cond (not (allowed (field m table_bit) xs)) 2 (cond (same xs tsc1_table) 3 0)
 unfolding field fields
-table_refusal m part h xs e = part-refusal (field m table_bit) part xs (numbers_table m part h ∙ sym e) ∙ simp (mul-one, le-ltb _ _ h)
+table_refusal m part h xs e = part_refusal (field m table_bit) part xs (numbers_table m part h ∙ sym e) ∙ simp (mul-one, le-ltb _ _ h)
 
 -- the used entries of a table are allowed where they are below 2^m
 pub entries-allowed : (m : ℕ) (t : List ℕ) → 2 ^ m ≤ length t → ((i : ℕ) → i < 2 ^ m → get_or t i 0 < 2 ^ m) → allowed (field m table_bit) (take (2 ^ m) t) ≡ true
@@ -162,10 +162,10 @@ entry_not_allowed m t i z l h =
     allowed_not (field m table_bit) (take (2 ^ m) t) i (omega (arith, length-take-le (2 ^ m) t z)) (omega (arith, get_or-take (2 ^ m) t i 0 l, pow_pos m))
 
 -- the unused entries of a table are 0
-pub unused-clear : (m : ℕ) (t : List ℕ) → ((i : ℕ) → i < length t → 2 ^ m ≤ i → get_or t i 0 ≡ 0) → unused_clear m t ≡ true
-unused-clear m t h =
+pub unused_clear_lem : (m : ℕ) (t : List ℕ) → ((i : ℕ) → i < length t → 2 ^ m ≤ i → get_or t i 0 ≡ 0) → unused_clear m t ≡ true
+unused_clear_lem m t h =
     let rest = drop (2 ^ m) t in
-    same-all rest (replicate (length rest) 0) (sym (length-replicate _ 0))
+    same_all rest (replicate (length rest) 0) (sym (length-replicate _ 0))
     (λ i l. get_or-drop (2 ^ m) t i 0 ∙ h (2 ^ m + i) (omega (arith, length-drop (2 ^ m) t)) (omega arith) ∙ sym (get_or-replicate _ i 0 0 l))
 
 pub unused_not_clear : (m : ℕ) (t : List ℕ) (i : ℕ) → i < length t → 2 ^ m ≤ i → get_or t i 0 ≢ 0 → unused_clear m t ≡ false

@@ -13,7 +13,7 @@ use lib.Pow.{pow_mono}
 use lib.Seq.{length-take-le, get_or-drop, take_at, take_all, take-suc, take-add, drop_at}
 use Rattle.cycle.specs.Notation.{sum, every, tabulate}
 use Rattle.cycle.proofs.Sum.{sum_ext}
-use Rattle.cycle.proofs.Every.{every-at, every_of}
+use Rattle.cycle.proofs.Every.{every_at, every_of}
 use Rattle.cycle.proofs.Digits.{tabulate_ext}
 use Rattle.tsc.specs.declared.Card.{Card}
 use Rattle.tsc.specs.Constants.{most_words, default_words}
@@ -28,7 +28,7 @@ use Rattle.card_format.proofs.Sound.{Fitting, offset_suc, sound_fitting, value-w
 use Rattle.card_format.proofs.Fields.{by_table, count-one, same_refl, same_true}
 use Rattle.card_format.proofs.Verdict.{words-sound}
 use Rattle.card_format.proofs.Writing.{numbers_of_single, range_words, present-short, length-written_to}
-use Rattle.card_format.proofs.Bytes.{length-one, byte_lt, read-differs, read-bytes, written_read, bit-map, map-bit}
+use Rattle.card_format.proofs.Bytes.{length-one, byte_lt, read_differs, read_bytes, written_read, bit-map, map-bit}
 
 -- ---- the numbers of a card: one in each field but the table
 
@@ -53,14 +53,14 @@ module _ (bytes : List ℕ) (s : SoundForm bytes) where
   is_written-sound : (k : ℕ) → k < field_count → is_written (card_of bytes) k ≡ present bytes k
   unfolding card_of field_checks values_at
   is_written-sound k l =
-      rw (numbers_of-sound k l, value-words) (read-differs (field (words_of bytes) k) _ (present bytes k) _ (field-none bytes s k l))
+      rw (numbers_of-sound k l, value-words) (read_differs (field (words_of bytes) k) _ (present bytes k) _ (field-none bytes s k l))
 
   field_bytes-sound : Bytes bytes → (k : ℕ) → k < field_count → field_bytes (card_of bytes) k
       ≡ take (cond (present bytes k) (extent (field (words_of bytes) k)) 0) (drop (offset (words_of bytes) bytes k) bytes)
   unfolding card_of field_bytes field_checks values_at
   field_bytes-sound b k l =
       rw (is_written-sound k l, numbers_of-sound k l, value-words)
-      (read-bytes (field (words_of bytes) k) _ (present bytes k) _ (field-none bytes s k l) (λ i. rw get_or-drop (byte_lt bytes b _)))
+      (read_bytes (field (words_of bytes) k) _ (present bytes k) _ (field-none bytes s k l) (λ i. rw get_or-drop (byte_lt bytes b _)))
 
   written_to-sound : Bytes bytes → (k : ℕ) → k ≤ field_count → written_to (card_of bytes) k ≡ take (offset (words_of bytes) bytes k) bytes
   unfolding written_to offset sum form_checks checks_to NoneApplies
@@ -119,10 +119,10 @@ accepted-short bytes z =
 -- ---- a card read and written again
 
 -- 7 to 9 and 16 decide on a card of sound form, whether its values are written or its bytes are
-sound-told : (bytes : List ℕ) → Bytes bytes → SoundForm bytes → (room : ℕ)
+sound_told : (bytes : List ℕ) → Bytes bytes → SoundForm bytes → (room : ℕ)
     → first_of (write_checks (card_of bytes) room) ≡ first_of (rewrite_checks bytes room)
 unfolding value_checks write_checks rewrite_checks first_of
-sound-told bytes b s room =
+sound_told bytes b s room =
     rw (sound-in_range bytes s, sound-narrow bytes s, sound-written bytes b s)
     (sym (ap first_of (append_assoc (form_checks bytes) _ _) ∙ first-append (form_checks bytes) _ s))
 
@@ -130,7 +130,7 @@ sound-told bytes b s room =
 pub sound-rewriting : (bytes page : List ℕ) → Bytes bytes → SoundForm bytes
     → (writing (card_of bytes) (length page) ≡ rewriting bytes (length page)) × (page_after (card_of bytes) page ≡ page_rewritten bytes page)
 unfolding writing page_after rewriting page_rewritten
-sound-rewriting bytes page b s = rw (sound-told bytes b s (length page), sound-written bytes b s) (refl, refl)
+sound-rewriting bytes page b s = rw (sound_told bytes b s (length page), sound-written bytes b s) (refl, refl)
 
 pub rewriting-refused : (bytes page : List ℕ) (r : ℕ) → r ≢ 0 → first_of (rewrite_checks bytes (length page)) ≡ r
     → (rewriting bytes (length page) ≡ Refused r) × (page_rewritten bytes page ≡ page)
@@ -144,15 +144,15 @@ unfolding verdict rewrite_checks
 verdict-rewriting bytes page ne = rewriting-refused bytes page _ ne (first-left (card_checks bytes) _ ne)
 
 -- the room decides on an accepted card
-accepted-told : (bytes : List ℕ) → verdict bytes ≡ 0 → (room : ℕ) → first_of (rewrite_checks bytes room) ≡ cond (ltb room (length bytes)) 16 0
+accepted_told : (bytes : List ℕ) → verdict bytes ≡ 0 → (room : ℕ) → first_of (rewrite_checks bytes room) ≡ cond (ltb room (length bytes)) 16 0
 unfolding verdict rewrite_checks first_of
-accepted-told bytes z room = first_right (card_checks bytes) _ z
+accepted_told bytes z room = first_right (card_checks bytes) _ z
 
 -- with room it gives the same bytes and the same length
 pub accepted-rewriting : (bytes page : List ℕ) → verdict bytes ≡ 0 → length bytes ≤ length page
     → (rewriting bytes (length page) ≡ Length (length bytes)) × (page_rewritten bytes page ≡ bytes ++ drop (length bytes) page)
 unfolding rewriting page_rewritten
-accepted-rewriting bytes page z l = rw (accepted-told bytes z (length page), le-ltb _ _ l) (refl, refl)
+accepted-rewriting bytes page z l = rw (accepted_told bytes z (length page), le-ltb _ _ l) (refl, refl)
 
 pub accepted-writing : (bytes page : List ℕ) → Bytes bytes → verdict bytes ≡ 0 → length bytes ≤ length page
     → (writing (card_of bytes) (length page) ≡ Length (length bytes)) × (page_after (card_of bytes) page ≡ bytes ++ drop (length bytes) page)
@@ -162,11 +162,11 @@ accepted-writing bytes page b z l =
     (w.0 ∙ d.0, w.1 ∙ d.1)
 
 -- with less room the answer is 16, and the page is as it was
-pub accepted-small : (bytes page : List ℕ) → Bytes bytes → verdict bytes ≡ 0 → length page < length bytes
+pub accepted_small : (bytes page : List ℕ) → Bytes bytes → verdict bytes ≡ 0 → length page < length bytes
     → (writing (card_of bytes) (length page) ≡ Refused 16) × (page_after (card_of bytes) page ≡ page)
-accepted-small bytes page b z l =
+accepted_small bytes page b z l =
     let w = sound-rewriting bytes page b (accepted-none bytes z).0 in
-    let d = rewriting-refused bytes page 16 (λ e. absurd (omega arith)) (accepted-told bytes z (length page) ∙ rw (lt-ltb _ _ l) refl) in
+    let d = rewriting-refused bytes page 16 (λ e. absurd (omega arith)) (accepted_told bytes z (length page) ∙ rw (lt-ltb _ _ l) refl) in
     (w.0 ∙ d.0, w.1 ∙ d.1)
 
 -- ---- a written card
@@ -181,7 +181,7 @@ pub row_facts : (m k : ℕ) → m ≤ most_words → k < field_count → let f =
     (f.most < 256 ^ f.size) × (length f.absent ≡ f.count → (eqb k table_bit && not (eqb m default_words)) ≡ false)
 unfolding row-holds every field fields
 row_facts m k lm lk =
-    let t = (and-eq-true_iff _ _).0 (every-at field_count (row-holds m) (every-at (suc most_words) (λ m. every field_count (row-holds m)) refl m (omega arith)) k lk) in
+    let t = (and-eq-true_iff _ _).0 (every_at field_count (row-holds m) (every_at (suc most_words) (λ m. every field_count (row-holds m)) refl m (omega arith)) k lk) in
     (ltb-true _ _ t.0, λ e. not-true _ (rw (eq-eqb _ _ e) at t.1))
 
 module _ (card : Card) (full : length card.table ≡ 2 ^ most_words) (r : in_range card ≡ true) where
@@ -189,15 +189,15 @@ module _ (card : Card) (full : length card.table ≡ 2 ^ most_words) (r : in_ran
   unfolding in_range
   range_card = (and-eq-true_iff _ _).0 r
 
-  words-card : card.words ≤ most_words
-  words-card = range_words card r
+  words_card : card.words ≤ most_words
+  words_card = range_words card r
 
   length_table_card : length (take (2 ^ card.words) card.table) ≡ 2 ^ card.words
-  length_table_card = length-take-le (2 ^ card.words) card.table (rw full (pow_mono words-card))
+  length_table_card = length-take-le (2 ^ card.words) card.table (rw full (pow_mono words_card))
 
   fitting_card : (k : ℕ) → k < field_count → Fitting (field card.words k) (numbers_of card k)
   unfolding numbers_of field fields
-  fitting_card k l = record { allow = every-at field_count _ range_card.0 k l; count = counted k l }
+  fitting_card k l = record { allow = every_at field_count _ range_card.0 k l; count = counted k l }
     where
       counted : (k : ℕ) → k < field_count → length (numbers_of card k) ≡ (field card.words k).count
       counted =
@@ -205,8 +205,8 @@ module _ (card : Card) (full : length card.table ≡ 2 ^ most_words) (r : in_ran
           (λ k l ne. ap length (numbers_of_single (λ j. get_or (numbers_of card j) 0 0) card.table k l ne)
           ∙ sym (count-one card.words k l ne))
 
-  padded-card : padded (take (2 ^ card.words) card.table) ≡ card.table
-  padded-card =
+  padded_card : padded (take (2 ^ card.words) card.table) ≡ card.table
+  padded_card =
       let n = 2 ^ card.words in
       let rest : 2 ^ most_words - length (take n card.table) ≡ length (drop n card.table) =
       omega (arith, length_table_card, length-drop n card.table) in
@@ -221,13 +221,13 @@ module _ (card : Card) (full : length card.table ≡ 2 ^ most_words) (r : in_ran
   offset-written k l =
       ap (λ (n : ℕ). 1 + n) (sum_ext k _ _ (λ j lj. rw (present-written j (omega arith)) refl)) ∙ sym (length-written_to card k)
 
-  written-split : (n k : ℕ) → n + suc k ≡ field_count → (rest : List ℕ) × (written card ≡ written_to card k ++ (field_bytes card k ++ rest))
+  written_split : (n k : ℕ) → n + suc k ≡ field_count → (rest : List ℕ) × (written card ≡ written_to card k ++ (field_bytes card k ++ rest))
   unfolding written_to
-  written-split zero k e =
+  written_split zero k e =
       let last : field_count ≡ suc k = omega arith in
       ([], ap (written_to card) last ∙ ap (λ (r : List ℕ). written_to card k ++ r) (sym (append-nil (field_bytes card k))))
-  written-split (suc n) k e =
-      let p = written-split n (suc k) (omega arith) in
+  written_split (suc n) k e =
+      let p = written_split n (suc k) (omega arith) in
       (field_bytes card (suc k) ++ p.0, p.1 ∙ append_assoc (written_to card k) (field_bytes card k) _)
 
   -- field k reads back as the card's numbers, and none of its checks applies
@@ -237,10 +237,10 @@ module _ (card : Card) (full : length card.table ≡ 2 ^ most_words) (r : in_ran
       (check table_missing (eqb k table_bit && not (eqb m default_words)) ∷ []))
   unfolding values_at field_bytes NoneApplies
   field-written k l =
-      let p = written-split (field_count - suc k) k (omega arith) in
+      let p = written_split (field_count - suc k) k (omega arith) in
       let n = offset card.words (written card) k in
       let fit = fitting_card k l in
-      let facts = row_facts card.words k words-card l in
+      let facts = row_facts card.words k words_card l in
       rw (present-written k l)
       (written_read (field card.words k) _ (numbers_of card k) p.0 _ fit facts.0
       (λ e. (facts.1 (ap length (sym e) ∙ fit.count), tt))
@@ -257,7 +257,7 @@ module _ (card : Card) (full : length card.table ≡ 2 ^ most_words) (r : in_ran
   unfolding card_of numbers_of
   card_of-written =
       card_ext (value (written card)) (λ k. get_or (numbers_of card k) 0 0) _ card.table
-      (λ k l. ap (λ (xs : List ℕ). get_or xs 0 0) (values-written k l)) (ap padded (values-written table_bit (lit< tt)) ∙ padded-card)
+      (λ k l. ap (λ (xs : List ℕ). get_or xs 0 0) (values-written k l)) (ap padded (values-written table_bit (lit< tt)) ∙ padded_card)
 
   checks_written : (k : ℕ) → k ≤ field_count → NoneApplies (checks_to (written card) k)
   unfolding checks_to field_checks NoneApplies written_to

@@ -101,9 +101,9 @@ sound-entry bytes s y l =
     let e : entry (card_of bytes) y ≡ get_or (values bytes table_bit) y 0 = get_or-append (values bytes table_bit) _ 0 y in_table in
     omega (arith, e, a.1, pow_pos (words_of bytes))
 
-pub sound-card : (bytes : List ℕ) → SoundForm bytes → WellFormed (card_of bytes)
+pub sound_card : (bytes : List ℕ) → SoundForm bytes → WellFormed (card_of bytes)
 unfolding card_of field fields
-sound-card bytes s =
+sound_card bytes s =
     record {
       words = (sound-value bytes s 0 (omega arith) refl).0;
       width = subst (λ (m : ℕ). (field m 1).least ≤ value bytes 1) (sym (value-words bytes)) (sound-value bytes s 1 (omega arith) refl).0;

@@ -20,7 +20,7 @@ use Rattle.refusals.specs.Refusals.{first_of, NoneApplies}
 use Rattle.card_format.specs.Reading.{card_of, form_checks, SoundForm, refused_reading, answering, reading}
 use Rattle.card_format.specs.Verdict.{period_checks, card_checks, verdict, ZeroIffCovers, accepting, Accepted}
 use Rattle.refusals.proofs.Refusals.{first-none, none_first, first-append, first-left, none_left, none_right}
-use Rattle.card_format.proofs.Sound.{sound-value, sound-card}
+use Rattle.card_format.proofs.Sound.{sound-value, sound_card}
 
 -- conditions 7 to 9 do not hold exactly where the premises of the coverage theorem do
 pub period-none : (card : Card) → WellFormed card → NoneApplies (period_checks card) ↔ FullPeriod card
@@ -59,18 +59,18 @@ unfolding verdict
 verdict-period bytes s = sym (first-append (form_checks bytes) (period_checks (card_of bytes)) s)
 
 -- demand 3 of the verdict
-pub verdict-covers : (bytes : List ℕ) → ZeroIffCovers bytes (verdict bytes)
-verdict-covers bytes s start st =
+pub verdict_covers : (bytes : List ℕ) → ZeroIffCovers bytes (verdict bytes)
+verdict_covers bytes s start st =
     let card = card_of bytes in
-    let wf = sound-card bytes s in
+    let wf = sound_card bytes s in
     let told = verdict-period bytes s in (
       λ z. (coverage card wf start st).1 ((period-none card wf).0 (none_first (period_checks card) (told ∙ z))),
       λ c. sym told ∙ first-none (period_checks card) ((period-none card wf).1 ((coverage card wf start st).0 c)),
     )
 
 -- and of an answer that is the verdict
-pub verdict-told : (bytes : List ℕ) (r : ℕ) → r ≡ verdict bytes → (r ≡ verdict bytes) × ZeroIffCovers bytes r
-verdict-told bytes r e = (e, subst (ZeroIffCovers bytes) (sym e) (verdict-covers bytes))
+pub verdict_told : (bytes : List ℕ) (r : ℕ) → r ≡ verdict bytes → (r ≡ verdict bytes) × ZeroIffCovers bytes r
+verdict_told bytes r e = (e, subst (ZeroIffCovers bytes) (sym e) (verdict_covers bytes))
 
 -- ---- what the reader says of the verdict
 
@@ -92,12 +92,12 @@ words-sound bytes s = (sound-value bytes s 0 (omega arith) refl).1
 -- ---- accepted cards
 
 -- the values of an accepted card
-pub accepted-card : (bytes : List ℕ) → verdict bytes ≡ 0 → Accepted (card_of bytes)
+pub accepted_card : (bytes : List ℕ) → verdict bytes ≡ 0 → Accepted (card_of bytes)
 unfolding verdict card_of field fields
-accepted-card bytes z =
+accepted_card bytes z =
     let none = none_first (card_checks bytes) z in
     let sound = none_left (form_checks bytes) (period_checks (card_of bytes)) none in
-    let formed = sound-card bytes sound in
+    let formed = sound_card bytes sound in
     record {
       formed = formed;
       period = (period-none (card_of bytes) formed).0 (none_right (form_checks bytes) (period_checks (card_of bytes)) none);

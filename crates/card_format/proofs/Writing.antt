@@ -16,7 +16,7 @@ use lib.Seq.{length-take-le, get_or-take, take_all}
 use Rattle.cycle.specs.Notation.{sum, every, tabulate}
 use Rattle.cycle.proofs.Digits.{tabulate_ext, tabulate-get_or}
 use Rattle.cycle.proofs.Sum.{sum_mono}
-use Rattle.cycle.proofs.Every.{every-at}
+use Rattle.cycle.proofs.Every.{every_at}
 use Rattle.tsc.specs.declared.Card.{Card}
 use Rattle.tsc.specs.Constants.{most_words, default_words}
 use Rattle.tsc.specs.Coverage.{WellFormed}
@@ -45,11 +45,11 @@ words-allowed card h = (allowed_at (field card.words 0) (numbers_of card 0) h 0 
 range_at : (card : Card) → in_range card ≡ true → (k : ℕ) → k < field_count → (i : ℕ) → i < length (numbers_of card k)
     → ((field card.words k).least ≤ get_or (numbers_of card k) i 0) × (get_or (numbers_of card k) i 0 ≤ (field card.words k).most)
 unfolding in_range
-range_at card r k l = allowed_at (field card.words k) (numbers_of card k) (every-at field_count _ ((and-eq-true_iff _ _).0 r).0 k l)
+range_at card r k l = allowed_at (field card.words k) (numbers_of card k) (every_at field_count _ ((and-eq-true_iff _ _).0 r).0 k l)
 
 pub range_words : (card : Card) → in_range card ≡ true → card.words ≤ most_words
 unfolding in_range
-range_words card r = words-allowed card (every-at field_count _ ((and-eq-true_iff _ _).0 r).0 0 (omega arith))
+range_words card r = words-allowed card (every_at field_count _ ((and-eq-true_iff _ _).0 r).0 0 (omega arith))
 
 pub range_formed : (card : Card) → length card.table ≡ 2 ^ most_words → in_range card ≡ true → WellFormed card × (card.words ≤ most_words)
 unfolding numbers_of field fields
@@ -134,7 +134,7 @@ most_extent m k = cond (eqb k 0 && eqb m default_words) 0 (extent (field m k))
 most_bytes : (m : ℕ) → m ≤ most_words → 1 + sum field_count (most_extent m) ≤ most_card_bytes
 unfolding most_extent every sum field fields
 most_bytes m h =
-    leb-true _ most_card_bytes (every-at (suc most_words) (λ m. leb (1 + sum field_count (most_extent m)) most_card_bytes) refl m (omega arith))
+    leb-true _ most_card_bytes (every_at (suc most_words) (λ m. leb (1 + sum field_count (most_extent m)) most_card_bytes) refl m (omega arith))
 
 pub present-short : (m : ℕ) (here : ℕ → Bool) → m ≤ most_words → (m ≡ default_words → here 0 ≡ false)
     → 1 + sum field_count (λ k. cond (here k) (extent (field m k)) 0) ≤ most_card_bytes
@@ -162,14 +162,14 @@ written-short card few =
 -- ---- what the writer answers
 
 -- a refusal of the values is told whatever the room is
-pub value-told : (card : Card) (room : ℕ) → first_of (value_checks card) ≢ 0 → first_of (write_checks card room) ≡ first_of (value_checks card)
+pub value_told : (card : Card) (room : ℕ) → first_of (value_checks card) ≢ 0 → first_of (write_checks card room) ≡ first_of (value_checks card)
 unfolding write_checks
-value-told card room ne = first-left (value_checks card) _ ne
+value_told card room ne = first-left (value_checks card) _ ne
 
 -- where there is none, the room decides
-pub room-told : (card : Card) (room : ℕ) → first_of (value_checks card) ≡ 0 → first_of (write_checks card room) ≡ cond (ltb room (length (written card))) 16 0
+pub room_told : (card : Card) (room : ℕ) → first_of (value_checks card) ≡ 0 → first_of (write_checks card room) ≡ cond (ltb room (length (written card))) 16 0
 unfolding write_checks first_of
-room-told card room z = first_right (value_checks card) _ z
+room_told card room z = first_right (value_checks card) _ z
 
 pub value_range : (card : Card) → first_of (value_checks card) ≡ 0 → in_range card ≡ true
 unfolding value_checks NoneApplies
@@ -180,7 +180,7 @@ pub writing-refused : (card : Card) (page : List ℕ) (r : ℕ) → r ≢ 0 → 
 unfolding writing page_after
 writing-refused card page r ne e = rw (e, ne_eqb r 0 ne) (refl, refl)
 
-pub writing-done : (card : Card) (page : List ℕ) → first_of (write_checks card (length page)) ≡ 0
+pub writing_done : (card : Card) (page : List ℕ) → first_of (write_checks card (length page)) ≡ 0
     → (Length (length (written card)) ≡ writing card (length page)) × (written card ++ drop (length (written card)) page ≡ page_after card page)
 unfolding writing page_after
-writing-done card page e = rw e (refl, refl)
+writing_done card page e = rw e (refl, refl)

@@ -3,14 +3,14 @@
 use tsc::Card;
 
 // What the reader answers: 0 and the card's values, or the refusal.
-#[derive(Drop)]
+#[derive(Clone, Copy)]
 pub struct Reading {
     pub refusal: u8,
     pub card: Card,
 }
 
 // What the writer answers: how many bytes it wrote, or the refusal.
-#[derive(Drop)]
+#[derive(Clone, Copy)]
 pub enum Written {
     Length(usize),
     Refused(u8),

@@ -16,9 +16,9 @@ use Rattle.refusals.proofs.Refusals.{none_first}
 use Rattle.card_values.specs.FieldRead.{field_read}
 
 -- a field that nothing refuses has its bytes
-pub part-long : (f : Field) (part : List ℕ) → first_of (part_checks f part) ≡ 0 → extent f ≤ length part
+pub part_long : (f : Field) (part : List ℕ) → first_of (part_checks f part) ≡ 0 → extent f ≤ length part
 unfolding part_checks NoneApplies
-part-long f part e = ltb-false (length part) (extent f) (none_first (part_checks f part) e).0
+part_long f part e = ltb-false (length part) (extent f) (none_first (part_checks f part) e).0
 
 -- a field's reader uses bytes of the part alone
 pub used-fits : (k : ℕ) (part : List ℕ) (v : Values) → (field_read k part v).used ≤ length part
@@ -29,5 +29,5 @@ used-fits k part v = go (ℕ_discrete (first_of (part_checks f part)) 0)
     f = field (get_or v.numbers 0 0) k
 
     go : Dec (first_of (part_checks f part) ≡ 0) → cond (eqb (first_of (part_checks f part)) 0) (extent f) 0 ≤ length part
-    go (yes e) = rw (eq-eqb _ 0 e) (part-long f part e)
+    go (yes e) = rw (eq-eqb _ 0 e) (part_long f part e)
     go (no ne) = rw (ne_eqb _ 0 ne) (omega arith)

@@ -26,7 +26,7 @@ use Rattle.card_format.proofs.Fields.{each_number, count-one, size-one, allowed_
 use Rattle.card_fields.proofs.Arrays.{array_of, array_of_lem}
 use Rattle.card_format.proofs.Verdict.{answering-refused, words-sound}
 use Rattle.card_format.proofs.RoundTrip.{row_facts}
-use Rattle.card_read.proofs.Map.{Left, lowest-one, left_below, next_field}
+use Rattle.card_read.proofs.Map.{Left, lowest_one, left_below, next_field}
 use Rattle.card_format.proofs.Sound.{offset_suc, fields-none, none_fitting, value-words, sound-value}
 use Rattle.card_read.proofs.FieldRead.{used-fits}
 
@@ -66,14 +66,14 @@ numbers_ahead bytes m zero j lj ne l =
 numbers_ahead bytes m (suc k) j lj ne l = stored_other bytes k j (λ e. absurd (omega arith)) ∙ numbers_ahead bytes m k j lj ne (omega arith)
 
 -- after field 0, number 0 is m
-words-read : (bytes : List ℕ) (k : ℕ) → 0 < k → get_or (numbers_to bytes k) 0 0 ≡ words_of bytes
+words_read_lem : (bytes : List ℕ) (k : ℕ) → 0 < k → get_or (numbers_to bytes k) 0 0 ≡ words_of bytes
 unfolding numbers_to array_of tabulate
-words-read bytes zero p = absurd (omega arith)
-words-read bytes (suc zero) p = value-words bytes
-words-read bytes (suc (suc k)) p = stored_other bytes (suc k) 0 (λ e. absurd (omega arith)) ∙ words-read bytes (suc k) (omega arith)
+words_read_lem bytes zero p = absurd (omega arith)
+words_read_lem bytes (suc zero) p = value-words bytes
+words_read_lem bytes (suc (suc k)) p = stored_other bytes (suc k) 0 (λ e. absurd (omega arith)) ∙ words_read_lem bytes (suc k) (omega arith)
 
-pub words-known : (bytes : List ℕ) (next at : ℕ) (v : Values) → Reached bytes next at v → 0 < next → get_or v.numbers 0 0 ≡ words_of bytes
-words-known bytes next at v h p = ap (λ (l : List ℕ). get_or l 0 0) h.numbers ∙ words-read bytes next p
+pub words_known : (bytes : List ℕ) (next at : ℕ) (v : Values) → Reached bytes next at v → 0 < next → get_or v.numbers 0 0 ≡ words_of bytes
+words_known bytes next at v h p = ap (λ (l : List ℕ). get_or l 0 0) h.numbers ∙ words_read_lem bytes next p
 
 -- an absent field leaves the numbers as they were
 pub values-absent : (bytes : List ℕ) (k : ℕ) → present bytes k ≡ false → values bytes k ≡ (field (words_of bytes) k).absent
@@ -129,35 +129,35 @@ told_at bytes k l none r ne e =
     keep cs ds h = first-left cs ds (λ z. ne (sym h ∙ z)) ∙ h
 
 -- 4, where the table is absent and must not be
-pub told-missing : (bytes : List ℕ) (at : ℕ) (v : Values) → Reached bytes table_bit at v → present bytes table_bit ≡ false
+pub told_missing : (bytes : List ℕ) (at : ℕ) (v : Values) → Reached bytes table_bit at v → present bytes table_bit ≡ false
     → get_or v.numbers 0 0 ≢ default_words → first_of (form_checks bytes) ≡ 4
 unfolding field_checks first_of
-told-missing bytes at v h a ne =
+told_missing bytes at v h a ne =
     told_at bytes table_bit (omega arith) h.none 4 (λ e. absurd (omega arith))
-    (rw a (simp (ne_eqb (words_of bytes) default_words (λ e. ne (words-known bytes table_bit at v h (omega arith) ∙ e)))))
+    (rw a (simp (ne_eqb (words_of bytes) default_words (λ e. ne (words_known bytes table_bit at v h (omega arith) ∙ e)))))
 
 -- ---- a field that is present
 
 -- the reader knows the field: the words field does not depend on m, and behind it m is known
-field-known : (bytes : List ℕ) (k at : ℕ) (v : Values) → Reached bytes k at v → field (get_or v.numbers 0 0) k ≡ field (words_of bytes) k
+field_known : (bytes : List ℕ) (k at : ℕ) (v : Values) → Reached bytes k at v → field (get_or v.numbers 0 0) k ≡ field (words_of bytes) k
 unfolding field fields
-field-known bytes zero at v h = refl
-field-known bytes (suc k) at v h = ap (λ (m : ℕ). field m (suc k)) (words-known bytes (suc k) at v h (omega arith))
+field_known bytes zero at v h = refl
+field_known bytes (suc k) at v h = ap (λ (m : ℕ). field m (suc k)) (words_known bytes (suc k) at v h (omega arith))
 
 -- what the field's reader answers is what the checks of field k tell
 field_told : (bytes : List ℕ) (k at : ℕ) (v : Values) → Reached bytes k at v → present bytes k ≡ true
     → (field_read k (drop at bytes) v).refusal ≡ first_of (field_checks bytes k)
 unfolding field_read field_checks
-field_told bytes k at v h p = rw (p, field-known bytes k at v h, h.start) refl
+field_told bytes k at v h p = rw (p, field_known bytes k at v h, h.start) refl
 
-pub told-field : (bytes : List ℕ) (k at : ℕ) (v : Values) → k < field_count → Reached bytes k at v → present bytes k ≡ true
+pub told_field : (bytes : List ℕ) (k at : ℕ) (v : Values) → k < field_count → Reached bytes k at v → present bytes k ≡ true
     → (field_read k (drop at bytes) v).refusal ≢ 0 → first_of (form_checks bytes) ≡ (field_read k (drop at bytes) v).refusal
-told-field bytes k at v l h p ne = told_at bytes k l h.none _ ne (sym (field_told bytes k at v h p))
+told_field bytes k at v l h p ne = told_at bytes k l h.none _ ne (sym (field_told bytes k at v h p))
 
 pub values-present : (bytes : List ℕ) (k at : ℕ) (v : Values) → Reached bytes k at v → present bytes k ≡ true
     → values bytes k ≡ numbers (field (get_or v.numbers 0 0) k) (drop at bytes)
 unfolding values_at
-values-present bytes k at v h p = rw (p, field-known bytes k at v h, h.start) refl
+values-present bytes k at v h p = rw (p, field_known bytes k at v h, h.start) refl
 
 cond_not : (b : Bool) (x y : List ℕ) → cond (not b) x y ≡ cond b y x
 cond_not true x y = refl
@@ -171,7 +171,7 @@ reached-field bytes k at v l h p z =
     let fits = eq-eqb (first_of (part_checks (field (get_or v.numbers 0 0) k) (drop at bytes))) 0 z in
     record {
       none = none-append (checks_to bytes k) (field_checks bytes k) h.none (none_first _ (sym (field_told bytes k at v h p) ∙ z));
-      start = ap₂ (λ (i j : ℕ). i + j) h.start (rw (fits, p, field-known bytes k at v h) refl) ∙ sym (offset_suc (words_of bytes) bytes k);
+      start = ap₂ (λ (i j : ℕ). i + j) h.start (rw (fits, p, field_known bytes k at v h) refl) ∙ sym (offset_suc (words_of bytes) bytes k);
       within = omega (arith, used-fits k (drop at bytes) v, length-drop at bytes, h.within);
       numbers = rw (fits, sym x, h.numbers) (cond_not (eqb k table_bit) _ _);
     }
@@ -181,13 +181,13 @@ reached-field bytes k at v l h p z =
 no_table : (next k m : ℕ) → missing next k m ≡ false → next ≤ table_bit → table_bit < k → m ≡ default_words
 no_table next k m h n l = eqb-true m default_words (not-false _ (rw (le-leb next table_bit n, lt-ltb table_bit k l) at h))
 
-pub reached-next : (bytes : List ℕ) (next k at : ℕ) (v : Values) → Reached bytes next at v → next ≤ k → k ≤ field_count
+pub reached_next : (bytes : List ℕ) (next k at : ℕ) (v : Values) → Reached bytes next at v → next ≤ k → k ≤ field_count
     → ((j : ℕ) → next ≤ j → j < k → present bytes j ≡ false) → missing next k (get_or v.numbers 0 0) ≡ false → Reached bytes k at v
-reached-next bytes next k at v h n l a none =
+reached_next bytes next k at v h n l a none =
     le_ind (λ (j : ℕ). j ≤ k → Reached bytes j at v) (λ lj. h)
     (λ j g ih lj. let here = ih (omega arith) in
     reached-absent bytes j at v (omega arith) here (a j g (omega arith))
-    (λ e. sym (words-known bytes j at v here (omega arith)) ∙ no_table next k _ none (omega arith) (omega arith)))
+    (λ e. sym (words_known bytes j at v here (omega arith)) ∙ no_table next k _ none (omega arith) (omega arith)))
     k n (le_refl k)
 
 pub told_gap : (bytes : List ℕ) (next k at : ℕ) (v : Values) → Reached bytes next at v → k ≤ field_count
@@ -197,8 +197,8 @@ told_gap bytes next k at v h l a m =
     let c = (and-eq-true_iff _ _).0 b.0 in
     let n = leb-true next table_bit c.0 in
     let t = ltb-true table_bit k c.1 in
-    told-missing bytes at v
-    (reached-next bytes next table_bit at v h n (omega arith) (λ j nj lj. a j nj (omega arith)) (simp (le-ltb table_bit table_bit (le_refl table_bit), and-false)))
+    told_missing bytes at v
+    (reached_next bytes next table_bit at v h n (omega arith) (λ j nj lj. a j nj (omega arith)) (simp (le-ltb table_bit table_bit (le_refl table_bit), and-false)))
     (a table_bit n t) (eqb-false _ default_words (not-true _ b.1))
 
 -- ---- the loop: what is left of the map goes with the place
@@ -216,24 +216,24 @@ pub rest_gap : (bytes : List ℕ) (left next at : ℕ) (v : Values) → Rest byt
     → missing next (count_trailing_zeros 8 left) (get_or v.numbers 0 0) ≡ true → first_of (form_checks bytes) ≡ 4
 rest_gap bytes left next at v h m = told_gap bytes next _ at v h.reached (trailing_le 8 left) (absent-below bytes left next h.fields) m
 
-pub rest-reached : (bytes : List ℕ) (left next at : ℕ) (v : Values) → Rest bytes left next at v → next ≤ count_trailing_zeros 8 left
+pub rest_reached : (bytes : List ℕ) (left next at : ℕ) (v : Values) → Rest bytes left next at v → next ≤ count_trailing_zeros 8 left
     → missing next (count_trailing_zeros 8 left) (get_or v.numbers 0 0) ≡ false → Reached bytes (count_trailing_zeros 8 left) at v
-rest-reached bytes left next at v h n m = reached-next bytes next _ at v h.reached n (trailing_le 8 left) (absent-below bytes left next h.fields) m
+rest_reached bytes left next at v h n m = reached_next bytes next _ at v h.reached n (trailing_le 8 left) (absent-below bytes left next h.fields) m
 
 -- the next field
-pub rest-here : (bytes : List ℕ) (left next at : ℕ) (v : Values) → Rest bytes left next at v → 0 < left
+pub rest_here : (bytes : List ℕ) (left next at : ℕ) (v : Values) → Rest bytes left next at v → 0 < left
     → missing next (count_trailing_zeros 8 left) (get_or v.numbers 0 0) ≡ false
     → Reached bytes (count_trailing_zeros 8 left) at v × (count_trailing_zeros 8 left < 8) × (present bytes (count_trailing_zeros 8 left) ≡ true)
-rest-here bytes left next at v h p m =
+rest_here bytes left next at v h p m =
     let f = next_field (get_or bytes 0 0) left next h.fields p in
-    (rest-reached bytes left next at v h f.0 m, (lowest-one left p h.fields.small).within, eq-eqb _ 1 f.1)
+    (rest_reached bytes left next at v h f.0 m, (lowest_one left p h.fields.small).within, eq-eqb _ 1 f.1)
 
-pub rest-next : (bytes : List ℕ) (left next at : ℕ) (v r : Values) → Rest bytes left next at v → 0 < left
+pub rest_next : (bytes : List ℕ) (left next at : ℕ) (v r : Values) → Rest bytes left next at v → 0 < left
     → missing next (count_trailing_zeros 8 left) (get_or v.numbers 0 0) ≡ false → r ≡ field_read (count_trailing_zeros 8 left) (drop at bytes) v → r.refusal ≡ 0
     → Rest bytes (bit_and left (left - 1)) (count_trailing_zeros 8 left + 1) (at + r.used) r
-rest-next bytes left next at v r h p m e z =
+rest_next bytes left next at v r h p m e z =
     let f = next_field (get_or bytes 0 0) left next h.fields p in
-    let here = rest-here bytes left next at v h p m in
+    let here = rest_here bytes left next at v h p m in
     let k = count_trailing_zeros 8 left in
     record {
       reached =
@@ -243,13 +243,13 @@ rest-next bytes left next at v r h p m e z =
       fields = f.2;
     }
 
-pub rest-refused : (bytes : List ℕ) (left next at : ℕ) (v r : Values) → Rest bytes left next at v → 0 < left
+pub rest_refused : (bytes : List ℕ) (left next at : ℕ) (v r : Values) → Rest bytes left next at v → 0 < left
     → missing next (count_trailing_zeros 8 left) (get_or v.numbers 0 0) ≡ false → r ≡ field_read (count_trailing_zeros 8 left) (drop at bytes) v → r.refusal ≢ 0
     → first_of (form_checks bytes) ≡ r.refusal
-rest-refused bytes left next at v r h p m e ne =
-    let here = rest-here bytes left next at v h p m in
+rest_refused bytes left next at v r h p m e ne =
+    let here = rest_here bytes left next at v h p m in
     let re = ap (λ (r : Values). r.refusal) e in
-    told-field bytes (count_trailing_zeros 8 left) at v here.1 here.0 here.2 (λ z. ne (re ∙ z)) ∙ sym re
+    told_field bytes (count_trailing_zeros 8 left) at v here.1 here.0 here.2 (λ z. ne (re ∙ z)) ∙ sym re
 
 -- m is within its bounds once the words field is past its checks, and before
 pub words-few : (bytes : List ℕ) (next at : ℕ) (v : Values) → Reached bytes next at v → get_or v.numbers 0 0 ≤ most_words
@@ -257,7 +257,7 @@ unfolding numbers_to array_of tabulate fields field
 words-few bytes zero at v h = rw h.numbers (omega arith)
 words-few bytes (suc k) at v h =
     let f = none_fitting bytes 0 (omega arith) (fields-none bytes 0 (suc k) (omega arith) h.none) in
-    omega (arith, words-known bytes (suc k) at v h (omega arith), value-words bytes, (allowed_at _ (values bytes 0) f.allow 0 (omega (arith, f.count))).1)
+    omega (arith, words_known bytes (suc k) at v h (omega arith), value-words bytes, (allowed_at _ (values bytes 0) f.allow 0 (omega (arith, f.count))).1)
 
 -- ---- the end, and what the reader answers
 
@@ -267,29 +267,29 @@ unfolding form_checks checks_to first_of
 told_empty bytes e = rw (eq-eqb (length bytes) 0 e) refl
 
 -- past the last field: 4 where the table is missing, then 5, then 6
-pub told-end : (bytes : List ℕ) (next at : ℕ) (v : Values) → Rest bytes 0 next at v → next ≤ field_count
+pub told_end : (bytes : List ℕ) (next at : ℕ) (v : Values) → Rest bytes 0 next at v → next ≤ field_count
     → first_of (form_checks bytes) ≡ first_of (end_checks (length bytes) next at v)
 unfolding form_checks end_checks first_of card_of numbers_to array_of tabulate count_trailing_zeros
-told-end bytes next at v h n = go (missing next field_count (get_or v.numbers 0 0)) refl
+told_end bytes next at v h n = go (missing next field_count (get_or v.numbers 0 0)) refl
   where
     go : (b : Bool) → missing next field_count (get_or v.numbers 0 0) ≡ b
         → first_of (form_checks bytes) ≡ cond b 4 (cond (ltb at (length bytes)) 5 (cond (leb (2 ^ get_or v.numbers 1 0) (get_or v.numbers 5 0)) 6 0))
     go true m = rest_gap bytes 0 next at v h m
     go false m =
-        let r = rest-reached bytes 0 next at v h n m in
+        let r = rest_reached bytes 0 next at v h n m in
         first-append (checks_to bytes field_count) _ r.none ∙ sym (rw (r.numbers, r.start) refl)
 
 -- and past these
-pub end-reached : (bytes : List ℕ) (next at : ℕ) (v : Values) → Rest bytes 0 next at v → next ≤ field_count
+pub end_reached : (bytes : List ℕ) (next at : ℕ) (v : Values) → Rest bytes 0 next at v → next ≤ field_count
     → first_of (end_checks (length bytes) next at v) ≡ 0 → Reached bytes field_count at v
 unfolding end_checks NoneApplies count_trailing_zeros
-end-reached bytes next at v h n e = rest-reached bytes 0 next at v h n (none_first (end_checks (length bytes) next at v) e).0
+end_reached bytes next at v h n e = rest_reached bytes 0 next at v h n (none_first (end_checks (length bytes) next at v) e).0
 
 -- the card of the numbers and the table
-pub card-read : (bytes : List ℕ) (at : ℕ) (v : Values) (t : List ℕ) → Reached bytes field_count at v → t ≡ padded (values bytes table_bit)
+pub card_read : (bytes : List ℕ) (at : ℕ) (v : Values) (t : List ℕ) → Reached bytes field_count at v → t ≡ padded (values bytes table_bit)
     → card_from (λ k. get_or v.numbers k 0) t ≡ card_of bytes
 unfolding card_of numbers_to array_of tabulate
-card-read bytes at v t h e = rw (h.numbers, e) refl
+card_read bytes at v t h e = rw (h.numbers, e) refl
 
 pub reading-refused : (bytes : List ℕ) (r : ℕ) → r ≢ 0 → first_of (form_checks bytes) ≡ r → refused_reading r ≡ reading bytes
 unfolding reading
@@ -300,9 +300,9 @@ unfolding reading
 reading-accepted bytes e = rw e refl
 
 -- a number is the field's value, and below 256 where it has one byte
-numbers-read : (bytes : List ℕ) (k : ℕ) → k < field_count → k ≢ table_bit → get_or (numbers_to bytes field_count) k 0 ≡ value bytes k
+numbers_read : (bytes : List ℕ) (k : ℕ) → k < field_count → k ≢ table_bit → get_or (numbers_to bytes field_count) k 0 ≡ value bytes k
 unfolding numbers_to array_of tabulate
-numbers-read bytes =
+numbers_read bytes =
     each_number (λ k. get_or (numbers_to bytes field_count) k 0 ≡ value bytes k) refl refl refl refl refl refl refl
 
 pub byte-values : (bytes : List ℕ) → SoundForm bytes → (at : ℕ) (v : Values) → Reached bytes field_count at v
@@ -310,7 +310,7 @@ pub byte-values : (bytes : List ℕ) → SoundForm bytes → (at : ℕ) (v : Val
 unfolding card_of
 byte-values bytes s at v h k l ne nc =
     let m = words_of bytes in
-    let read : get_or v.numbers k 0 ≡ value bytes k = ap (λ (xs : List ℕ). get_or xs k 0) h.numbers ∙ numbers-read bytes k l ne in
+    let read : get_or v.numbers k 0 ≡ value bytes k = ap (λ (xs : List ℕ). get_or xs k 0) h.numbers ∙ numbers_read bytes k l ne in
     let few : m ≤ most_words = omega (arith, value-words bytes, words-sound bytes s) in
     let byte : 256 ^ (field m k).size ≡ 256 = ap (λ (n : ℕ). 256 ^ n) (size-one m k l ne nc) in
     omega (arith, read, (sound-value bytes s k l (count-one m k l ne)).1, (row_facts m k few l).0, byte)

@@ -19,9 +19,9 @@ use Rattle.card_format.specs.Reading.{present, values, padded}
 use Rattle.card_format.proofs.Fields.{by_table, few-entries, numbers_table}
 use Rattle.cycle.proofs.Lists.{over, over_zeros, length_over}
 use Rattle.card_values.specs.FieldRead.{field_read, table_read, missing}
-use Rattle.card_read.proofs.FieldRead.{part-long}
+use Rattle.card_read.proofs.FieldRead.{part_long}
 use Rattle.card_read.proofs.Map.{next_field}
-use Rattle.card_read.proofs.Reader.{Reached, Rest, values-absent, values-present, absent-below, rest-here}
+use Rattle.card_read.proofs.Reader.{Reached, Rest, values-absent, values-present, absent-below, rest_here}
 
 -- the table, once the fields before field `next` are read
 pub table_to : List ℕ → ℕ → List ℕ
@@ -71,7 +71,7 @@ unfolding table_to field_read table_read field fields
 table_here bytes at v h p z =
     let m = get_or v.numbers 0 0 in
     let part = drop at bytes in
-    let long : 2 ^ m ≤ length part = rw mul-one at (part-long (field m table_bit) part z) in
+    let long : 2 ^ m ≤ length part = rw mul-one at (part_long (field m table_bit) part z) in
     rw (le-leb _ _ long, p) (over_zeros part (2 ^ most_words) (2 ^ m) long ∙ ap padded (sym (values-present bytes table_bit at v h p ∙ numbers_table m part long)))
 
 table_field : (bytes : List ℕ) (at : ℕ) (v : Values) (k : ℕ) → k < field_count → Reached bytes k at v → present bytes k ≡ true
@@ -89,7 +89,7 @@ pub rest_table : (bytes : List ℕ) (left next at : ℕ) (v r : Values) (t₀ t 
     → t₀ ≡ table_to bytes next → t ≡ table_read (count_trailing_zeros 8 left) (drop at bytes) v t₀ → t ≡ table_to bytes (count_trailing_zeros 8 left + 1)
 rest_table bytes left next at v r t₀ t h p m e z d₀ d =
     let k = count_trailing_zeros 8 left in
-    let here = rest-here bytes left next at v h p m in
+    let here = rest_here bytes left next at v h p m in
     let gap = table_gap bytes next k (next_field (get_or bytes 0 0) left next h.fields p).0 (absent-below bytes left next h.fields) in
     d ∙ ap (table_read k (drop at bytes) v) (d₀ ∙ gap)
     ∙ table_field bytes at v k here.1 here.0 here.2 (ap (λ (r : Values). r.refusal) (sym e) ∙ z) ∙ ap (table_to bytes) (sym (add-one k))

@@ -9,7 +9,7 @@ use card_table::table;
 use tsc::TABLE_SIZE;
 
 // What a field's reader hands on: the refusal or 0, the bytes that it used, and the numbers so far, by their bits.
-#[derive(Drop)]
+#[derive(Clone, Copy)]
 pub struct Values {
     pub refusal: u8,
     pub used: usize,

@@ -28,11 +28,11 @@ first_part separator [] = refl
 first_part separator (x ∷ xs) = first_by (eqb x separator) separator x (index_of separator xs) xs (first_part separator xs)
 
 -- places of the rest are places of the whole
-from-rest : (separator : ℕ) (xs : List ℕ) (at k : ℕ) → at ≤ length xs → parts_from separator (drop at xs) k ≡ parts_from separator xs (at + k)
+from_rest : (separator : ℕ) (xs : List ℕ) (at k : ℕ) → at ≤ length xs → parts_from separator (drop at xs) k ≡ parts_from separator xs (at + k)
 unfolding parts_from
-from-rest separator xs zero k h = simp (zero-add k)
-from-rest separator [] (suc at) k h = absurd (omega arith)
-from-rest separator (x ∷ xs) (suc at) k h = simp (suc-add at k, leb-suc-suc (at + k) (length xs)) (from-rest separator xs at k (omega arith))
+from_rest separator xs zero k h = simp (zero-add k)
+from_rest separator [] (suc at) k h = absurd (omega arith)
+from_rest separator (x ∷ xs) (suc at) k h = simp (suc-add at k, leb-suc-suc (at + k) (length xs)) (from_rest separator xs at k (omega arith))
 
 -- from a place on, with what `bytes::scan::find` answers
 pub parts_find : (separator : ℕ) (xs : List ℕ) (at end : ℕ) → at ≤ length xs → end ≡ at + index_of separator (slice at (length xs) xs)
@@ -45,12 +45,12 @@ parts_find separator xs at end h q =
     let n : e ≡ end - at = omega (arith, q, all) in
     let next : at + suc e ≡ end + 1 = omega (arith, q, all) in
     simp (le-leb _ _ h) (first_part separator rest ∙ ap₂ (λ (k : ℕ) (ps : List (List ℕ)). take k rest ∷ ps) n
-    (from-rest separator xs at (suc e) h ∙ ap (parts_from separator xs) next))
+    (from_rest separator xs at (suc e) h ∙ ap (parts_from separator xs) next))
 
 -- past the end there are none
-pub parts-end : (separator : ℕ) (xs : List ℕ) (at : ℕ) → length xs < at → parts_from separator xs at ≡ []
+pub parts_end : (separator : ℕ) (xs : List ℕ) (at : ℕ) → length xs < at → parts_from separator xs at ≡ []
 unfolding parts_from
-parts-end separator xs at h = simp (lt-leb _ _ h)
+parts_end separator xs at h = simp (lt-leb _ _ h)
 
 pub parts-start : (separator : ℕ) (xs : List ℕ) → parts_from separator xs 0 ≡ parts separator xs
 unfolding parts_from

@@ -14,7 +14,7 @@ pub const HALF: u32 = 0xffff;
 pub const WORD: u32 = 0xffff_ffff;
 
 // Numbers, `count` of them, each as it is and its low 16 and low 8 bits; zeros past them. A full array is a list that can't be read.
-#[derive(Drop)]
+#[derive(Clone, Copy)]
 pub struct Numbers {
     pub words: [u32; ROOM],
     pub halves: [u16; ROOM],

@@ -4,7 +4,7 @@ pub mod lines;
 mod read;
 
 // The calls on places.
-#[derive(Drop)]
+#[derive(Clone, Copy)]
 enum Ask {
     Pick,
     // with a radius

@@ -4,7 +4,7 @@ mod recorded;
 pub mod states;
 
 // The calls that move the state by one.
-#[derive(Drop)]
+#[derive(Clone, Copy)]
 pub enum Move {
     Step,
     Back,
@@ -12,7 +12,7 @@ pub enum Move {
 }
 
 // The calls on a list of shovels and times.
-#[derive(Drop)]
+#[derive(Clone, Copy)]
 pub enum Ask {
     Pick,
     Margin,

@@ -18,14 +18,14 @@ module _ (shovels : List ℕ) (c e : Change) where
   abbrev b : ℕ
   b = get_or shovels e.place 0
 
-  pub by-seconds : c.seconds ≢ e.seconds → ltb c.seconds e.seconds ≡ before shovels c e
+  pub by_seconds : c.seconds ≢ e.seconds → ltb c.seconds e.seconds ≡ before shovels c e
   unfolding before
-  by-seconds n = rw (ne_eqb c.seconds e.seconds n) (sym (or-false _))
+  by_seconds n = rw (ne_eqb c.seconds e.seconds n) (sym (or-false _))
 
   pub by_number : c.seconds ≡ e.seconds → a ≢ b → ltb a b ≡ before shovels c e
   unfolding before
   by_number q n = rw (le-ltb c.seconds e.seconds (omega arith), eq-eqb c.seconds e.seconds q, ne_eqb a b n) (sym (or-false _))
 
-  pub by-direction : c.seconds ≡ e.seconds → a ≡ b → (not c.raised && e.raised) ≡ before shovels c e
+  pub by_direction : c.seconds ≡ e.seconds → a ≡ b → (not c.raised && e.raised) ≡ before shovels c e
   unfolding before
-  by-direction q n = rw (le-ltb c.seconds e.seconds (omega arith), eq-eqb c.seconds e.seconds q, le-ltb a b (omega arith), eq-eqb a b n) refl
+  by_direction q n = rw (le-ltb c.seconds e.seconds (omega arith), eq-eqb c.seconds e.seconds q, le-ltb a b (omega arith), eq-eqb a b n) refl

@@ -4,7 +4,7 @@ pub mod order;
 use changes::Change;
 
 // The least change so far, if there is one.
-#[derive(Drop)]
+#[derive(Clone, Copy)]
 pub enum Best {
     Nothing,
     Least(Change),

@@ -22,8 +22,8 @@ use Rattle.changes.proofs.Order.{no_later_both}
 
 -- ---- places that are told apart
 
-permutes-injective : (n : ℕ) (f : ℕ → ℕ) → Permutes n f → (i j : ℕ) → i < n → j < n → f i ≡ f j → i ≡ j
-permutes-injective n f s i j li lj e =
+permutes_injective : (n : ℕ) (f : ℕ → ℕ) → Permutes n f → (i j : ℕ) → i < n → j < n → f i ≡ f j → i ≡ j
+permutes_injective n f s i j li lj e =
     one_place n (λ k. eqb (f k) (f j)) (omega (arith, count_permute n f (λ k. eqb (f k) (f j)) (λ k. eqb k (f j)) s (λ k l. refl), at_one))
     i j li lj (eq-eqb (f i) (f j) e) (eq-eqb (f j) (f j) refl)
   where
@@ -76,11 +76,11 @@ module _ (f : ℕ → ℕ) (times : List ℕ) (s : Permutes (length times) f) wh
           rw (e, get_or-set_same (reordered f times) c.place _ 0 (omega (arith, length-reordered f times)), get_or-set_same times (f c.place) _ 0 (s.below c.place l), get_or-reordered f times c.place l) refl
       go j lj (no n) =
           get_or-set_other (reordered f times) c.place j _ 0 n ∙ get_or-reordered f times j lj
-          ∙ sym (get_or-set_other times (f c.place) (f j) _ 0 (λ e. n (permutes-injective (length times) f s j c.place lj l e)))
+          ∙ sym (get_or-set_other times (f c.place) (f j) _ 0 (λ e. n (permutes_injective (length times) f s j c.place lj l e)))
 
   module _ (Wanted Wanted₂ : List ℕ → Type 0) (same : (ys : List ℕ) → length ys ≡ length times → Wanted₂ (reordered f ys) ↔ Wanted ys) where
-    pub counts-there : (c : Change) → Counts (reordered f times) Wanted₂ c → Counts times Wanted (there f c)
-    counts-there c k =
+    pub counts_there : (c : Change) → Counts (reordered f times) Wanted₂ c → Counts times Wanted (there f c)
+    counts_there c k =
         let l : c.place < length times = omega (arith, length-reordered f times, k.listed) in
         record {
           listed = s.below c.place l;
@@ -89,8 +89,8 @@ module _ (f : ℕ → ℕ) (times : List ℕ) (s : Permutes (length times) f) wh
           wanted = (same (changed times (there f c)) (length-changed times (there f c))).0 (subst Wanted₂ (changed-reordered c l) k.wanted);
         }
 
-    counts-at : (c : Change) → c.place < length times → Counts times Wanted (there f c) → Counts (reordered f times) Wanted₂ c
-    counts-at c l k =
+    counts_at : (c : Change) → c.place < length times → Counts times Wanted (there f c) → Counts (reordered f times) Wanted₂ c
+    counts_at c l k =
         record {
           listed = omega (arith, length-reordered f times);
           some = k.some;
@@ -99,18 +99,18 @@ module _ (f : ℕ → ℕ) (times : List ℕ) (s : Permutes (length times) f) wh
         }
 
     -- a change that counts in the list is one of the other
-    pub counts-back : (g : Change) → Counts times Wanted g → (c : Change) × (there f c ≡ g) × Counts (reordered f times) Wanted₂ c
-    counts-back g k =
+    pub counts_back : (g : Change) → Counts times Wanted g → (c : Change) × (there f c ≡ g) × Counts (reordered f times) Wanted₂ c
+    counts_back g k =
         let o = s.onto g.place k.listed in
         let at : ℕ → Change = λ p. record { place = p; raised = g.raised; seconds = g.seconds } in
-        (at o.0, ap at o.2, counts-at (at o.0) o.1 (subst (λ (p : ℕ). Counts times Wanted (at p)) (sym o.2) k))
+        (at o.0, ap at o.2, counts_at (at o.0) o.1 (subst (λ (p : ℕ). Counts times Wanted (at p)) (sym o.2) k))
 
-    pub least-there : (shovels : List ℕ) → length shovels ≡ length times → (c : Change)
+    pub least_there : (shovels : List ℕ) → length shovels ≡ length times → (c : Change)
         → LeastChange (reordered f shovels) (reordered f times) Wanted₂ c → LeastChange shovels times Wanted (there f c)
-    least-there shovels paired c h =
+    least_there shovels paired c h =
         record {
-          counts = counts-there c h.counts;
-          least = λ g m. let b = counts-back g m in subst (NoLater shovels (there f c)) b.1 (go b.0 b.2.listed (h.least b.0 b.2));
+          counts = counts_there c h.counts;
+          least = λ g m. let b = counts_back g m in subst (NoLater shovels (there f c)) b.1 (go b.0 b.2.listed (h.least b.0 b.2));
         }
       where
         number : (c : Change) → c.place < length (reordered f times) → get_or (reordered f shovels) c.place 0 ≡ get_or shovels (f c.place) 0

@@ -34,9 +34,9 @@ module _ (times : List ℕ) (i v : ℕ) where
       go (yes l) = rw (lt-ltb t v l) (omega arith)
       go (no n) = rw (le-ltb t v (omega arith)) (omega arith)
 
-  pub changed-to : changed times (change_to times i v) ≡ set times i v
+  pub changed_to : changed times (change_to times i v) ≡ set times i v
   unfolding changed
-  changed-to = ap (set times i) moved_to
+  changed_to = ap (set times i) moved_to
 
 -- a change of time u to w: it is another time, a greater one where it is raised, and the seconds are between them
 record Moves (raised : Bool) (u d w : ℕ) : Type 0 where
@@ -89,7 +89,7 @@ module _ (shovels times : List ℕ) (Wanted : List ℕ → Type 0) (by : ByTies 
     close v a b n up down = go (dec_lt u v)
       where
         there : Wanted (changed times (change_to times e.place v))
-        there = subst Wanted (sym (changed-to times e.place v)) (by _ _ (length-set times e.place w) (same_side times e.place x k.listed o w v (sym a) (sym b)) k.wanted)
+        there = subst Wanted (sym (changed_to times e.place v)) (by _ _ (length-set times e.place w) (same_side times e.place x k.listed o w v (sym a) (sym b)) k.wanted)
 
         made : 1 ≤ (change_to times e.place v).seconds → Within (ltb u v) u (change_to times e.place v).seconds → (change_to times e.place v).seconds ≤ e.seconds
             → ltb u v ≡ e.raised → Close shovels times Wanted e v

@@ -22,18 +22,18 @@ module _ (shovels : List ℕ) where
   no_later_trans a b c p q =
       record {
         seconds = omega (arith, p.seconds, q.seconds);
-        number = λ s. omega (arith, p.number (first_two s), q.number (last-two s));
+        number = λ s. omega (arith, p.number (first_two s), q.number (last_two s));
         direction = λ s n r.
             let m = p.number (first_two s) in
-            let l = q.number (last-two s) in
-            q.direction (last-two s) (omega arith) (p.direction (first_two s) (omega arith) r);
+            let l = q.number (last_two s) in
+            q.direction (last_two s) (omega arith) (p.direction (first_two s) (omega arith) r);
       }
     where
       first_two : a.seconds ≡ c.seconds → a.seconds ≡ b.seconds
       first_two s = omega (arith, p.seconds, q.seconds)
 
-      last-two : a.seconds ≡ c.seconds → b.seconds ≡ c.seconds
-      last-two s = omega (arith, p.seconds, q.seconds)
+      last_two : a.seconds ≡ c.seconds → b.seconds ≡ c.seconds
+      last_two s = omega (arith, p.seconds, q.seconds)
 
   -- two that are no later than each other agree: there is one least change at most
   pub no_later_both : (c e : Change) → NoLater shovels c e → NoLater shovels e c
@@ -48,9 +48,9 @@ module _ (shovels : List ℕ) where
   Told c e true = NoLater shovels c e
   Told c e false = NoLater shovels e c
 
-  pub before-told : (c e : Change) → Told c e (before shovels c e)
+  pub before_told : (c e : Change) → Told c e (before shovels c e)
   unfolding before
-  before-told c e = go (dec_lt s t) (ℕ_discrete s t) (dec_lt m n) (ℕ_discrete m n) c.raised e.raised refl refl
+  before_told c e = go (dec_lt s t) (ℕ_discrete s t) (dec_lt m n) (ℕ_discrete m n) c.raised e.raised refl refl
     where
       s : ℕ
       s = c.seconds

@@ -11,26 +11,26 @@ use borrow.Author.Tests.{leb-true}
 use lib.Dec.{leb}
 use lib.ListN.{length, get_or}
 use Rattle.cycle.specs.Notation.{every, sum, count, first}
-use Rattle.cycle.proofs.Every.{every-at}
+use Rattle.cycle.proofs.Every.{every_at}
 use Rattle.ties.specs.Ties.{is_tie, ties, rank, has_rank, chosen}
 use Rattle.changes.specs.declared.Change.{Change}
 use Rattle.changes.specs.Change.{most_time, moved, Within, changed, Counts, NoLater, LeastChange}
 use Rattle.changes.specs.Others.{change_to, before}
 use Rattle.ties.proofs.Alike.{same_count, same_chosen}
 use Rattle.changes.proofs.After.{LeastOther}
-use Rattle.changes.proofs.Order.{no_later_trans, Told, before-told}
+use Rattle.changes.proofs.Order.{no_later_trans, Told, before_told}
 use Rattle.changes.proofs.Nearest.{Beside, ByTies, nearest, several}
 
 -- the pick of the times ys is not refused, and answers another number
 abbrev pub Sends : (ℕ → ℕ) → ℕ → List ℕ → List ℕ → List ℕ → Type 0
 Sends rank_of limit shovels times ys = (ties ys ≤ limit) × (chosen shovels ys (rank_of (ties ys)) ≢ chosen shovels times (rank_of (ties times)))
 
-by-ties : (rank_of : ℕ → ℕ) (limit : ℕ) (shovels times : List ℕ) → ByTies (length times) (Sends rank_of limit shovels times)
-by-ties rank_of limit shovels times xs ys l s w = rw (← same_count xs ys s, ← same_chosen xs ys s shovels (rank_of (ties xs))) w
+by_ties : (rank_of : ℕ → ℕ) (limit : ℕ) (shovels times : List ℕ) → ByTies (length times) (Sends rank_of limit shovels times)
+by_ties rank_of limit shovels times xs ys l s w = rw (← same_count xs ys s, ← same_chosen xs ys s shovels (rank_of (ties xs))) w
 
 -- in a list of one no change counts
 pub firm-one : (rank_of : ℕ → ℕ) (limit n t : ℕ) (e : Change) → Counts (t ∷ []) (Sends rank_of limit (n ∷ []) (t ∷ [])) e → ⊥
-firm-one rank_of limit n t e k = omega (arith, several (n ∷ []) (t ∷ []) _ (by-ties rank_of limit (n ∷ []) (t ∷ [])) (λ w. w.1 refl) e k)
+firm-one rank_of limit n t e k = omega (arith, several (n ∷ []) (t ∷ []) _ (by_ties rank_of limit (n ∷ []) (t ∷ [])) (λ w. w.1 refl) e k)
 
 -- ---- two shovels: 4, and 7 with a later time
 
@@ -57,8 +57,8 @@ module _ (rank_of : ℕ → ℕ) (limit s t : ℕ) (l : s < t) where
 
   -- and so of the four that are worth a look
   record Nearby (P : Change → Type 0) : Type 0 where
-    four-to : Each P 0 t
-    four-past : t < most_time → Each P 0 (t + 1)
+    four_to : Each P 0 t
+    four_past : t < most_time → Each P 0 (t + 1)
     seven_to : Each P 1 s
     seven_past : 0 < s → Each P 1 (s - 1)
 
@@ -67,7 +67,7 @@ module _ (rank_of : ℕ → ℕ) (limit s t : ℕ) (l : s < t) where
   nearby P f e k = go e.place e.raised e.seconds k
     where
       near : (e : Change) → Counts times Wanted e → (x : ℕ) → LeastOther times e.place x → Beside two times Wanted e x
-      near = nearest two times Wanted (by-ties rank_of limit two times) (λ w. w.1 refl)
+      near = nearest two times Wanted (by_ties rank_of limit two times) (λ w. w.1 refl)
 
       found : (e : Change) (x : ℕ) → Each P e.place x → (0 < x → x ≤ get_or times e.place 0 → Each P e.place (x - 1)) → (x < most_time → get_or times e.place 0 ≤ x → Each P e.place (x + 1))
           → Beside two times Wanted e x → (c : Change) × P c × NoLater two c e
@@ -80,7 +80,7 @@ module _ (rank_of : ℕ → ℕ) (limit s t : ℕ) (l : s < t) where
       other i j li lj n = record { stands = (j, lj, λ q. n (sym q), refl); least = λ k lk m. let q : k ≡ j = omega arith in rw q (le_refl _) }
 
       go : (i : ℕ) (r : Bool) (d : ℕ) → Counts times Wanted (record { place = i; raised = r; seconds = d }) → (c : Change) × P c × NoLater two c (record { place = i; raised = r; seconds = d })
-      go zero r d k = found _ t f.four-to (λ m h. absurd (omega arith)) (λ m h. f.four-past m) (near _ k t (other 0 1 (omega arith) (omega arith) (omega arith)))
+      go zero r d k = found _ t f.four_to (λ m h. absurd (omega arith)) (λ m h. f.four_past m) (near _ k t (other 0 1 (omega arith) (omega arith) (omega arith)))
       go (suc zero) r d k = found _ s f.seven_to (λ m h. f.seven_past m) (λ m h. absurd (omega arith)) (near _ k s (other 1 0 (omega arith) (omega arith) (omega arith)))
       go (suc (suc i)) r d k = absurd (omega (arith, k.listed))
 
@@ -89,7 +89,7 @@ module _ (rank_of : ℕ → ℕ) (limit s t : ℕ) (l : s < t) where
   least-up d k f =
       record {
         counts = k;
-        least = λ e m. let r = nearby _ f e m in no_later_trans two (up d) r.0 e (subst (Told two r.0 (up d)) r.1 (before-told two r.0 (up d))) r.2;
+        least = λ e m. let r = nearby _ f e m in no_later_trans two (up d) r.0 e (subst (Told two r.0 (up d)) r.1 (before_told two r.0 (up d))) r.2;
       }
 
 -- 4 at 300 and 7 at 305. The lower number is drawn of two ties: 4 raised by 6
@@ -97,28 +97,28 @@ pub raised_six : LeastChange two (pair 300 305) (Sends (λ k. 0) 2 two (pair 300
 unfolding Within moved changed chosen has_rank rank ties is_tie first count sum every before
 raised_six =
     least-up (λ k. 0) 2 300 305 (omega arith) 6 (omega arith)
-    (record { four-to = λ m. absurd (m.wanted.1 refl); four-past = λ l m. refl; seven_to = λ m. absurd (m.wanted.1 refl); seven_past = λ l m. refl })
+    (record { four_to = λ m. absurd (m.wanted.1 refl); four_past = λ l m. refl; seven_to = λ m. absurd (m.wanted.1 refl); seven_past = λ l m. refl })
 
 -- the higher is drawn: 4 raised by 5
 pub raised_five : LeastChange two (pair 300 305) (Sends (λ k. k - 1) 2 two (pair 300 305)) (up 5)
 unfolding Within moved changed chosen has_rank rank ties is_tie first count sum every before
 raised_five =
     least-up (λ k. k - 1) 2 300 305 (omega arith) 5 (omega arith)
-    (record { four-to = λ m. refl; four-past = λ l m. refl; seven_to = λ m. refl; seven_past = λ l m. refl })
+    (record { four_to = λ m. refl; four_past = λ l m. refl; seven_to = λ m. refl; seven_past = λ l m. refl })
 
 -- the higher would be drawn, but two ties are refused: 4 raised by 6
 pub refused_five : LeastChange two (pair 300 305) (Sends (λ k. k - 1) 1 two (pair 300 305)) (up 6)
 unfolding Within moved changed chosen has_rank rank ties is_tie first count sum every before
 refused_five =
     least-up (λ k. k - 1) 1 300 305 (omega arith) 6 (omega arith)
-    (record { four-to = λ m. absurd (omega (arith, m.wanted.0)); four-past = λ l m. refl; seven_to = λ m. absurd (omega (arith, m.wanted.0)); seven_past = λ l m. refl })
+    (record { four_to = λ m. absurd (omega (arith, m.wanted.0)); four_past = λ l m. refl; seven_to = λ m. absurd (omega (arith, m.wanted.0)); seven_past = λ l m. refl })
 
 -- 4 at 0 and 7 at the greatest time, the lower number drawn: no change counts
-pub firm-two : (e : Change) → Counts (pair 0 most_time) (Sends (λ k. 0) 2 two (pair 0 most_time)) e → ⊥
+pub firm_two : (e : Change) → Counts (pair 0 most_time) (Sends (λ k. 0) 2 two (pair 0 most_time)) e → ⊥
 unfolding Within moved changed chosen has_rank rank ties is_tie first count sum every
-firm-two e k =
+firm_two e k =
     (nearby (λ k. 0) 2 0 most_time (omega arith) (λ c. ⊥)
-    (record { four-to = λ m. m.wanted.1 refl; four-past = λ l m. omega arith; seven_to = λ m. m.wanted.1 refl; seven_past = λ l m. omega arith }) e k).1
+    (record { four_to = λ m. m.wanted.1 refl; four_past = λ l m. omega arith; seven_to = λ m. m.wanted.1 refl; seven_past = λ l m. omega arith }) e k).1
 
 -- ---- three ties at 300, the middle number drawn
 
@@ -142,7 +142,7 @@ lowered_wins =
       least = λ e m.
           record {
             seconds = m.some;
-            number = λ q. leb-true 4 (get_or three e.place 0) (every-at 3 (λ i. leb 4 (get_or three i 0)) refl e.place m.listed);
+            number = λ q. leb-true 4 (get_or three e.place 0) (every_at 3 (λ i. leb 4 (get_or three i 0)) refl e.place m.listed);
             direction = λ q n r. absurd (true≢false (sym r));
           };
     }

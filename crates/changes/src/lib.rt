@@ -4,7 +4,7 @@
 pub const MOST_TIME: u32 = 4294967295;
 
 // The time of the shovel at a place raised, or else lowered, by some seconds.
-#[derive(Drop)]
+#[derive(Clone, Copy)]
 pub struct Change {
     pub place: usize,
     pub raised: bool,

@@ -9,13 +9,13 @@ use lib.ListN.{length, get_or, take, drop, length-drop, take-append-drop}
 use lib.Pow.{shl_exact, pow_mono, pow_pos}
 use lib.Seq.{length-take-le, take_all, ext_get_or, get_or-drop}
 use Rattle.cycle.specs.Notation.{bit}
-use Rattle.cycle.proofs.Bits.{bit-mod, bit_past}
+use Rattle.cycle.proofs.Bits.{bit_mod, bit_past}
 use Rattle.cycle.proofs.Digits.{length-tabulate, get_d_tabulate, tabulate_ext, tabulate-get_or}
 use Rattle.cycle.proofs.Lists.{over}
 use Rattle.tsc.specs.Constants.{most_words}
 use Rattle.tsc.specs.Columns.{column}
 use Rattle.tsc.proofs.Columns.{column_lt}
-use Rattle.tsc.proofs.LowWords.{low_words, length_low_words, get_or_low_words, bit-column, mod-bit}
+use Rattle.tsc.proofs.LowWords.{low_words, length_low_words, get_or_low_words, bit-column, mod_bit}
 use Rattle.words.proofs.Words.{words_from}
 use Rattle.columns.specs.Replace.{with_column}
 
@@ -45,7 +45,7 @@ module _ (count i c : ℕ) (ws : List ℕ) where
   with_at k l = get_d_tabulate most_words _ k l
 
   pub get_or-with_column : (k : ℕ) → k < count → k < most_words → get_or (with_column count i c ws) k 0 ≡ get_or ws k 0 + bit k c * 2 ^ i
-  get_or-with_column k h l = with_at k l ∙ ap (λ (b : ℕ). get_or ws k 0 + b * 2 ^ i) (bit-mod count k c h)
+  get_or-with_column k h l = with_at k l ∙ ap (λ (b : ℕ). get_or ws k 0 + b * 2 ^ i) (bit_mod count k c h)
 
   -- the words past the first are as they were
   pub with_column_rest : count ≤ most_words → length ws ≡ most_words → over (with_column count i c ws) ws count ≡ with_column count i c ws
@@ -65,5 +65,5 @@ with_column-low count i ws e few =
     let size : length (low_words (i + 1) ws) ≡ most_words = length_low_words (i + 1) ws ∙ e in
     tabulate_ext most_words (λ k. get_or (low_words i ws) k 0 + bit k (column i ws % 2 ^ count) * 2 ^ i) (λ k. get_or (low_words (i + 1) ws) k 0) (λ k l.
     ap₂ (λ (x b : ℕ). x + b * 2 ^ i) (get_or_low_words i ws k) (ap (bit k) (mod-eq_of_lt few) ∙ bit-column i ws k)
-    ∙ sym (mod-bit (get_or ws k 0) i) ∙ sym (get_or_low_words (i + 1) ws k))
+    ∙ sym (mod_bit (get_or ws k 0) i) ∙ sym (get_or_low_words (i + 1) ws k))
     ∙ tabulate-get_or most_words (low_words (i + 1) ws) (omega arith) ∙ take_all most_words (low_words (i + 1) ws) (omega arith)

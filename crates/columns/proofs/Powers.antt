@@ -13,7 +13,7 @@ use lib.ListN.{length, get_or, set, replicate, length-set, length-replicate}
 use lib.Pow.{pow_pos, pow_mono}
 use lib.Seq.{get_or-set_same, get_or-set_other}
 use Rattle.cycle.specs.Notation.{iterate}
-use Rattle.cycle.proofs.Iterate.{iterate-add, iterate-below}
+use Rattle.cycle.proofs.Iterate.{iterate_add, iterate-below}
 use Rattle.cycle.proofs.Every.{extend}
 use Rattle.cycle.proofs.Lists.{get_or_filler}
 use Rattle.tsc.specs.declared.Card.{Card}
@@ -32,9 +32,9 @@ pub stands-few : (m : ℕ) (table : List ℕ) → IsCycle m table → m ≤ most
 stands-few m table ok few j = lt_of_lt_of_le (stands_lt m table ok j) (pow_mono few)
 
 -- one application more
-pub stands-next : (table : List ℕ) (j : ℕ) {x : ℕ} → x ≡ stands table j → get_or table x 0 ≡ stands table (j + 1)
+pub stands_next : (table : List ℕ) (j : ℕ) {x : ℕ} → x ≡ stands table j → get_or table x 0 ≡ stands table (j + 1)
 unfolding iterate
-stands-next table j e = ap (λ (y : ℕ). get_or table y 0) e ∙ ap (stands table) (sym (add-one j))
+stands_next table j e = ap (λ (y : ℕ). get_or table y 0) e ∙ ap (stands table) (sym (add-one j))
 
 -- t has where the first j entries of the cycle go in k applications, and 0 past the table's entries
 pub record Filled (m : ℕ) (table : List ℕ) (k j : ℕ) (t : List ℕ) : Type 0 where
@@ -82,8 +82,8 @@ pub along_next : (m : ℕ) (table : List ℕ) → IsCycle m table → m ≤ most
     → Along m table k (j + 1) (set t x y) (get_or table y 0)
 along_next m table ok few k j t ex a =
     let e : k + j + 1 ≡ k + (j + 1) = omega arith in (
-      stands-next table (k + j) a.0 ∙ ap (stands table) e,
-      subst (Filled m table k (j + 1)) (sym (ap₂ (set t) ex (a.0 ∙ iterate-add (λ y. get_or table y 0) k j 0))) (filled_at m table ok few k j t a.1),
+      stands_next table (k + j) a.0 ∙ ap (stands table) e,
+      subst (Filled m table k (j + 1)) (sym (ap₂ (set t) ex (a.0 ∙ iterate_add (λ y. get_or table y 0) k j 0))) (filled_at m table ok few k j t a.1),
     )
 
 -- one round fills in every entry
@@ -100,9 +100,9 @@ along_all m table k j t c e a x = go (dec_lt x (2 ^ m))
     go (no g) = simp (le-ltb x (2 ^ m) (omega arith)) (f.unused x (omega arith))
 
 -- where a column goes, by the power that its selector bit picks
-pub image-power : (card : Card) (odd even : List ℕ) (a b s c : ℕ) → IsPower card a odd → IsPower card b even → c < 2 ^ card.words
+pub image_power : (card : Card) (odd even : List ℕ) (a b s c : ℕ) → IsPower card a odd → IsPower card b even → c < 2 ^ card.words
     → image_of odd even s c ≡ iterate (entry card) (cond (eqb s 1) a b) c
-image-power card odd even a b s c ho he l = go (eqb s 1)
+image_power card odd even a b s c ho he l = go (eqb s 1)
   where
     go : (t : Bool) → get_or (cond t odd even) c 0 ≡ iterate (entry card) (cond t a b) c
     go true = ho c ∙ simp (lt-ltb c (2 ^ card.words) l)

@@ -10,7 +10,7 @@ use tsc::TABLE_SIZE;
 use words::arithmetic;
 
 // A table applied so many times, for a selector bit of 1 and for one of 0.
-#[derive(Drop)]
+#[derive(Clone, Copy)]
 pub struct Powers {
     pub odd: [u8; TABLE_SIZE],
     pub even: [u8; TABLE_SIZE],

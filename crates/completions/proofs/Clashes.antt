@@ -7,8 +7,8 @@ use native.Mathlib.Omega.{arith}
 use borrow.Author.Tests.{eq-eqb, ne_eqb, eqb-true, lt-ltb, le-ltb, ltb-true}
 use lib.Dec.{eqb, ltb}
 use Rattle.cycle.specs.Notation.{one, first}
-use Rattle.cycle.proofs.Count.{count-some, count-two, two-met}
-use Rattle.cycle.proofs.First.{first-at, first-before, first-meets}
+use Rattle.cycle.proofs.Count.{count-some, count_two, two_met}
+use Rattle.cycle.proofs.First.{first_at, first-before, first_meets}
 use Rattle.cycle.proofs.Iterate.{MapsBelow}
 use Rattle.completions.specs.Completion.{Injective}
 use Rattle.completions.proofs.Completion.{once_of_none}
@@ -48,7 +48,7 @@ module _ (N : ℕ) (f : ℕ → ℕ) where
 
   -- both places of an entry that stands twice clash
   twice : (x y : ℕ) → x < y → y < N → f x ≡ f y → 1 < uses N f (f x)
-  twice x y l yN e = two-met N (λ z. eqb (f z) (f x)) x y l yN (eq-eqb (f x) (f x) refl) (eq-eqb (f y) (f x) (sym e))
+  twice x y l yN e = two_met N (λ z. eqb (f z) (f x)) x y l yN (eq-eqb (f x) (f x) refl) (eq-eqb (f y) (f x) (sym e))
 
   clashes_of : (x y : ℕ) → x < y → y < N → Clash f x y → clashes N f x ≡ true
   clashes_of x y l yN (inl e) = clashing x (inl (twice x y l yN e))
@@ -67,7 +67,7 @@ module _ (N : ℕ) (f : ℕ → ℕ) where
 
     with_later : (1 < uses N f (f i)) ⊎ (f (f i) ≡ i) → (y : ℕ) × (y < N) × (clashes_with f i y ≡ true)
     with_later (inl l) =
-        let (y, yN, ey, c) = count-two N (λ z. eqb (f z) (f i)) l in
+        let (y, yN, ey, c) = count_two N (λ z. eqb (f z) (f i)) l in
         let (x, xy, ex) = count-some y (λ z. eqb (f z) (f i)) c in
         let fx : f x ≡ f i = eqb-true (f x) (f i) ex in
         let fy : f y ≡ f i = eqb-true (f y) (f i) ey in
@@ -79,8 +79,8 @@ module _ (N : ℕ) (f : ℕ → ℕ) where
         let ne : f i ≢ i = moves i iN in
         (f i, yN, (and-eq-true_iff (ltb i (f i)) (clash i (f i) (f i) (f (f i)))).1 (lt-ltb i (f i) (omega arith), of_clash f i (f i) (inr (refl, e))))
 
-    pub first-pair : let j = first N (clashes_with f i) in FirstPair N f i j
-    first-pair = go (with_later (by ((either (ltb 1 (uses N f (f i))) (eqb (f (f i)) i)).0 (first-at N (clashes N f) iN))))
+    pub first_pair : let j = first N (clashes_with f i) in FirstPair N f i j
+    first_pair = go (with_later (by ((either (ltb 1 (uses N f (f i))) (eqb (f (f i)) i)).0 (first_at N (clashes N f) iN))))
       where
         by : (ltb 1 (uses N f (f i)) ≡ true) ⊎ (eqb (f (f i)) i ≡ true) → (1 < uses N f (f i)) ⊎ (f (f i) ≡ i)
         by (inl h) = inl (ltb-true 1 (uses N f (f i)) h)
@@ -89,7 +89,7 @@ module _ (N : ℕ) (f : ℕ → ℕ) where
         go : (y : ℕ) × (y < N) × (clashes_with f i y ≡ true) → FirstPair N f i (first N (clashes_with f i))
         go (y, yN, h) =
             let j = first N (clashes_with f i) in
-            let (jN, at) = first-meets N (clashes_with f i) y yN h in
+            let (jN, at) = first_meets N (clashes_with f i) y yN h in
             let (l, c) = (and-eq-true_iff (ltb i j) (clash i (f i) j (f j))).0 at in
             record {
               apart = ltb-true i j l;

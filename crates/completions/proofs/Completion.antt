@@ -14,10 +14,10 @@ use Rattle.cycle.specs.Notation.{iterate, count}
 use Rattle.cycle.specs.Cycle.{SingleCycle}
 use Rattle.completions.specs.Completion.{Keeps, Excludes, RepeatIn, ShortCycleIn, Injective}
 use Rattle.completions.proofs.Search.{First, None, search_first, some_dec, all_dec}
-use Rattle.cycle.proofs.Count.{count-pos, count_less}
+use Rattle.cycle.proofs.Count.{count_pos, count_less}
 use Rattle.cycle.proofs.Pigeonhole.{le_of_surjective, surjective_of_injective, pigeonhole}
-use Rattle.cycle.proofs.Iterate.{iterate-add, MapsBelow, iterate-below, iterate_agree}
-use Rattle.cycle.proofs.Cycle.{Reaches, le_of_reaches, home, cycle_of_reaches, cycle-reaches, cycle-from, cycle_undo}
+use Rattle.cycle.proofs.Iterate.{iterate_add, MapsBelow, iterate-below, iterate_agree}
+use Rattle.cycle.proofs.Cycle.{Reaches, le_of_reaches, home, cycle_of_reaches, cycle-reaches, cycle_from, cycle_undo}
 
 -- ---- tests
 
@@ -50,24 +50,24 @@ module _ (N : ℕ) (f : ℕ → ℕ) (P : ℕ → Bool) where
       let same : iterate g r.size x ≡ iterate f r.size x =
       iterate_agree f g r.size x (λ k l. c.agrees (iterate f k x) (iterate-below N f below k x xN) (r.inside k l)) r.size (le_refl r.size) in
       let all : N ≤ r.size =
-      le_of_reaches N g x r.size (cycle-reaches N g x (omega arith) (cycle-from N g 0 (omega arith) s x xN)) (same ∙ r.returns) r.some in
+      le_of_reaches N g x r.size (cycle-reaches N g x (omega arith) (cycle_from N g 0 (omega arith) s x xN)) (same ∙ r.returns) r.some in
       omega (arith, r.short)
 
 -- ---- a map that repeats no entry
 
 module _ (N : ℕ) (f : ℕ → ℕ) (below : MapsBelow N f) (inj : Injective N f) where
-  pub iterate-injective : (i x y : ℕ) → x < N → y < N → iterate f i x ≡ iterate f i y → x ≡ y
+  pub iterate_injective : (i x y : ℕ) → x < N → y < N → iterate f i x ≡ iterate f i y → x ≡ y
   unfolding iterate
-  iterate-injective zero x y xN yN e = e
-  iterate-injective (suc i) x y xN yN e =
-      iterate-injective i x y xN yN (inj (iterate f i x) (iterate f i y) (iterate-below N f below i x xN) (iterate-below N f below i y yN) e)
+  iterate_injective zero x y xN yN e = e
+  iterate_injective (suc i) x y xN yN e =
+      iterate_injective i x y xN yN (inj (iterate f i x) (iterate f i y) (iterate-below N f below i x xN) (iterate-below N f below i y yN) e)
 
   -- a place that comes again returns
   pub return_again : (i j z : ℕ) → i ≤ j → z < N → iterate f i z ≡ iterate f j z → iterate f (j - i) z ≡ z
   return_again i j z ij zN e =
       let ji : i + (j - i) ≡ j = omega arith in
-      iterate-injective i (iterate f (j - i) z) z (iterate-below N f below (j - i) z zN) zN
-      (sym (iterate-add f i (j - i) z) ∙ ap (λ (k : ℕ). iterate f k z) ji ∙ sym e)
+      iterate_injective i (iterate f (j - i) z) z (iterate-below N f below (j - i) z zN) zN
+      (sym (iterate_add f i (j - i) z) ∙ ap (λ (k : ℕ). iterate f k z) ji ∙ sym e)
 
   return_of_injective : (z : ℕ) → z < N → (M : ℕ) × (0 < M) × (iterate f M z ≡ z)
   return_of_injective z zN =
@@ -95,8 +95,8 @@ module _ (N : ℕ) (f : ℕ → ℕ) (P : ℕ → Bool) (below : MapsBelow N f) 
         below = iterate-below N f below i z zN;
         some = omega arith;
         short = s;
-        returns = sym (iterate-add f (j - i) i z) ∙ ap (λ (k : ℕ). iterate f k z) ji ∙ sym e;
-        inside = λ k l. ap P (sym (iterate-add f k i z)) ∙ stays (k + i) (omega arith);
+        returns = sym (iterate_add f (j - i) i z) ∙ ap (λ (k : ℕ). iterate f k z) ji ∙ sym e;
+        inside = λ k l. ap P (sym (iterate_add f k i z)) ∙ stays (k + i) (omega arith);
       }
 
   comes_by : (ShortCycleIn N f P → ⊥) → (x : ℕ) → x < N → (k : ℕ) × (k < N) × (iterate f k z ≡ x)
@@ -153,21 +153,21 @@ put f x y v = cond (eqb v x) y (f v)
 add : (ℕ → Bool) → ℕ → ℕ → Bool
 add P x v = eqb v x || P v
 
-put-here : (f : ℕ → ℕ) (x y v : ℕ) → v ≡ x → put f x y v ≡ y
+put_here : (f : ℕ → ℕ) (x y v : ℕ) → v ≡ x → put f x y v ≡ y
 unfolding put
-put-here f x y v e = rw (eq-eqb v x e)
+put_here f x y v e = rw (eq-eqb v x e)
 
 put_other : (f : ℕ → ℕ) (x y v : ℕ) → v ≢ x → put f x y v ≡ f v
 unfolding put
 put_other f x y v ne = rw (ne_eqb v x ne)
 
-add-here : (P : ℕ → Bool) (x v : ℕ) → v ≡ x → add P x v ≡ true
+add_here : (P : ℕ → Bool) (x v : ℕ) → v ≡ x → add P x v ≡ true
 unfolding add
-add-here P x v e = rw (eq-eqb v x e)
+add_here P x v e = rw (eq-eqb v x e)
 
-add-other : (P : ℕ → Bool) (x v : ℕ) → v ≢ x → add P x v ≡ P v
+add_other : (P : ℕ → Bool) (x v : ℕ) → v ≢ x → add P x v ≡ P v
 unfolding add
-add-other P x v ne = rw (ne_eqb v x ne)
+add_other P x v ne = rw (ne_eqb v x ne)
 
 -- from z, f comes to a place outside P, and is at places of P till then
 abbrev Ends : (ℕ → ℕ) → (ℕ → Bool) → ℕ → Type 0
@@ -206,70 +206,70 @@ open_of_outside N f P below r d e eN out =
     go z zN (inr stays) = let r = comes_by N f P below z zN stays d e eN in ends_of f P z r.0 (ap P r.2 ∙ out)
 
 module _ (N : ℕ) (f : ℕ → ℕ) (P : ℕ → Bool) (o : Open N f P) (x y : ℕ) (xN : x < N) (yN : y < N) (out : P x ≡ false) (untaken : Taken N f P y → ⊥) where
-  put-below : MapsBelow N (put f x y)
-  put-below v l = go (ℕ_discrete v x)
+  put_below : MapsBelow N (put f x y)
+  put_below v l = go (ℕ_discrete v x)
     where
       go : Dec (v ≡ x) → put f x y v < N
-      go (yes e) = rw (put-here f x y v e) yN
+      go (yes e) = rw (put_here f x y v e) yN
       go (no ne) = rw (put_other f x y v ne) (o.below v l)
 
   put_in : (v : ℕ) → P v ≡ true → put f x y v ≡ f v
   put_in v h = put_other f x y v (differ P h out)
 
-  put-once : (i j : ℕ) → i < N → j < N → add P x i ≡ true → add P x j ≡ true → put f x y i ≡ put f x y j → i ≡ j
-  put-once i j iN jN hi hj e = go (ℕ_discrete i x) (ℕ_discrete j x)
+  put_once : (i j : ℕ) → i < N → j < N → add P x i ≡ true → add P x j ≡ true → put f x y i ≡ put f x y j → i ≡ j
+  put_once i j iN jN hi hj e = go (ℕ_discrete i x) (ℕ_discrete j x)
     where
       -- y is x's entry only
       alone : (i j : ℕ) → j < N → add P x j ≡ true → put f x y i ≡ put f x y j → i ≡ x → j ≢ x → ⊥
-      alone i j jN hj e p q = untaken (j, jN, (sym (add-other P x j q) ∙ hj, sym (put_other f x y j q) ∙ sym e ∙ put-here f x y i p))
+      alone i j jN hj e p q = untaken (j, jN, (sym (add_other P x j q) ∙ hj, sym (put_other f x y j q) ∙ sym e ∙ put_here f x y i p))
 
       go : Dec (i ≡ x) → Dec (j ≡ x) → i ≡ j
       go (yes p) (yes q) = p ∙ sym q
       go (yes p) (no q) = absurd (alone i j jN hj e p q)
       go (no p) (yes q) = absurd (alone j i iN hi (sym e) q p)
       go (no p) (no q) =
-          o.once i j iN jN (sym (add-other P x i p) ∙ hi) (sym (add-other P x j q) ∙ hj) (sym (put_other f x y i p) ∙ e ∙ put_other f x y j q)
+          o.once i j iN jN (sym (add_other P x i p) ∙ hi) (sym (add_other P x j q) ∙ hj) (sym (put_other f x y i p) ∙ e ∙ put_other f x y j q)
 
-  put-way : (z k : ℕ) → ((j : ℕ) → j < k → P (iterate f j z) ≡ true) → (j : ℕ) → j ≤ k → iterate (put f x y) j z ≡ iterate f j z
-  put-way z k h = iterate_agree f (put f x y) k z (λ j l. put_in (iterate f j z) (h j l))
+  put_way : (z k : ℕ) → ((j : ℕ) → j < k → P (iterate f j z) ≡ true) → (j : ℕ) → j ≤ k → iterate (put f x y) j z ≡ iterate f j z
+  put_way z k h = iterate_agree f (put f x y) k z (λ j l. put_in (iterate f j z) (h j l))
 
   -- the way from y ends at another place than x: the ways still end
   put_open : iterate f (o.ends y yN).0 y ≢ x → Open N (put f x y) (add P x)
   unfolding iterate
-  put_open far = record { below = put-below; once = put-once; ends = λ z zN. go z (o.ends z zN) (ℕ_discrete (iterate f (o.ends z zN).0 z) x) }
+  put_open far = record { below = put_below; once = put_once; ends = λ z zN. go z (o.ends z zN) (ℕ_discrete (iterate f (o.ends z zN).0 z) x) }
     where
       go : (z : ℕ) (r : Ends f P z) → Dec (iterate f r.0 z ≡ x) → Ends (put f x y) (add P x) z
       go z (k, h, b) (no ne) =
-          ends_of (put f x y) (add P x) z k (ap (add P x) (put-way z k b k (le_refl k)) ∙ add-other P x (iterate f k z) ne ∙ h)
+          ends_of (put f x y) (add P x) z k (ap (add P x) (put_way z k b k (le_refl k)) ∙ add_other P x (iterate f k z) ne ∙ h)
       go z (k, h, b) (yes e) =
           let (m, q, c) = o.ends y yN in
-          let here : iterate (put f x y) (suc k) z ≡ y = put-here f x y (iterate (put f x y) k z) (put-way z k b k (le_refl k) ∙ e) in
+          let here : iterate (put f x y) (suc k) z ≡ y = put_here f x y (iterate (put f x y) k z) (put_way z k b k (le_refl k) ∙ e) in
           let last : iterate (put f x y) (m + suc k) z ≡ iterate f m y =
-          iterate-add (put f x y) m (suc k) z ∙ ap (iterate (put f x y) m) here ∙ put-way y m c m (le_refl m) in
-          ends_of (put f x y) (add P x) z (m + suc k) (ap (add P x) last ∙ add-other P x (iterate f m y) far ∙ q)
+          iterate_add (put f x y) m (suc k) z ∙ ap (iterate (put f x y) m) here ∙ put_way y m c m (le_refl m) in
+          ends_of (put f x y) (add P x) z (m + suc k) (ap (add P x) last ∙ add_other P x (iterate f m y) far ∙ q)
 
   -- x is the only place outside P: the ways all lead to it, and now beyond it
   module _ (only : (v : ℕ) → v < N → P v ≡ false → v ≡ x) where
-    add-whole : (v : ℕ) → v < N → add P x v ≡ true
-    add-whole v l = true_of (add P x v) (λ h. go h (ℕ_discrete v x))
+    add_whole : (v : ℕ) → v < N → add P x v ≡ true
+    add_whole v l = true_of (add P x v) (λ h. go h (ℕ_discrete v x))
       where
         go : add P x v ≡ false → Dec (v ≡ x) → ⊥
-        go h (yes q) = true≢false (sym (add-here P x v q) ∙ h)
-        go h (no q) = q (only v l (sym (add-other P x v q) ∙ h))
+        go h (yes q) = true≢false (sym (add_here P x v q) ∙ h)
+        go h (no q) = q (only v l (sym (add_other P x v q) ∙ h))
 
-    put-returns : (z : ℕ) → z < N → (M : ℕ) × (0 < M) × (iterate (put f x y) M z ≡ z)
-    put-returns = return_of_injective N (put f x y) put-below (λ i j iN jN. put-once i j iN jN (add-whole i iN) (add-whole j jN))
+    put_returns : (z : ℕ) → z < N → (M : ℕ) × (0 < M) × (iterate (put f x y) M z ≡ z)
+    put_returns = return_of_injective N (put f x y) put_below (λ i j iN jN. put_once i j iN jN (add_whole i iN) (add_whole j jN))
 
     put_closes : SingleCycle N (put f x y) 0
     put_closes =
-        let (M, pos, back) = put-returns x xN in
-        cycle-from N (put f x y) x (omega arith) (cycle_of_reaches N (put f x y) x M put-below xN reach pos back) 0 (omega arith)
+        let (M, pos, back) = put_returns x xN in
+        cycle_from N (put f x y) x (omega arith) (cycle_of_reaches N (put f x y) x M put_below xN reach pos back) 0 (omega arith)
       where
         reach : Reaches N (put f x y) x
         reach z zN =
             let (k, h, b) = o.ends z zN in
-            let (M, pos, back) = put-returns z zN in
-            let there : iterate (put f x y) k z ≡ x = put-way z k b k (le_refl k) ∙ only (iterate f k z) (iterate-below N f o.below k z zN) h in
+            let (M, pos, back) = put_returns z zN in
+            let there : iterate (put f x y) k z ≡ x = put_way z k b k (le_refl k) ∙ only (iterate f k z) (iterate-below N f o.below k z zN) h in
             (k * pred M, ap (iterate (put f x y) (k * pred M)) (sym there) ∙ home (put f x y) z M pos back k)
 
 -- a completion of the larger set is one of P
@@ -277,7 +277,7 @@ put_keeps : (N : ℕ) (f : ℕ → ℕ) (P : ℕ → Bool) (x y : ℕ) → P x �
 put_keeps N f P x y out g c =
     record {
       below = c.below;
-      agrees = λ v l h. let ne : v ≢ x = differ P h out in c.agrees v l (add-other P x v ne ∙ h) ∙ put_other f x y v ne;
+      agrees = λ v l h. let ne : v ≢ x = differ P h out in c.agrees v l (add_other P x v ne ∙ h) ∙ put_other f x y v ne;
     }
 
 -- ---- all places
@@ -289,7 +289,7 @@ Completed N f P = (g : ℕ → ℕ) × Keeps N f P g × SingleCycle N g 0
 complete_open : (n N : ℕ) (f : ℕ → ℕ) (P : ℕ → Bool) → 0 < N → Open N f P → count N (λ v. not (P v)) ≤ n → Completed N f P
 complete_open zero N f P pos o l =
     let (k, h, b) = o.ends 0 pos in
-    absurd (omega (arith, count-pos N (λ v. not (P v)) (iterate f k 0) (iterate-below N f o.below k 0 pos) (ap not h)))
+    absurd (omega (arith, count_pos N (λ v. not (P v)) (iterate f k 0) (iterate-below N f o.below k 0 pos) (ap not h)))
 complete_open (suc n) N f P pos o l =
     let (k, h, b) = o.ends 0 pos in
     let (y, yN, untaken) = free N f P (iterate f k 0) (iterate-below N f o.below k 0 pos) h in
@@ -307,19 +307,19 @@ complete_open (suc n) N f P pos o l =
         → ((f : ℕ → ℕ) (P : ℕ → Bool) → 0 < N → Open N f P → count N (λ v. not (P v)) ≤ n → Completed N f P) → Completed N f P
     go y yN untaken (inl (x, xN, (out, ne), b)) ih =
         let fewer : count N (λ v. not (add P x v)) < count N (λ v. not (P v)) =
-        count_less N (λ v. not (add P x v)) (λ v. not (P v)) (λ v lv. still v (ℕ_discrete v x)) x xN (ap not (add-here P x x refl)) (ap not out) in
+        count_less N (λ v. not (add P x v)) (λ v. not (P v)) (λ v lv. still v (ℕ_discrete v x)) x xN (ap not (add_here P x x refl)) (ap not out) in
         let (g, c, s) = ih (put f x y) (add P x) pos (put_open N f P o x y xN yN out untaken (λ e. ne (sym e))) (omega arith) in
         (g, put_keeps N f P x y out g c, s)
       where
         still : (v : ℕ) → Dec (v ≡ x) → not (add P x v) ≡ true → not (P v) ≡ true
-        still v (yes e) h = absurd (true≢false (sym h ∙ ap not (add-here P x v e)))
-        still v (no e) h = ap not (sym (add-other P x v e)) ∙ h
+        still v (yes e) h = absurd (true≢false (sym h ∙ ap not (add_here P x v e)))
+        still v (no e) h = ap not (sym (add_other P x v e)) ∙ h
     go y yN untaken (inr none) ih =
         let x : ℕ = end y yN in
         let xN : x < N = iterate-below N f o.below (o.ends y yN).0 y yN in
         let out : P x ≡ false = (o.ends y yN).1 in (
           put f x y,
-          record { below = put-below N f P o x y xN yN out untaken; agrees = λ v lv h. put_in N f P o x y xN yN out untaken v h },
+          record { below = put_below N f P o x y xN yN out untaken; agrees = λ v lv h. put_in N f P o x y xN yN out untaken v h },
           put_closes N f P o x y xN yN out untaken (λ v lv h. only v lv h (ℕ_discrete v x)),
         )
       where

@@ -11,10 +11,10 @@ use borrow.Author.Tests.{eq-eqb, ne_eqb, eqb-true, eqb-false}
 use lib.Dec.{eqb}
 use Rattle.cycle.specs.Notation.{first, iterate}
 use Rattle.cycle.specs.Cycle.{SingleCycle}
-use Rattle.cycle.proofs.First.{first_le, first-at, before-first, first_is, first-none}
-use Rattle.cycle.proofs.Iterate.{iterate-add, MapsBelow, iterate-below}
+use Rattle.cycle.proofs.First.{first_le, first_at, before-first, first_is, first-none}
+use Rattle.cycle.proofs.Iterate.{iterate_add, MapsBelow, iterate-below}
 use Rattle.completions.specs.Completion.{Injective}
-use Rattle.completions.proofs.Completion.{iterate-injective}
+use Rattle.completions.proofs.Completion.{iterate_injective}
 use Rattle.completions.proofs.Fewest.{FirstCycle, single_cycle_iff}
 use Rattle.completions.specs.Finding.{cycle_length, Shortest}
 
@@ -25,9 +25,9 @@ module _ (N : ℕ) (f : ℕ → ℕ) (x : ℕ) where
   unfolding cycle_length
   length_le pos = omega (arith, first_le (N - 1) (λ k. eqb (iterate f (suc k) x) x))
 
-  pub length-pos : 0 < cycle_length N f x
+  pub length_pos : 0 < cycle_length N f x
   unfolding cycle_length
-  length-pos = omega arith
+  length_pos = omega arith
 
   pub no_sooner : (k : ℕ) → 0 < k → k < cycle_length N f x → iterate f k x ≢ x
   unfolding cycle_length
@@ -36,7 +36,7 @@ module _ (N : ℕ) (f : ℕ → ℕ) (x : ℕ) where
 
   pub length-returns : cycle_length N f x < N → iterate f (cycle_length N f x) x ≡ x
   unfolding cycle_length
-  length-returns l = eqb-true _ x (first-at (N - 1) (λ k. eqb (iterate f (suc k) x) x) (omega arith))
+  length-returns l = eqb-true _ x (first_at (N - 1) (λ k. eqb (iterate f (suc k) x) x) (omega arith))
 
   -- found by a loop: after k applications x has not returned, and the next one brings it back or is the last
   module _ (k : ℕ) (none : (j : ℕ) → 0 < j → j ≤ k → iterate f j x ≢ x) where
@@ -54,9 +54,9 @@ module _ (N : ℕ) (f : ℕ → ℕ) (x : ℕ) where
         add-one k ∙ ap suc (sym (first-none (N - 1) (λ k. eqb (iterate f (suc k) x) x) (λ j l. not_back j (omega arith)) ∙ n))
 
     -- one more
-    pub none-next : f (iterate f k x) ≢ x → (j : ℕ) → 0 < j → j ≤ k + 1 → iterate f j x ≢ x
+    pub none_next : f (iterate f k x) ≢ x → (j : ℕ) → 0 < j → j ≤ k + 1 → iterate f j x ≢ x
     unfolding iterate
-    none-next ne j p l = go (ℕ_discrete j (suc k))
+    none_next ne j p l = go (ℕ_discrete j (suc k))
       where
         go : Dec (j ≡ suc k) → iterate f j x ≢ x
         go (yes q) = rw q ne
@@ -76,20 +76,20 @@ length_along N f pos below inj z k zN = go (dec_lt c (cycle_length N f z)) (dec_
     go (no l) d = omega arith
     go (yes l) (no m) = absurd (omega (arith, length_le N f z pos))
     go (yes l) (yes m) =
-        absurd (no_sooner N f z c (length-pos N f x) l
-        (iterate-injective N f below inj k (iterate f c z) z (iterate-below N f below c z zN) zN
-        (sym (iterate-add f k c z) ∙ ap (λ (n : ℕ). iterate f n z) (add_comm k c) ∙ iterate-add f c k z ∙ length-returns N f x m)))
+        absurd (no_sooner N f z c (length_pos N f x) l
+        (iterate_injective N f below inj k (iterate f c z) z (iterate-below N f below c z zN) zN
+        (sym (iterate_add f k c z) ∙ ap (λ (n : ℕ). iterate f n z) (add_comm k c) ∙ iterate_add f c k z ∙ length-returns N f x m)))
 
 -- the first place of a shortest cycle, where the map is not a single one
-pub shortest-first : (N : ℕ) (f : ℕ → ℕ) → 0 < N → MapsBelow N f → (SingleCycle N f 0 → ⊥) → (x : ℕ) → Shortest N f x → FirstCycle N f (cycle_length N f x) x
-shortest-first N f pos below broken x s =
+pub shortest_first : (N : ℕ) (f : ℕ → ℕ) → 0 < N → MapsBelow N f → (SingleCycle N f 0 → ⊥) → (x : ℕ) → Shortest N f x → FirstCycle N f (cycle_length N f x) x
+shortest_first N f pos below broken x s =
     record {
       below = s.below;
-      some = length-pos N f x;
+      some = length_pos N f x;
       short = short (dec_lt l N);
       returns = length-returns N f x (short (dec_lt l N));
       shortest = λ z k zN p lk. no_sooner N f z k p (omega (arith, s.least z zN));
-      first = λ z lz. no_sooner N f z l (length-pos N f x) (s.first z lz);
+      first = λ z lz. no_sooner N f z l (length_pos N f x) (s.first z lz);
     }
   where
     l : ℕ

@@ -11,11 +11,11 @@ use Rattle.cycle.specs.Notation.{iterate, one, count}
 use Rattle.cycle.specs.Cycle.{SingleCycle}
 use Rattle.completions.specs.Completion.{Excludes, RepeatIn, ShortCycleIn, Injective}
 use Rattle.completions.specs.Sets.{members, precedes, LeastSet}
-use Rattle.cycle.proofs.Count.{count-pos, count-some, count_not, two-met, same_of_count}
+use Rattle.cycle.proofs.Count.{count_pos, count-some, count_not, two_met, same_of_count}
 use Rattle.cycle.proofs.Pigeonhole.{Repeats, le_count, count_le_of_all, all_of_count}
-use Rattle.cycle.proofs.Iterate.{iterate-add, iterate_rounds, iterate-mod, MapsBelow, iterate-below}
-use Rattle.cycle.proofs.Cycle.{le_of_reaches, return_of_repeat, cycle-reaches, cycle-from}
-use Rattle.completions.proofs.Completion.{excluded_by_repeat, excluded_by_cycle, excludes_iff, cycle_of_whole, iterate-injective, return_again}
+use Rattle.cycle.proofs.Iterate.{iterate_add, iterate_rounds, iterate_mod, MapsBelow, iterate-below}
+use Rattle.cycle.proofs.Cycle.{le_of_reaches, return_of_repeat, cycle-reaches, cycle_from}
+use Rattle.completions.proofs.Completion.{excluded_by_repeat, excluded_by_cycle, excludes_iff, cycle_of_whole, iterate_injective, return_again}
 use Rattle.completions.proofs.Members.{Before, before_of_precedes}
 
 -- ---- by counts, and by the first place at which two sets differ
@@ -32,7 +32,7 @@ least_of_counts N f P excluded fewest first =
 -- ---- a cycle never leaves its set, and one that is no longer than any has no place twice
 
 cycle-inside : (N : ℕ) (f : ℕ → ℕ) (Q : ℕ → Bool) (s : ShortCycleIn N f Q) (k : ℕ) → Q (iterate f k s.start) ≡ true
-cycle-inside N f Q s k = ap Q (sym (iterate-mod f s.size s.start s.returns k)) ∙ s.inside (k % s.size) (mod-lt k s.some)
+cycle-inside N f Q s k = ap Q (sym (iterate_mod f s.size s.start s.returns k)) ∙ s.inside (k % s.size) (mod-lt k s.some)
 
 -- f returns to no place below N after fewer than l applications
 abbrev pub NoShorter : ℕ → (ℕ → ℕ) → ℕ → Type 0
@@ -64,7 +64,7 @@ module _ (N : ℕ) (f : ℕ → ℕ) (below : MapsBelow N f) (l x : ℕ) (c : Fi
   repeat_short Q r = few (record { one = r.one; other = r.other; apart = r.apart; below = r.below; one_in = refl; other_in = refl; same = r.same })
 
   le_excluding : (Q : ℕ → Bool) → RepeatIn N f Q ⊎ ShortCycleIn N f Q → l ≤ count N Q
-  le_excluding Q (inl r) = omega (arith, repeat_short Q r, count-pos N Q r.other r.below r.other_in)
+  le_excluding Q (inl r) = omega (arith, repeat_short Q r, count_pos N Q r.other r.below r.other_in)
   le_excluding Q (inr s) =
       le_count l N (λ k. iterate f k s.start) Q (λ k lk. iterate-below N f below k s.start s.below) (λ k lk. cycle-inside N f Q s k)
       (cycle-apart N f Q l c.shortest s)
@@ -72,12 +72,12 @@ module _ (N : ℕ) (f : ℕ → ℕ) (below : MapsBelow N f) (l x : ℕ) (c : Fi
   cycle-first : (Q : ℕ → Bool) → RepeatIn N f Q ⊎ ShortCycleIn N f Q → count N Q ≤ count N P → Before Q P 0 N → ⊥
   unfolding iterate
   cycle-first Q (inl r) le b =
-      let two : 1 < count N Q = two-met N Q r.one r.other r.apart r.below r.one_in r.other_in in
+      let two : 1 < count N Q = two_met N Q r.one r.other r.apart r.below r.one_in r.other_in in
       omega (arith, repeat_short Q r, count-cycle)
   cycle-first Q (inr s) le b =
       let a : ℕ = b.at in
       let (k, lk, ka) = all a b.below b.here in
-      let back : iterate f l a ≡ a = rw (sym ka) (sym (iterate-add f l k z) ∙ ap (λ (j : ℕ). iterate f j z) (add_comm l k) ∙ iterate-add f k l z ∙ ap (iterate f k) round) in
+      let back : iterate f l a ≡ a = rw (sym ka) (sym (iterate_add f l k z) ∙ ap (λ (j : ℕ). iterate f j z) (add_comm l k) ∙ iterate_add f k l z ∙ ap (iterate f k) round) in
       after (dec_lt a x) (ℕ_discrete a x) back
     where
       z : ℕ
@@ -105,7 +105,7 @@ module _ (N : ℕ) (f : ℕ → ℕ) (below : MapsBelow N f) (l x : ℕ) (c : Fi
           let (k, lk, kx) = all x c.below (b.same x (omega arith) (omega arith) ∙ on_cycle 0 c.some) in
           let inside : (v : ℕ) → v < N → P v ≡ true → Q v ≡ true = λ v lv h.
           let (j, lj, jv) = (is v lv).0 h in
-          sym (ap Q (iterate-add f j k z ∙ ap (iterate f j) kx ∙ jv)) ∙ cycle-inside N f Q s (j + k) in
+          sym (ap Q (iterate_add f j k z ∙ ap (iterate f j) kx ∙ jv)) ∙ cycle-inside N f Q s (j + k) in
           true≢false (sym (same_of_count N P Q inside le b.at b.below b.here) ∙ b.there)
 
   -- it is half of the places at most where no entry stands twice: from another place on there are as many more
@@ -135,10 +135,10 @@ module _ (N : ℕ) (f : ℕ → ℕ) (below : MapsBelow N f) (l x : ℕ) (c : Fi
               let t : ℕ = k * l + j - k in
               let kt : k + t ≡ k * l + j = omega (arith, le-mul_of_pos_right k c.some) in
               let same : iterate f k (iterate f t x) ≡ iterate f k y =
-              sym (iterate-add f k t x) ∙ ap (λ (n : ℕ). iterate f n x) (kt ∙ add_comm (k * l) j) ∙ iterate-add f j (k * l) x
+              sym (iterate_add f k t x) ∙ ap (λ (n : ℕ). iterate f n x) (kt ∙ add_comm (k * l) j) ∙ iterate_add f j (k * l) x
               ∙ ap (iterate f j) (iterate_rounds f l x c.returns k) ∙ ej in
               let from : iterate f (t % l) x ≡ y =
-              iterate-mod f l x c.returns t ∙ iterate-injective N f below inj k (iterate f t x) y (iterate-below N f below t x c.below) yN same in
+              iterate_mod f l x c.returns t ∙ iterate_injective N f below inj k (iterate f t x) y (iterate-below N f below t x c.below) yN same in
               absurd (true≢false (sym out ∙ ap not (ap P (sym from) ∙ on_cycle (t % l) (mod-lt t c.some))))
 
   pub least_of_cycle : LeastSet N (Excludes N f) P
@@ -279,9 +279,9 @@ module _ (N : ℕ) (f : ℕ → ℕ) (below : MapsBelow N f) (moves : (z : ℕ) 
     in_j : P j ≡ true
     in_j = (is j p.below).1 (inr refl)
 
-    pub count-pair : count N P ≤ 2
+    pub count_pair : count N P ≤ 2
     unfolding pick
-    count-pair = count_le_of_all 2 N (pick i j) P bounds (λ v lv h. which v ((is v lv).0 h))
+    count_pair = count_le_of_all 2 N (pick i j) P bounds (λ v lv h. which v ((is v lv).0 h))
       where
         bounds : (k : ℕ) → k < 2 → pick i j k < N
         bounds zero l = omega (arith, p.apart, p.below)
@@ -305,8 +305,8 @@ module _ (N : ℕ) (f : ℕ → ℕ) (below : MapsBelow N f) (moves : (z : ℕ) 
         inside (suc (suc k)) l = absurd (omega arith)
 
     -- where a set of two comes before P, i is in it, and so is j
-    pair-first : (Q : ℕ → Bool) → PairIn N f Q → count N Q ≤ count N P → Before Q P 0 N → ⊥
-    pair-first Q q le t = go (in_Q at t.below t.here)
+    pair_first : (Q : ℕ → Bool) → PairIn N f Q → count N Q ≤ count N P → Before Q P 0 N → ⊥
+    pair_first Q q le t = go (in_Q at t.below t.here)
       where
         at : ℕ
         at = t.at
@@ -321,7 +321,7 @@ module _ (N : ℕ) (f : ℕ → ℕ) (below : MapsBelow N f) (moves : (z : ℕ) 
         ab = q.apart
 
         in_Q : (v : ℕ) → v < N → Q v ≡ true → (v ≡ a) ⊎ (v ≡ b)
-        in_Q = both_of_two N Q a b (omega arith) (omega (arith, q.below)) q.below q.one_in q.other_in (omega (arith, count-pair))
+        in_Q = both_of_two N Q a b (omega arith) (omega (arith, q.below)) q.below q.one_in q.other_in (omega (arith, count_pair))
 
         earlier : (v : ℕ) → v < at → P v ≡ true → (v ≡ a) ⊎ (v ≡ b)
         earlier v l h = in_Q v (omega (arith, t.below)) (t.same v (omega arith) l ∙ h)
@@ -330,7 +330,7 @@ module _ (N : ℕ) (f : ℕ → ℕ) (below : MapsBelow N f) (moves : (z : ℕ) 
         other v h e = true≢false (sym h ∙ ap P (sym e) ∙ t.there)
 
         clash : Clash f a b
-        clash = q.clash (omega (arith, count-pair))
+        clash = q.clash (omega (arith, count_pair))
 
         least : i ≤ a
         least = p.least a b ab q.below clash
@@ -356,18 +356,18 @@ module _ (N : ℕ) (f : ℕ → ℕ) (below : MapsBelow N f) (moves : (z : ℕ) 
 
     pub least_of_pair : LeastSet N (Excludes N f) P
     least_of_pair =
-        least_of_counts N f P (pair_excludes p.clash) (λ Q h. le_trans count-pair (two Q (pair_of_excluding Q ((excludes_iff N f Q (omega arith) below).0 h))))
-        (λ Q h. pair-first Q (pair_of_excluding Q ((excludes_iff N f Q (omega arith) below).0 h)))
+        least_of_counts N f P (pair_excludes p.clash) (λ Q h. le_trans count_pair (two Q (pair_of_excluding Q ((excludes_iff N f Q (omega arith) below).0 h))))
+        (λ Q h. pair_first Q (pair_of_excluding Q ((excludes_iff N f Q (omega arith) below).0 h)))
       where
         two : (Q : ℕ → Bool) → PairIn N f Q → 1 < count N Q
-        two Q q = two-met N Q q.one q.other q.apart q.below q.one_in q.other_in
+        two Q q = two_met N Q q.one q.other q.apart q.below q.one_in q.other_in
 
 -- a map is a single cycle exactly where it returns to no place before N applications
 pub single_cycle_iff : (N : ℕ) (f : ℕ → ℕ) → 0 < N → MapsBelow N f → SingleCycle N f 0 ↔ NoShorter N f N
 single_cycle_iff N f pos below = (forth, back)
   where
     forth : SingleCycle N f 0 → NoShorter N f N
-    forth c z k zN some short e = omega (arith, le_of_reaches N f z k (cycle-reaches N f z pos (cycle-from N f 0 pos c z zN)) e some)
+    forth c z k zN some short e = omega (arith, le_of_reaches N f z k (cycle-reaches N f z pos (cycle_from N f 0 pos c z zN)) e some)
 
     back : NoShorter N f N → SingleCycle N f 0
     back h = cycle_of_whole N f (λ v. true) pos below (λ x l. refl) (λ s. h s.start s.size s.below s.some s.short s.returns)

@@ -16,10 +16,10 @@ use Rattle.cycle.proofs.Count.{count_none, count_next}
 
 -- ---- their count
 
-members-from-count : (d a : ℕ) (P : ℕ → Bool) → length (members_from d a P) + count a P ≡ count (d + a) P
+members_from_count : (d a : ℕ) (P : ℕ → Bool) → length (members_from d a P) + count a P ≡ count (d + a) P
 unfolding members_from
-members-from-count zero a P = simp zero-add
-members-from-count (suc d) a P = go (P a) refl (members-from-count d (suc a) P)
+members_from_count zero a P = simp zero-add
+members_from_count (suc d) a P = go (P a) refl (members_from_count d (suc a) P)
   where
     go : (b : Bool) → P a ≡ b → length (members_from d (suc a) P) + count (suc a) P ≡ count (d + suc a) P
         → length (cond b (a ∷ members_from d (suc a) P) (members_from d (suc a) P)) + count a P ≡ count (suc d + a) P
@@ -27,7 +27,7 @@ members-from-count (suc d) a P = go (P a) refl (members-from-count d (suc a) P)
     go false e ih = rw (suc-add d a, sym (add-suc d a)) (omega (arith, count_next a P, ap one e))
 
 pub members-count : (N : ℕ) (P : ℕ → Bool) → length (members N P) ≡ count N P
-members-count N P = let c : count (N + 0) P ≡ count N P = rw add-zero in omega (arith, members-from-count N 0 P, count_none P)
+members-count N P = let c : count (N + 0) P ≡ count N P = rw add-zero in omega (arith, members_from_count N 0 P, count_none P)
 
 -- ---- which numbers they are
 
@@ -45,10 +45,10 @@ from_at (suc d) a P k l = go (P a) refl k l (from_at d (suc a) P)
     go false e k l ih = let (from, below, h) = ih k l in (omega arith, omega arith, h)
 
 -- a later one is larger
-from-ascending : (d a : ℕ) (P : ℕ → Bool) (j k : ℕ) → let l = members_from d a P in j < k → k < length l → get_or l j 0 < get_or l k 0
+from_ascending : (d a : ℕ) (P : ℕ → Bool) (j k : ℕ) → let l = members_from d a P in j < k → k < length l → get_or l j 0 < get_or l k 0
 unfolding members_from
-from-ascending zero a P j k jk l = absurd (omega arith)
-from-ascending (suc d) a P j k jk l = go (P a) j k jk l (from-ascending d (suc a) P)
+from_ascending zero a P j k jk l = absurd (omega arith)
+from_ascending (suc d) a P j k jk l = go (P a) j k jk l (from_ascending d (suc a) P)
   where
     go : (b : Bool) (j k : ℕ) → let l = cond b (a ∷ members_from d (suc a) P) (members_from d (suc a) P) in j < k → k < length l
         → ((j k : ℕ) → let l = members_from d (suc a) P in j < k → k < length l → get_or l j 0 < get_or l k 0) → get_or l j 0 < get_or l k 0
@@ -78,14 +78,14 @@ module _ (N : ℕ) (P : ℕ → Bool) where
   member_of x l h = let (k, lk, e) = from_of N 0 P x (omega arith) (omega arith) h in (k, omega (arith, members-count N P), e)
 
   pub members_ascend : (j k : ℕ) → j < k → k < count N P → get_or (members N P) j 0 < get_or (members N P) k 0
-  members_ascend j k jk l = from-ascending N 0 P j k jk (omega (arith, members-count N P))
+  members_ascend j k jk l = from_ascending N 0 P j k jk (omega (arith, members-count N P))
 
 -- ---- one more number at the end, as a loop adds it
 
-members-from-next : (d a : ℕ) (P : ℕ → Bool) → members_from (suc d) a P ≡ members_from d a P ++ cond (P (d + a)) ((d + a) ∷ []) []
+members_from_next : (d a : ℕ) (P : ℕ → Bool) → members_from (suc d) a P ≡ members_from d a P ++ cond (P (d + a)) ((d + a) ∷ []) []
 unfolding members_from
-members-from-next zero a P = rw zero-add
-members-from-next (suc d) a P = rw (suc-add d a, sym (add-suc d a)) (go (P a) (members-from-next d (suc a) P))
+members_from_next zero a P = rw zero-add
+members_from_next (suc d) a P = rw (suc-add d a, sym (add-suc d a)) (go (P a) (members_from_next d (suc a) P))
   where
     go : (b : Bool) → members_from (suc d) (suc a) P ≡ members_from d (suc a) P ++ cond (P (d + suc a)) ((d + suc a) ∷ []) []
         → cond b (a ∷ members_from (suc d) (suc a) P) (members_from (suc d) (suc a) P)
@@ -93,8 +93,8 @@ members-from-next (suc d) a P = rw (suc-add d a, sym (add-suc d a)) (go (P a) (m
     go true ih = ap (λ (l : List ℕ). a ∷ l) ih
     go false ih = ih
 
-pub members-next : (n : ℕ) (P : ℕ → Bool) → members (suc n) P ≡ members n P ++ cond (P n) (n ∷ []) []
-members-next n P = simp add-zero at (members-from-next n 0 P)
+pub members_next : (n : ℕ) (P : ℕ → Bool) → members (suc n) P ≡ members n P ++ cond (P n) (n ∷ []) []
+members_next n P = simp add-zero at (members_from_next n 0 P)
 
 -- ---- their comparison
 
@@ -112,10 +112,10 @@ unfolding precedes
 precedes-same a xs ys = simp (eq-eqb a a refl, le-ltb a a (le_refl a))
 
 -- numbers from b on, if there are any, do not come before a smaller one
-precedes-later : (d b a : ℕ) (P : ℕ → Bool) (ys : List ℕ) → a < b → 0 < length (members_from d b P) → precedes (members_from d b P) (a ∷ ys) ≡ false
+precedes_later : (d b a : ℕ) (P : ℕ → Bool) (ys : List ℕ) → a < b → 0 < length (members_from d b P) → precedes (members_from d b P) (a ∷ ys) ≡ false
 unfolding precedes members_from
-precedes-later zero b a P ys l some = absurd (omega arith)
-precedes-later (suc d) b a P ys l some = go (P b) some (λ t. precedes-later d (suc b) a P ys (omega arith) t)
+precedes_later zero b a P ys l some = absurd (omega arith)
+precedes_later (suc d) b a P ys l some = go (P b) some (λ t. precedes_later d (suc b) a P ys (omega arith) t)
   where
     go : (t : Bool) → 0 < length (cond t (b ∷ members_from d (suc b) P) (members_from d (suc b) P))
         → (0 < length (members_from d (suc b) P) → precedes (members_from d (suc b) P) (a ∷ ys) ≡ false)
@@ -123,10 +123,10 @@ precedes-later (suc d) b a P ys l some = go (P b) some (λ t. precedes-later d (
     go true some ih = simp (ne_eqb b a (omega arith), le-ltb b a (omega arith))
     go false some ih = ih some
 
-before-from : (d a : ℕ) (P Q : ℕ → Bool) → length (members_from d a P) ≡ length (members_from d a Q) → precedes (members_from d a P) (members_from d a Q) ≡ true → Before P Q a (d + a)
+before_from : (d a : ℕ) (P Q : ℕ → Bool) → length (members_from d a P) ≡ length (members_from d a Q) → precedes (members_from d a P) (members_from d a Q) ≡ true → Before P Q a (d + a)
 unfolding precedes members_from
-before-from zero a P Q e h = absurd (true≢false (sym h))
-before-from (suc d) a P Q e h = go (P a) (Q a) refl refl e h (before-from d (suc a) P Q)
+before_from zero a P Q e h = absurd (true≢false (sym h))
+before_from (suc d) a P Q e h = go (P a) (Q a) refl refl e h (before_from d (suc a) P Q)
   where
     -- a is in both or in neither
     later : P a ≡ Q a → Before P Q (suc a) (d + suc a) → Before P Q a (suc d + a)
@@ -153,10 +153,10 @@ before-from (suc d) a P Q e h = go (P a) (Q a) refl refl e h (before-from d (suc
     go false false ep eq e h ih = later (ep ∙ sym eq) (ih e h)
     go true false ep eq e h ih = record { at = a; from = le_refl a; below = omega arith; same = λ j l k. absurd (omega arith); here = ep; there = eq }
     go false true ep eq e h ih =
-        absurd (true≢false (sym h ∙ precedes-later d (suc a) a P (members_from d (suc a) Q) (le_refl (suc a)) (omega arith)))
+        absurd (true≢false (sym h ∙ precedes_later d (suc a) a P (members_from d (suc a) Q) (le_refl (suc a)) (omega arith)))
 
 pub before_of_precedes : (N : ℕ) (P Q : ℕ → Bool) → count N P ≡ count N Q → precedes (members N P) (members N Q) ≡ true → Before P Q 0 N
-before_of_precedes N P Q e h = rw add-zero at (before-from N 0 P Q (members-count N P ∙ e ∙ sym (members-count N Q)) h)
+before_of_precedes N P Q e h = rw add-zero at (before_from N 0 P Q (members-count N P ∙ e ∙ sym (members-count N Q)) h)
 
 -- of two lists, one comes before the other or they are the same
 same_of_precedes : (xs ys : List ℕ) → precedes xs ys ≡ false → precedes ys xs ≡ false → xs ≡ ys

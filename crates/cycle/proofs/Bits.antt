@@ -28,8 +28,8 @@ pub bit_suc : (i x : ℕ) → bit (suc i) x ≡ bit i (x / 2)
 bit_suc i x = ap (λ (a : ℕ). x / a % 2) (pow-succ' 2 i) ∙ ap (λ (a : ℕ). a % 2) (sym (div-div-eq-div-mul x 2 (2 ^ i)))
 
 -- a bit put into place i is nowhere else
-pub bit-elsewhere : (i j b : ℕ) → b < 2 → ¬ j ≡ i → bit j (b * 2 ^ i) ≡ 0
-bit-elsewhere i j b l ne = bit-times j b (2 ^ i) l ∙ ap (λ (a : ℕ). b * a) (none i j ne) ∙ mul-zero b
+pub bit_elsewhere : (i j b : ℕ) → b < 2 → ¬ j ≡ i → bit j (b * 2 ^ i) ≡ 0
+bit_elsewhere i j b l ne = bit-times j b (2 ^ i) l ∙ ap (λ (a : ℕ). b * a) (none i j ne) ∙ mul-zero b
   where
     none : (i j : ℕ) → ¬ j ≡ i → bit j (2 ^ i) ≡ 0
     none zero zero ne = absurd (ne refl)
@@ -58,20 +58,20 @@ bit-bit_xor i x y =
     (bit i x) (bit i y) (bit_lt i x) (bit_lt i y)
 
 -- a bit below n survives a reduction to n bits
-pub bit-mod : (n i x : ℕ) → i < n → bit i (x % 2 ^ n) ≡ bit i x
-bit-mod n i x l =
+pub bit_mod : (n i x : ℕ) → i < n → bit i (x % 2 ^ n) ≡ bit i x
+bit_mod n i x l =
     let j : ℕ = n - suc i in
     let e : n ≡ (j + 1) + i = omega arith in
     ap (λ (a : ℕ). bit i (x % 2 ^ a)) e ∙ ap (λ (a : ℕ). a % 2) (field x (j + 1) i) ∙ mod-mod-pow (x / 2 ^ i) j 1
 
-pub mod-pow-mod : (n i x : ℕ) → i ≤ n → x % 2 ^ n % 2 ^ i ≡ x % 2 ^ i
-mod-pow-mod n i x l =
+pub mod_pow_mod : (n i x : ℕ) → i ≤ n → x % 2 ^ n % 2 ^ i ≡ x % 2 ^ i
+mod_pow_mod n i x l =
     let e : n ≡ (n - i) + i = omega arith in
     ap (λ (a : ℕ). x % 2 ^ a % 2 ^ i) e ∙ mod-mod-pow x (n - i) i
 
 -- the bits below n of 2 ^ n - 1 are ones
-pub bit-ones : (n i : ℕ) → i < n → bit i (2 ^ n - 1) ≡ 1
-bit-ones n i l =
+pub bit_ones : (n i : ℕ) → i < n → bit i (2 ^ n - 1) ≡ 1
+bit_ones n i l =
     let j : ℕ = n - suc i in
     let e : n ≡ suc j + i = omega arith in
     ap (λ (a : ℕ). bit i (2 ^ a - 1)) e ∙ ap (bit i) (ones_split (suc j) i) ∙ ap (λ (a : ℕ). a % 2) (high (2 ^ suc j - 1) i (ones_lt i))
@@ -81,11 +81,11 @@ bit-ones n i l =
 pub bit_not : (n i x : ℕ) → x < 2 ^ n → i < n → bit i ((2 ^ n - 1) - x) ≡ 1 - bit i x
 bit_not n i x l h =
     let e : (2 ^ n - 1) - x ≡ bit_xor x (2 ^ n - 1) = omega (arith, xor_add_and x (2 ^ n - 1), and_mask x n ∙ mod-eq_of_lt l) in
-    ap (bit i) e ∙ bit-bit_xor i x (2 ^ n - 1) ∙ omega (arith, bit-ones n i h, bit_lt i x)
+    ap (bit i) e ∙ bit-bit_xor i x (2 ^ n - 1) ∙ omega (arith, bit_ones n i h, bit_lt i x)
 
 -- p + C from bit i up: the carry out of the bits below i, and p from bit i up
-pub shift-add : (i p C : ℕ) → (p + C) / 2 ^ i ≡ (p % 2 ^ i + C) / 2 ^ i + p / 2 ^ i
-shift-add i p C =
+pub shift_add : (i p C : ℕ) → (p + C) / 2 ^ i ≡ (p % 2 ^ i + C) / 2 ^ i + p / 2 ^ i
+shift_add i p C =
     ap (λ (a : ℕ). (a + C) / 2 ^ i) (sym (mod-add-div' p (2 ^ i)))
     ∙ ap (λ (a : ℕ). a / 2 ^ i) (add_right_comm (p % 2 ^ i) (p / 2 ^ i * 2 ^ i) C)
     ∙ add-mul-div_right (p % 2 ^ i + C) (p / 2 ^ i) (pow_pos i)

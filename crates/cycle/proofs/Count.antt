@@ -7,7 +7,7 @@ use native.Mathlib.Decide.{ℕ_discrete, dec_lt, le_ind}
 use native.Mathlib.Numerals.{add-one}
 use native.Mathlib.Omega.{arith}
 use Rattle.cycle.specs.Notation.{sum, one, count}
-use Rattle.cycle.proofs.Sum.{sum_ext, sum-add, sum_zero, sum_one, sum_mono, sum_le, term_le_sum}
+use Rattle.cycle.proofs.Sum.{sum_ext, sum_add, sum_zero, sum_one, sum_mono, sum_le, term_le_sum}
 
 -- ---- a test's value
 
@@ -55,12 +55,12 @@ count_mono n p q h = sum_mono n (λ i. one (p i)) (λ i. one (q i)) (λ i l. one
 -- what one test counts, two others count between them
 pub count_add : (n : ℕ) (p q r : ℕ → Bool) → ((i : ℕ) → i < n → one (p i) ≡ one (q i) + one (r i)) → count n p ≡ count n q + count n r
 unfolding count
-count_add n p q r h = sum_ext n (λ i. one (p i)) (λ i. one (q i) + one (r i)) h ∙ sum-add n (λ i. one (q i)) (λ i. one (r i))
+count_add n p q r h = sum_ext n (λ i. one (p i)) (λ i. one (q i) + one (r i)) h ∙ sum_add n (λ i. one (q i)) (λ i. one (r i))
 
 -- a number meets a test or its opposite
 pub count_not : (n : ℕ) (p : ℕ → Bool) → count n p + count n (λ i. not (p i)) ≡ n
 unfolding count
-count_not n p = sym (sum-add n (λ i. one (p i)) (λ i. one (not (p i)))) ∙ sum_ext n _ (λ i. 1) (λ i l. both (p i)) ∙ sum_one n
+count_not n p = sym (sum_add n (λ i. one (p i)) (λ i. one (not (p i)))) ∙ sum_ext n _ (λ i. 1) (λ i l. both (p i)) ∙ sum_one n
   where
     both : (b : Bool) → ◌≡◌ {A = ℕ} (one b + one (not b)) 1
     both true = refl
@@ -74,16 +74,16 @@ count_le n p = sum_le n (λ i. one (p i)) (λ i l. one_le (p i))
 pub counted_next : (i : ℕ) (p : ℕ → Bool) {k o : ℕ} → k ≡ count i p → o ≡ one (p i) → k + o ≡ count (i + 1) p
 counted_next i p e f = rw (e, f, add-one i) (sym (count_next i p))
 
-pub counted-fits : (i : ℕ) (p : ℕ → Bool) {k o : ℕ} → k ≡ count i p → o ≡ one (p i) → k + o ≤ i + 1
-counted-fits i p e f = rw (counted_next i p e f) (count_le (i + 1) p)
+pub counted_fits : (i : ℕ) (p : ℕ → Bool) {k o : ℕ} → k ≡ count i p → o ≡ one (p i) → k + o ≤ i + 1
+counted_fits i p e f = rw (counted_next i p e f) (count_le (i + 1) p)
 
-pub count-pos : (n : ℕ) (p : ℕ → Bool) (i : ℕ) → i < n → p i ≡ true → 0 < count n p
+pub count_pos : (n : ℕ) (p : ℕ → Bool) (i : ℕ) → i < n → p i ≡ true → 0 < count n p
 unfolding count
-count-pos n p i l h = omega (arith, term_le_sum n (λ i. one (p i)) i l, ap one h)
+count_pos n p i l h = omega (arith, term_le_sum n (λ i. one (p i)) i l, ap one h)
 
-pub count-never : (n : ℕ) (p : ℕ → Bool) → ((i : ℕ) → i < n → p i ≡ false) → count n p ≡ 0
+pub count_never : (n : ℕ) (p : ℕ → Bool) → ((i : ℕ) → i < n → p i ≡ false) → count n p ≡ 0
 unfolding count
-count-never n p h = sum_ext n (λ i. one (p i)) (λ i. 0) (λ i l. ap one (h i l)) ∙ sum_zero n
+count_never n p h = sum_ext n (λ i. one (p i)) (λ i. 0) (λ i l. ap one (h i l)) ∙ sum_zero n
 
 -- one of them, where there are any
 pub count-some : (n : ℕ) (p : ℕ → Bool) → 0 < count n p → (i : ℕ) × (i < n) × (p i ≡ true)
@@ -123,27 +123,27 @@ pub count_prefix : (m n : ℕ) (p : ℕ → Bool) → m ≤ n → count m p ≤ 
 count_prefix m n p l = le_ind (λ (n : ℕ). count m p ≤ count n p) (le_refl (count m p)) (λ k g h. omega (arith, h, count_next k p)) n l
 
 -- two of them: the later one and one before it
-pub count-two : (n : ℕ) (p : ℕ → Bool) → 1 < count n p → (j : ℕ) × (j < n) × (p j ≡ true) × (0 < count j p)
-count-two zero p h = absurd (omega (arith, count_none p))
-count-two (suc n) p h = go (p n) refl (λ l. count-two n p l)
+pub count_two : (n : ℕ) (p : ℕ → Bool) → 1 < count n p → (j : ℕ) × (j < n) × (p j ≡ true) × (0 < count j p)
+count_two zero p h = absurd (omega (arith, count_none p))
+count_two (suc n) p h = go (p n) refl (λ l. count_two n p l)
   where
     go : (b : Bool) → p n ≡ b → (1 < count n p → (j : ℕ) × (j < n) × (p j ≡ true) × (0 < count j p)) → (j : ℕ) × (j < suc n) × (p j ≡ true) × (0 < count j p)
     go true e ih = (n, le_refl (suc n), e, omega (arith, count_next n p, ap one e))
     go false e ih = let r = ih (omega (arith, count_next n p, ap one e)) in (r.0, omega (arith, r.1), r.2, r.3)
 
-pub two-counted : (n : ℕ) (p : ℕ → Bool) (j : ℕ) → j < n → p j ≡ true → 0 < count j p → 1 < count n p
-two-counted n p j l h c = omega (arith, count_prefix (suc j) n p l, count_next j p, ap one h)
+pub two_counted : (n : ℕ) (p : ℕ → Bool) (j : ℕ) → j < n → p j ≡ true → 0 < count j p → 1 < count n p
+two_counted n p j l h c = omega (arith, count_prefix (suc j) n p l, count_next j p, ap one h)
 
-pub two-met : (n : ℕ) (p : ℕ → Bool) (i j : ℕ) → i < j → j < n → p i ≡ true → p j ≡ true → 1 < count n p
-two-met n p i j ij l hi hj = two-counted n p j l hj (count-pos j p i ij hi)
+pub two_met : (n : ℕ) (p : ℕ → Bool) (i j : ℕ) → i < j → j < n → p i ≡ true → p j ≡ true → 1 < count n p
+two_met n p i j ij l hi hj = two_counted n p j l hj (count_pos j p i ij hi)
 
 -- one of them at most, exactly where any two are the same
 pub one_place : (n : ℕ) (p : ℕ → Bool) → count n p ≤ 1 → (i j : ℕ) → i < n → j < n → p i ≡ true → p j ≡ true → i ≡ j
 one_place n p h i j li lj s t = go (dec_lt i j) (dec_lt j i)
   where
     go : Dec (i < j) → Dec (j < i) → i ≡ j
-    go (yes l) d = absurd (omega (arith, two-met n p i j l lj s t))
-    go (no l) (yes m) = absurd (omega (arith, two-met n p j i m li t s))
+    go (yes l) d = absurd (omega (arith, two_met n p i j l lj s t))
+    go (no l) (yes m) = absurd (omega (arith, two_met n p j i m li t s))
     go (no l) (no m) = omega arith
 
 pub count-one : (n : ℕ) (p : ℕ → Bool) → ((i j : ℕ) → i < n → j < n → p i ≡ true → p j ≡ true → i ≡ j) → count n p ≤ 1
@@ -151,7 +151,7 @@ count-one n p h = go (dec_lt 1 (count n p))
   where
     go : Dec (1 < count n p) → count n p ≤ 1
     go (yes l) =
-        let b = count-two n p l in
+        let b = count_two n p l in
         let a = count-some b.0 p b.3 in
         absurd (omega (arith, a.1, h a.0 b.0 (omega (arith, a.1, b.1)) b.1 a.2 b.2))
     go (no l) = omega arith

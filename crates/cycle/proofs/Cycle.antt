@@ -7,7 +7,7 @@ use native.Mathlib.Omega.{arith}
 use Rattle.cycle.specs.Notation.{sum, iterate}
 use Rattle.cycle.specs.Cycle.{SingleCycle}
 use Rattle.cycle.proofs.Pigeonhole.{le_of_surjective, pigeonhole, sum_permute}
-use Rattle.cycle.proofs.Iterate.{iterate-add, iterate_rounds, iterate-mod, MapsBelow, iterate-below, iterate_agree}
+use Rattle.cycle.proofs.Iterate.{iterate_add, iterate_rounds, iterate_mod, MapsBelow, iterate-below, iterate_agree}
 
 -- from z, f comes by every number below N
 abbrev pub Reaches : ℕ → (ℕ → ℕ) → ℕ → Type 0
@@ -25,28 +25,28 @@ cycle-same N f g pos below same c =
 pub le_of_reaches : (N : ℕ) (f : ℕ → ℕ) (z p : ℕ) → Reaches N f z → iterate f p z ≡ z → 0 < p → N ≤ p
 le_of_reaches N f z p r back pos =
     le_of_surjective p N (λ k. iterate f k z) (λ x l.
-    ((r x l).0 % p, mod-lt (r x l).0 pos, iterate-mod f p z back (r x l).0 ∙ (r x l).1))
+    ((r x l).0 % p, mod-lt (r x l).0 pos, iterate_mod f p z back (r x l).0 ∙ (r x l).1))
 
 -- where z returns at all, from z through k applications it can be completed to a return
 pub home : (f : ℕ → ℕ) (z M : ℕ) → 0 < M → iterate f M z ≡ z → (k : ℕ) → iterate f (k * pred M) (iterate f k z) ≡ z
 home f z M pos back k =
     let e : k * pred M + k ≡ k * M = sym (mul-suc k (pred M)) ∙ ap (λ (x : ℕ). k * x) (suc-pred-eq_of_pos pos) in
-    sym (iterate-add f (k * pred M) k z) ∙ ap (λ (x : ℕ). iterate f x z) e ∙ iterate_rounds f M z back k
+    sym (iterate_add f (k * pred M) k z) ∙ ap (λ (x : ℕ). iterate f x z) e ∙ iterate_rounds f M z back k
 
 -- and a number that comes again makes z return after as many applications as lie between
 pub return_of_repeat : (f : ℕ → ℕ) (z M : ℕ) → 0 < M → iterate f M z ≡ z → (i j : ℕ) → i ≤ j → iterate f i z ≡ iterate f j z → iterate f (j - i) z ≡ z
 return_of_repeat f z M pos back i j ij e =
     let d : ℕ = j - i in
     let ji : d + i ≡ j = omega arith in
-    ap (iterate f d) (sym (home f z M pos back i)) ∙ ap (iterate f d) (sym (iterate-add f (i * pred M) i z)) ∙ sym (iterate-add f d (i * pred M + i) z)
-    ∙ ap (λ (x : ℕ). iterate f x z) (add_left_comm d (i * pred M) i) ∙ iterate-add f (i * pred M) (d + i) z
+    ap (iterate f d) (sym (home f z M pos back i)) ∙ ap (iterate f d) (sym (iterate_add f (i * pred M) i z)) ∙ sym (iterate_add f d (i * pred M + i) z)
+    ∙ ap (λ (x : ℕ). iterate f x z) (add_left_comm d (i * pred M) i) ∙ iterate_add f (i * pred M) (d + i) z
     ∙ ap (iterate f (i * pred M)) (ap (λ (x : ℕ). iterate f x z) ji ∙ sym e) ∙ home f z M pos back i
 
 -- a map that reaches all N numbers and returns after N applications is a single cycle
 pub cycle_of_return : (N : ℕ) (f : ℕ → ℕ) (z : ℕ) → 0 < N → Reaches N f z → iterate f N z ≡ z → SingleCycle N f z
 cycle_of_return N f z pos r back =
     record {
-      reaches = λ x l. ((r x l).0 % N, mod-lt (r x l).0 pos, iterate-mod f N z back (r x l).0 ∙ (r x l).1);
+      reaches = λ x l. ((r x l).0 % N, mod-lt (r x l).0 pos, iterate_mod f N z back (r x l).0 ∙ (r x l).1);
       returns = back;
     }
 
@@ -82,23 +82,23 @@ module _ (N : ℕ) (f : ℕ → ℕ) (z : ℕ) (pos : 0 < N) (c : SingleCycle N 
       go (no p) (no q) = omega arith
 
   -- it does not matter where it starts
-  pub cycle-from : (w : ℕ) → w < N → SingleCycle N f w
-  cycle-from w l =
+  pub cycle_from : (w : ℕ) → w < N → SingleCycle N f w
+  cycle_from w l =
       let k : ℕ = (c.reaches w l).0 in
       let kw : iterate f k z ≡ w = (c.reaches w l).2 in
       let back : iterate f N w ≡ w =
-      ap (iterate f N) (sym kw) ∙ sym (iterate-add f N k z) ∙ ap (λ (x : ℕ). iterate f x z) (add_comm N k) ∙ iterate-add f k N z
+      ap (iterate f N) (sym kw) ∙ sym (iterate_add f N k z) ∙ ap (λ (x : ℕ). iterate f x z) (add_comm N k) ∙ iterate_add f k N z
       ∙ ap (iterate f k) c.returns ∙ kw in
       let zw : iterate f (k * pred N) w ≡ z = ap (iterate f (k * pred N)) (sym kw) ∙ home f z N pos c.returns k in
       cycle_of_return N f w pos (λ x lx.
       let r = c.reaches x lx in
-      (r.0 + k * pred N, iterate-add f r.0 (k * pred N) w ∙ ap (iterate f r.0) zw ∙ r.2)) back
+      (r.0 + k * pred N, iterate_add f r.0 (k * pred N) w ∙ ap (iterate f r.0) zw ∙ r.2)) back
 
   -- k applications are undone by so many more that whole rounds are made
   pub cycle_undo : (k x : ℕ) → x < N → iterate f (N - k % N) (iterate f k x) ≡ x
   cycle_undo k x l =
       let rounds : N - k % N + k ≡ suc (k / N) * N = omega (arith, mod-add-div' k N, mod-lt k pos, suc-mul (k / N) N) in
-      sym (iterate-add f (N - k % N) k x) ∙ ap (λ (t : ℕ). iterate f t x) rounds ∙ iterate_rounds f N x (cycle-from x l).returns (suc (k / N))
+      sym (iterate_add f (N - k % N) k x) ∙ ap (λ (t : ℕ). iterate f t x) rounds ∙ iterate_rounds f N x (cycle_from x l).returns (suc (k / N))
 
   -- a sum along one round is the sum over all numbers below N
   pub sum_around : MapsBelow N f → z < N → (h : ℕ → ℕ) → sum N (λ k. h (iterate f k z)) ≡ sum N h

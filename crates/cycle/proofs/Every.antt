@@ -6,12 +6,12 @@ use native.Mathlib.Decide.{ℕ_discrete}
 use native.Mathlib.Omega.{arith}
 use Rattle.cycle.specs.Notation.{every}
 
-pub every-at : (n : ℕ) (p : ℕ → Bool) → every n p ≡ true → (k : ℕ) → k < n → p k ≡ true
+pub every_at : (n : ℕ) (p : ℕ → Bool) → every n p ≡ true → (k : ℕ) → k < n → p k ≡ true
 unfolding every
-every-at zero p h k l = absurd (omega arith)
-every-at (suc n) p h k l =
+every_at zero p h k l = absurd (omega arith)
+every_at (suc n) p h k l =
     let b = (and-eq-true_iff (every n p) (p n)).0 h in
-    go b.1 (ℕ_discrete k n) (λ j. every-at n p b.0 k j)
+    go b.1 (ℕ_discrete k n) (λ j. every_at n p b.0 k j)
   where
     go : p n ≡ true → Dec (k ≡ n) → (k < n → p k ≡ true) → p k ≡ true
     go t (yes e) ih = rw e t
@@ -26,7 +26,7 @@ pub every_not : (n : ℕ) (p : ℕ → Bool) (k : ℕ) → k < n → p k ≡ fal
 every_not n p k l h = go (every n p) refl
   where
     go : (b : Bool) → every n p ≡ b → b ≡ false
-    go true e = absurd (true≢false (sym (every-at n p e k l) ∙ h))
+    go true e = absurd (true≢false (sym (every_at n p e k l) ∙ h))
     go false e = refl
 
 -- what holds below i and at i, holds below i + 1

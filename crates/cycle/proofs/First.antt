@@ -17,10 +17,10 @@ first_le (suc n) p = go (p 0) (first_le n (λ i. p (suc i)))
     go true l = omega arith
     go false l = omega arith
 
-pub first-at : (n : ℕ) (p : ℕ → Bool) → first n p < n → p (first n p) ≡ true
+pub first_at : (n : ℕ) (p : ℕ → Bool) → first n p < n → p (first n p) ≡ true
 unfolding first
-first-at zero p l = absurd (omega arith)
-first-at (suc n) p l = go (p 0) refl (first-at n (λ i. p (suc i))) l
+first_at zero p l = absurd (omega arith)
+first_at (suc n) p l = go (p 0) refl (first_at n (λ i. p (suc i))) l
   where
     go : (b : Bool) → p 0 ≡ b → {t : ℕ} → (t < n → p (suc t) ≡ true) → cond b zero (suc t) < suc n → p (cond b zero (suc t)) ≡ true
     go true e h l = e
@@ -45,11 +45,11 @@ first-before n p i h = go (dec_lt i (first n p))
     go (no l) = omega arith
 
 -- where some number meets it
-pub first-meets : (n : ℕ) (p : ℕ → Bool) (i : ℕ) → i < n → p i ≡ true → (first n p < n) × (p (first n p) ≡ true)
-first-meets n p i l h = go (dec_lt (first n p) n)
+pub first_meets : (n : ℕ) (p : ℕ → Bool) (i : ℕ) → i < n → p i ≡ true → (first n p < n) × (p (first n p) ≡ true)
+first_meets n p i l h = go (dec_lt (first n p) n)
   where
     go : Dec (first n p < n) → (first n p < n) × (p (first n p) ≡ true)
-    go (yes f) = (f, first-at n p f)
+    go (yes f) = (f, first_at n p f)
     go (no f) = absurd (true≢false (sym h ∙ before-first n p i (omega arith)))
 
 -- ---- found

@@ -33,12 +33,12 @@ record ReturnsAt (f : ℕ → ℕ) (N t : ℕ) : Type 0 where
   before : (u : ℕ) → t ≤ u → u < N → iterate f u 0 ≢ 0
 
 module _ (f : ℕ → ℕ) (N : ℕ) where
-  returns-at : (d t : ℕ) → 0 < N → return_from f d t (iterate f t 0) ≡ N → ReturnsAt f N t
+  returns_at : (d t : ℕ) → 0 < N → return_from f d t (iterate f t 0) ≡ N → ReturnsAt f N t
   unfolding iterate
-  returns-at zero t pos h =
+  returns_at zero t pos h =
       let z : ◌≡◌ {A = ℕ} 0 N = sym (return_none f 0 t (iterate f t 0) refl) ∙ h in
       absurd (omega arith)
-  returns-at (suc d) t pos h = go (ℕ_discrete (iterate f t 0) 0) (λ later. returns-at d (suc t) pos later)
+  returns_at (suc d) t pos h = go (ℕ_discrete (iterate f t 0) 0) (λ later. returns_at d (suc t) pos later)
     where
       go : Dec (iterate f t 0 ≡ 0) → (return_from f d (suc t) (iterate f (suc t) 0) ≡ N → ReturnsAt f N (suc t)) → ReturnsAt f N t
       go (yes e) ih =
@@ -69,7 +69,7 @@ module _ (f : ℕ → ℕ) (N : ℕ) where
     where
       forth : first_return f N ≡ N → SingleCycle N f 0
       forth h =
-          let r = returns-at N 1 pos h in
+          let r = returns_at N 1 pos h in
           record {
             reaches = surjective_of_injective N (λ k. iterate f k 0) (λ k l. iterate-below N f below k 0 pos) (never r);
             returns = r.at;

@@ -7,10 +7,10 @@ use native.Mathlib.Omega.{arith}
 use Rattle.cycle.specs.Notation.{iterate}
 
 module _ {A : Type 0} (f : A → A) where
-  pub iterate-add : (j k : ℕ) (x : A) → iterate f (j + k) x ≡ iterate f j (iterate f k x)
+  pub iterate_add : (j k : ℕ) (x : A) → iterate f (j + k) x ≡ iterate f j (iterate f k x)
   unfolding iterate
-  iterate-add zero k x = rw zero-add
-  iterate-add (suc j) k x = rw suc-add (ap f (iterate-add j k x))
+  iterate_add zero k x = rw zero-add
+  iterate_add (suc j) k x = rw suc-add (ap f (iterate_add j k x))
 
   -- what f leaves as it is stays so
   pub iterate_fixed : (x : A) → f x ≡ x → (t : ℕ) → iterate f t x ≡ x
@@ -23,11 +23,11 @@ module _ {A : Type 0} (f : A → A) where
     pub iterate_rounds : (j : ℕ) → iterate f (j * p) z ≡ z
     unfolding iterate
     iterate_rounds zero = rw zero-mul
-    iterate_rounds (suc j) = rw (suc-mul, iterate-add, back) (iterate_rounds j)
+    iterate_rounds (suc j) = rw (suc-mul, iterate_add, back) (iterate_rounds j)
 
-    pub iterate-mod : (k : ℕ) → iterate f (k % p) z ≡ iterate f k z
-    iterate-mod k =
-        ap (iterate f (k % p)) (sym (iterate_rounds (k / p))) ∙ sym (iterate-add (k % p) (k / p * p) z)
+    pub iterate_mod : (k : ℕ) → iterate f (k % p) z ≡ iterate f k z
+    iterate_mod k =
+        ap (iterate f (k % p)) (sym (iterate_rounds (k / p))) ∙ sym (iterate_add (k % p) (k / p * p) z)
         ∙ ap (λ (x : ℕ). iterate f x z) (mod-add-div' k p)
 
 -- where g undoes each application of f, as many of g undo as many of f
@@ -36,7 +36,7 @@ unfolding iterate
 iterate-undone f g x h zero = refl
 iterate-undone f g x h (suc t) =
     let y = f (iterate f t x) in
-    ap (λ (n : ℕ). iterate g n y) (sym (add-one t)) ∙ iterate-add g t 1 y ∙ ap (iterate g t) (h t) ∙ iterate-undone f g x h t
+    ap (λ (n : ℕ). iterate g n y) (sym (add-one t)) ∙ iterate_add g t 1 y ∙ ap (iterate g t) (h t) ∙ iterate-undone f g x h t
 
 -- f maps the numbers below N to numbers below N
 abbrev pub MapsBelow : ℕ → (ℕ → ℕ) → Type 0

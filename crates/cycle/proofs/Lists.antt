@@ -20,11 +20,11 @@ over_suc s d i hs hd =
     ∙ paste-suc d 0 s i 0 (omega arith) hs
     ∙ ap₂ (λ (j k : ℕ). take j s ++ drop k d) (sym (add-one i)) (zero-add (suc i) ∙ sym (add-one i))
 
-pub over-all : (s d : List ℕ) (n : ℕ) → length s ≡ n → length d ≡ n → over s d n ≡ s
-over-all s d n hs hd = ap₂ (λ (x y : List ℕ). x ++ y) (take_all n s (le_of_eq hs)) (drop_of_length-le d (le_of_eq hd)) ∙ append-nil s
+pub over_all : (s d : List ℕ) (n : ℕ) → length s ≡ n → length d ≡ n → over s d n ≡ s
+over_all s d n hs hd = ap₂ (λ (x y : List ℕ). x ++ y) (take_all n s (le_of_eq hs)) (drop_of_length-le d (le_of_eq hd)) ∙ append-nil s
 
-pub front-over : (s d : List ℕ) (n : ℕ) → length s ≡ n → take n (over s d n) ≡ s
-front-over s d n e = ap (λ (front : List ℕ). take n (front ++ drop n d)) (take_all n s (le_of_eq e)) ∙ take_at s (drop n d) n e
+pub front_over : (s d : List ℕ) (n : ℕ) → length s ≡ n → take n (over s d n) ≡ s
+front_over s d n e = ap (λ (front : List ℕ). take n (front ++ drop n d)) (take_all n s (le_of_eq e)) ∙ take_at s (drop n d) n e
 
 -- an array of zeros whose front is filled by f, one entry after the other
 pub filled_next : (n most : ℕ) (f : ℕ → ℕ) (l : List ℕ) (i x : ℕ) → n ≤ most → i < n → l ≡ over (tabulate n f) (replicate most 0) i → x ≡ f i
@@ -33,9 +33,9 @@ filled_next n most f l i x h li e ex =
     ap₂ (λ (l : List ℕ) (y : ℕ). set l i y) e (ex ∙ sym (get_d_tabulate n f i li))
     ∙ over_suc (tabulate n f) (replicate most 0) i (omega (arith, length-tabulate n f)) (omega (arith, length-replicate {A = ℕ} most 0))
 
-pub filled-front : (n most : ℕ) (f : ℕ → ℕ) (l : List ℕ) (i : ℕ) → i ≡ n → l ≡ over (tabulate n f) (replicate most 0) i → take n l ≡ tabulate n f
-filled-front n most f l i e h =
-    ap (take n) (h ∙ ap (over (tabulate n f) (replicate most 0)) e) ∙ front-over (tabulate n f) (replicate most 0) n (length-tabulate n f)
+pub filled_front : (n most : ℕ) (f : ℕ → ℕ) (l : List ℕ) (i : ℕ) → i ≡ n → l ≡ over (tabulate n f) (replicate most 0) i → take n l ≡ tabulate n f
+filled_front n most f l i e h =
+    ap (take n) (h ∙ ap (over (tabulate n f) (replicate most 0)) e) ∙ front_over (tabulate n f) (replicate most 0) n (length-tabulate n f)
 
 -- a front written over keeps the length
 pub length_front : (w d : List ℕ) (at : ℕ) → length w ≡ at → at ≤ length d → length (w ++ drop at d) ≡ length d
@@ -77,15 +77,15 @@ filled_more n xs a l =
     ∙ sym (append_snoc xs a (replicate (n - suc (length xs)) 0)) ∙ ap (λ (k : ℕ). (xs ++ (a ∷ [])) ++ replicate (n - k) 0) (sym more)
 
 -- the part `&l[a..]`
-pub part-rest : (a : ℕ) (l : List ℕ) → take (length l - a) (drop a l) ≡ drop a l
-part-rest a l = take_all (length l - a) (drop a l) (omega (arith, length-drop a l))
+pub part_rest : (a : ℕ) (l : List ℕ) → take (length l - a) (drop a l) ≡ drop a l
+part_rest a l = take_all (length l - a) (drop a l) (omega (arith, length-drop a l))
 
 -- a list whose part from a on has come back with f at its front
-pub put-part : (l f : List ℕ) (a : ℕ) → let part = take (length l - a) (drop a l) in
+pub put_part : (l f : List ℕ) (a : ℕ) → let part = take (length l - a) (drop a l) in
     take a l ++ ((f ++ drop (length f) part) ++ drop (length l - a) (drop a l)) ≡ take a l ++ f ++ drop (a + length f) l
-put-part l f a =
+put_part l f a =
     ap (λ (r : List ℕ). take a l ++ r)
-    (ap₂ (λ (x y : List ℕ). (f ++ drop (length f) x) ++ y) (part-rest a l) (drop_of_length-le (drop a l) (le_of_eq (length-drop a l)))
+    (ap₂ (λ (x y : List ℕ). (f ++ drop (length f) x) ++ y) (part_rest a l) (drop_of_length-le (drop a l) (le_of_eq (length-drop a l)))
     ∙ append-nil _ ∙ ap (λ (r : List ℕ). f ++ r) (drop-drop (length f) a l))
     ∙ sym (append_assoc (take a l) f _)
 
@@ -95,7 +95,7 @@ pub put_next : (w d f : List ℕ) (at : ℕ) → length w ≡ at → let page = 
 put_next w d f at e =
     let page = w ++ drop at d in
     let rest = ap (drop (length f)) (drop_at w (drop at d) at e) in
-    put-part page f at
+    put_part page f at
     ∙ ap₂ (λ (x y : List ℕ). x ++ f ++ y) (take_at w (drop at d) at e) (sym (drop-drop (length f) at page) ∙ rest ∙ drop-drop (length f) at d)
 
 -- the first entry set

@@ -27,5 +27,5 @@ even_mul a b h =
     omega (arith, ap (λ (x : ℕ). x * b) e)
 
 -- numbers of the same parity may stand for one another in a sum
-pub add-parity : (c x y : ℕ) → x % 2 ≡ y % 2 → (c + x) % 2 ≡ (c + y) % 2
-add-parity c x y h = add-mod c x 2 ∙ ap (λ (w : ℕ). (c % 2 + w) % 2) h ∙ sym (add-mod c y 2)
+pub add_parity : (c x y : ℕ) → x % 2 ≡ y % 2 → (c + x) % 2 ≡ (c + y) % 2
+add_parity c x y h = add-mod c x 2 ∙ ap (λ (w : ℕ). (c % 2 + w) % 2) h ∙ sym (add-mod c y 2)

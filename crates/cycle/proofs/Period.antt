@@ -13,7 +13,7 @@ use lib.Dec.{eqb}
 use lib.Pow.{pow_pos}
 use Rattle.cycle.specs.Notation.{first}
 use Rattle.cycle.specs.Period.{Period, LeastPeriod}
-use Rattle.cycle.proofs.First.{first-at, before-first}
+use Rattle.cycle.proofs.First.{first_at, before-first}
 use Rattle.cycle.proofs.Inverse.{half-multiple}
 
 module _ {A : Type 0} (f : ℕ → A) where
@@ -40,6 +40,7 @@ module _ {A : Type 0} (f : ℕ → A) where
       ∙ sym (period-multiple N n (t / N) s) ∙ ap f e
 
 pub least-period : (f : ℕ → ℕ) (e : ℕ) → 0 < e → Period f (2 ^ e) → LeastPeriod f (2 ^ e) ↔ ((t : ℕ) × (f t ≢ f (t + 2 ^ e / 2)))
+least-period f zero pos n = absurd (omega arith)
 least-period f (suc e) pos n = (forth, back)
   where
     N : ℕ
@@ -59,7 +60,7 @@ least-period f (suc e) pos n = (forth, back)
     forth least = go (dec_lt place N)
       where
         go : Dec (place < N) → (t : ℕ) × (f t ≢ f (t + N / 2))
-        go (yes l) = (place, eqb-false _ _ (not-true _ (first-at N differs l)))
+        go (yes l) = (place, eqb-false _ _ (not-true _ (first_at N differs l)))
         go (no l) =
             let p = period_of_round f N (N / 2) (pow_pos (suc e)) n (λ t lt. sym (eqb-true _ _ (not-false _ (before-first N differs t (omega arith))))) in
             absurd (least.least (N / 2) (omega (arith, half, pow_pos e)) (omega (arith, half, pow-suc 2 e, pow_pos e)) p)

@@ -9,7 +9,7 @@ use native.Mathlib.Omega.{arith}
 use borrow.Author.Tests.{eq-eqb, ne_eqb, eqb-true, lt-ltb, ltb-true}
 use lib.Dec.{eqb, ltb}
 use Rattle.cycle.specs.Notation.{sum, one, count}
-use Rattle.cycle.proofs.Count.{count-pos, count-some, count-two, same_of_count}
+use Rattle.cycle.proofs.Count.{count_pos, count-some, count_two, same_of_count}
 use Rattle.cycle.proofs.Sum.{sum_ext, sum_one, sum_scale, sum_swap, sum_mono, le_sum, sum_le}
 
 -- ---- Kronecker's delta: 1 where the numbers are equal, else 0
@@ -17,64 +17,64 @@ use Rattle.cycle.proofs.Sum.{sum_ext, sum_one, sum_scale, sum_swap, sum_mono, le
 abbrev delta : ℕ → ℕ → ℕ
 delta x y = one (eqb x y)
 
-delta-same : (x y : ℕ) → x ≡ y → delta x y ≡ 1
-delta-same x y e = ap one (eq-eqb x y e)
+delta_same : (x y : ℕ) → x ≡ y → delta x y ≡ 1
+delta_same x y e = ap one (eq-eqb x y e)
 
-delta-other : (x y : ℕ) → x ≢ y → delta x y ≡ 0
-delta-other x y ne = ap one (ne_eqb x y ne)
+delta_other : (x y : ℕ) → x ≢ y → delta x y ≡ 0
+delta_other x y ne = ap one (ne_eqb x y ne)
 
 -- a sum that delta picks one term from, or none
-sum-pick-none : (n v : ℕ) (h : ℕ → ℕ) → n ≤ v → sum n (λ x. delta v x * h x) ≡ 0
+sum_pick_none : (n v : ℕ) (h : ℕ → ℕ) → n ≤ v → sum n (λ x. delta v x * h x) ≡ 0
 unfolding sum
-sum-pick-none zero v h l = refl
-sum-pick-none (suc n) v h l =
-    let d : delta v n ≡ 0 = delta-other v n (omega arith) in
-    rw (d, zero-mul, add-zero) (sum-pick-none n v h (omega arith))
+sum_pick_none zero v h l = refl
+sum_pick_none (suc n) v h l =
+    let d : delta v n ≡ 0 = delta_other v n (omega arith) in
+    rw (d, zero-mul, add-zero) (sum_pick_none n v h (omega arith))
 
-sum-pick : (n v : ℕ) (h : ℕ → ℕ) → v < n → sum n (λ x. delta v x * h x) ≡ h v
+sum_pick : (n v : ℕ) (h : ℕ → ℕ) → v < n → sum n (λ x. delta v x * h x) ≡ h v
 unfolding sum
-sum-pick zero v h l = absurd (omega arith)
-sum-pick (suc n) v h l = go (ℕ_discrete v n) (λ k. sum-pick n v h k)
+sum_pick zero v h l = absurd (omega arith)
+sum_pick (suc n) v h l = go (ℕ_discrete v n) (λ k. sum_pick n v h k)
   where
     go : Dec (v ≡ n) → (v < n → sum n (λ x. delta v x * h x) ≡ h v) → sum n (λ x. delta v x * h x) + delta v n * h n ≡ h v
-    go (yes e) ih = rw (sum-pick-none n v h (omega arith), zero-add, delta-same v n e, one-mul, e)
-    go (no ne) ih = rw (delta-other v n ne, zero-mul, add-zero) (ih (omega arith))
+    go (yes e) ih = rw (sum_pick_none n v h (omega arith), zero-add, delta_same v n e, one-mul, e)
+    go (no ne) ih = rw (delta_other v n ne, zero-mul, add-zero) (ih (omega arith))
 
 sum_delta_le : (q v : ℕ) → sum q (λ x. delta v x) ≤ 1
 sum_delta_le q v = rw (sum_ext q (λ x. delta v x) (λ x. delta v x * 1) (λ x l. sym (mul-one (delta v x)))) (go (dec_lt v q))
   where
     go : Dec (v < q) → sum q (λ x. delta v x * 1) ≤ 1
-    go (yes l) = le_of_eq (sum-pick q v (λ x. 1) l)
-    go (no g) = omega (arith, sum-pick-none q v (λ x. 1) (omega arith))
+    go (yes l) = le_of_eq (sum_pick q v (λ x. 1) l)
+    go (no g) = omega (arith, sum_pick_none q v (λ x. 1) (omega arith))
 
 -- ---- how often f is x on 0 .. n - 1
 
 taken : ℕ → (ℕ → ℕ) → ℕ → ℕ
 taken n f x = count n (λ k. eqb (f k) x)
 
-taken-pos : (n : ℕ) (f : ℕ → ℕ) (k x : ℕ) → k < n → f k ≡ x → 1 ≤ taken n f x
+taken_pos : (n : ℕ) (f : ℕ → ℕ) (k x : ℕ) → k < n → f k ≡ x → 1 ≤ taken n f x
 unfolding taken
-taken-pos n f k x l e = count-pos n (λ k. eqb (f k) x) k l (eq-eqb (f k) x e)
+taken_pos n f k x l e = count_pos n (λ k. eqb (f k) x) k l (eq-eqb (f k) x e)
 
 -- a sum along f is a sum over the values of f, each as often as f takes it
-sum-by-value : (n q : ℕ) (f h : ℕ → ℕ) → ((k : ℕ) → k < n → f k < q) → sum n (λ k. h (f k)) ≡ sum q (λ x. taken n f x * h x)
+sum_by_value : (n q : ℕ) (f h : ℕ → ℕ) → ((k : ℕ) → k < n → f k < q) → sum n (λ k. h (f k)) ≡ sum q (λ x. taken n f x * h x)
 unfolding taken count
-sum-by-value n q f h b =
-    sum_ext n (λ k. h (f k)) (λ k. sum q (λ x. delta (f k) x * h x)) (λ k l. sym (sum-pick q (f k) h (b k l)))
+sum_by_value n q f h b =
+    sum_ext n (λ k. h (f k)) (λ k. sum q (λ x. delta (f k) x * h x)) (λ k l. sym (sum_pick q (f k) h (b k l)))
     ∙ sum_swap n q (λ k x. delta (f k) x * h x)
     ∙ sum_ext q (λ x. sum n (λ k. delta (f k) x * h x)) (λ x. sum n (λ k. delta (f k) x) * h x) (λ x l.
     sum_scale n (h x) (λ k. delta (f k) x))
 
 sum-taken : (n q : ℕ) (f : ℕ → ℕ) → ((k : ℕ) → k < n → f k < q) → sum q (taken n f) ≡ n
 sum-taken n q f b =
-    sum_ext q (taken n f) (λ x. taken n f x * 1) (λ x l. sym (mul-one (taken n f x))) ∙ sym (sum-by-value n q f (λ x. 1) b)
+    sum_ext q (taken n f) (λ x. taken n f x * 1) (λ x l. sym (mul-one (taken n f x))) ∙ sym (sum_by_value n q f (λ x. 1) b)
     ∙ sum_one n
 
 -- f on 0 .. n - 1 that takes every value below q: then q is at most n
 pub le_of_surjective : (n q : ℕ) (f : ℕ → ℕ) → ((x : ℕ) → x < q → (k : ℕ) × (k < n) × (f k ≡ x)) → q ≤ n
 unfolding taken count
 le_of_surjective n q f h =
-    le_trans (le_sum q (taken n f) (λ x l. taken-pos n f (h x l).0 x (h x l).1 (h x l).2))
+    le_trans (le_sum q (taken n f) (λ x l. taken_pos n f (h x l).0 x (h x l).1 (h x l).2))
     (rw (sum_swap q n (λ x k. delta (f k) x)) (sum_le n (λ k. sum q (λ x. delta (f k) x)) (λ k l. sum_delta_le q (f k))))
 
 -- every term at least 1 and n in all: every term is 1
@@ -95,15 +95,15 @@ pub sum_permute : (n : ℕ) (f h : ℕ → ℕ) → ((k : ℕ) → k < n → f k
     → sum n (λ k. h (f k)) ≡ sum n h
 sum_permute n f h b s =
     let all : sum n (taken n f) ≤ n = le_of_eq (sum-taken n n f b) in
-    sum-by-value n n f h b
+    sum_by_value n n f h b
     ∙ sum_ext n (λ x. taken n f x * h x) h (λ x l.
-    rw (all_one n (taken n f) (λ y j. taken-pos n f (s y j).0 y (s y j).1 (s y j).2) all x l, one-mul))
+    rw (all_one n (taken n f) (λ y j. taken_pos n f (s y j).0 y (s y j).1 (s y j).2) all x l, one-mul))
 
 -- one of the numbers below n is v
 pub count_equal : (n v : ℕ) → v < n → count n (λ k. eqb k v) ≡ 1
 unfolding taken
 count_equal n v l =
-    all_one n (taken n (λ k. k)) (λ x j. taken-pos n (λ k. k) x x j refl) (le_of_eq (sum-taken n n (λ k. k) (λ k j. j))) v l
+    all_one n (taken n (λ k. k)) (λ x j. taken_pos n (λ k. k) x x j refl) (le_of_eq (sum-taken n n (λ k. k) (λ k j. j))) v l
 
 -- ---- the pigeonhole principle
 
@@ -118,14 +118,14 @@ Repeats n f = (i : ℕ) × (j : ℕ) × (i < j) × (j < n) × (f i ≡ f j)
 two_of : (n : ℕ) (f : ℕ → ℕ) (x : ℕ) → 2 ≤ taken n f x → Repeats n f
 unfolding taken
 two_of n f x h =
-    let j = count-two n (λ k. eqb (f k) x) h in
+    let j = count_two n (λ k. eqb (f k) x) h in
     let i = one_of j.0 f x j.3 in
     (i.0, j.0, i.1, j.1, i.2 ∙ sym (eqb-true (f j.0) x j.2))
 
-some-two : (q : ℕ) (g : ℕ → ℕ) → q < sum q g → (x : ℕ) × (2 ≤ g x)
+some_two : (q : ℕ) (g : ℕ → ℕ) → q < sum q g → (x : ℕ) × (2 ≤ g x)
 unfolding sum
-some-two zero g h = absurd (omega arith)
-some-two (suc q) g h = go (dec_le 2 (g q)) (λ j. some-two q g j)
+some_two zero g h = absurd (omega arith)
+some_two (suc q) g h = go (dec_le 2 (g q)) (λ j. some_two q g j)
   where
     go : Dec (2 ≤ g q) → (q < sum q g → (x : ℕ) × (2 ≤ g x)) → (x : ℕ) × (2 ≤ g x)
     go (yes p) ih = (q, p)
@@ -133,7 +133,7 @@ some-two (suc q) g h = go (dec_le 2 (g q)) (λ j. some-two q g j)
 
 pub pigeonhole : (q : ℕ) (f : ℕ → ℕ) → ((k : ℕ) → k < suc q → f k < q) → Repeats (suc q) f
 pigeonhole q f b =
-    let r = some-two q (taken (suc q) f) (le_of_eq (sym (sum-taken (suc q) q f b))) in
+    let r = some_two q (taken (suc q) f) (le_of_eq (sym (sum-taken (suc q) q f b))) in
     two_of (suc q) f r.0 r.1
 
 -- every term at most 1 and n in all: every term is at least 1
@@ -162,9 +162,9 @@ pub surjective_of_injective : (n : ℕ) (f : ℕ → ℕ) → ((k : ℕ) → k <
 surjective_of_injective n f b d x l = one_of n f x (none_zero n (taken n f) (taken-once n f d) (le_of_eq (sym (sum-taken n n f b))) x l)
 
 -- so a sum along such an f is the sum over 0 .. n - 1
-pub sum-injective : (n : ℕ) (f h : ℕ → ℕ) → ((k : ℕ) → k < n → f k < n) → ((i j : ℕ) → i < n → j < n → f i ≡ f j → i ≡ j)
+pub sum_injective : (n : ℕ) (f h : ℕ → ℕ) → ((k : ℕ) → k < n → f k < n) → ((i j : ℕ) → i < n → j < n → f i ≡ f j → i ≡ j)
     → sum n (λ k. h (f k)) ≡ sum n h
-sum-injective n f h b inj = sum_permute n f h b (surjective_of_injective n f b repeats)
+sum_injective n f h b inj = sum_permute n f h b (surjective_of_injective n f b repeats)
   where
     repeats : Repeats n f → ⊥
     repeats (i, j, lt, l, e) = let same = inj i j (omega arith) l e in omega arith
@@ -176,7 +176,7 @@ pub le_count : (n q : ℕ) (f : ℕ → ℕ) (p : ℕ → Bool) → ((k : ℕ) �
 unfolding count
 le_count n q f p b h d =
     le_trans
-    (le_of_eq (sym (sum_one n) ∙ sum_ext n (λ k. 1) (λ k. one (p (f k))) (λ k l. sym (ap one (h k l))) ∙ sum-by-value n q f (λ v. one (p v)) b))
+    (le_of_eq (sym (sum_one n) ∙ sum_ext n (λ k. 1) (λ k. one (p (f k))) (λ k l. sym (ap one (h k l))) ∙ sum_by_value n q f (λ v. one (p v)) b))
     (sum_mono q (λ x. taken n f x * one (p x)) (λ x. one (p x)) (λ x l. at_most (taken n f x) (one (p x)) (taken-once n f d x)))
   where
     at_most : (t c : ℕ) → t ≤ 1 → t * c ≤ c
@@ -190,14 +190,14 @@ count_le_of_all n q f p b h =
     le_trans (sum_mono q (λ x. one (p x)) (taken n f) (λ x l. go x l (p x) refl)) (le_of_eq (sum-taken n q f b))
   where
     go : (x : ℕ) → x < q → (t : Bool) → p x ≡ t → one t ≤ taken n f x
-    go x l true e = let (k, lk, r) = h x l e in taken-pos n f k x lk r
+    go x l true e = let (k, lk, r) = h x l e in taken_pos n f k x lk r
     go x l false e = omega arith
 
 -- n different ones, where there are no more: they are all of them
 pub all_of_count : (n q : ℕ) (f : ℕ → ℕ) (p : ℕ → Bool) → ((k : ℕ) → k < n → f k < q) → ((k : ℕ) → k < n → p (f k) ≡ true) → (Repeats n f → ⊥) → count q p ≤ n
     → (x : ℕ) → x < q → p x ≡ true → (k : ℕ) × (k < n) × (f k ≡ x)
 all_of_count n q f p b h d c x l t =
-    let least : n ≤ count q met = le_count n q f met b (λ k lk. lt-ltb 0 (taken n f (f k)) (taken-pos n f k (f k) lk refl)) d in
+    let least : n ≤ count q met = le_count n q f met b (λ k lk. lt-ltb 0 (taken n f (f k)) (taken_pos n f k (f k) lk refl)) d in
     one_of n f x (ltb-true 0 (taken n f x) (same_of_count q met p meets (omega arith) x l t))
   where
     met : ℕ → Bool

@@ -10,9 +10,9 @@ use lib.Arith.{digits_div, digits_mod, digits_lt}
 use lib.Dec.{eqb, leb, ltb}
 use Rattle.cycle.specs.Notation.{sum, one, count}
 use Rattle.cycle.specs.Fair.{largest_multiple, gives_rank}
-use Rattle.cycle.proofs.Sum.{sum_ext, sum_const, sum-split, sum_blocks}
-use Rattle.cycle.proofs.Count.{count_ext, count-never}
-use Rattle.cycle.proofs.Pigeonhole.{count_equal, sum-injective}
+use Rattle.cycle.proofs.Sum.{sum_ext, sum_const, sum_split, sum_blocks}
+use Rattle.cycle.proofs.Count.{count_ext, count_never}
+use Rattle.cycle.proofs.Pigeonhole.{count_equal, sum_injective}
 
 -- ---- a sum modulo M and one of its terms determine the other
 
@@ -23,8 +23,8 @@ module _ (M c : ℕ) where
       let rounds : c + x + (M - c % M) ≡ x + suc (c / M) * M = omega (arith, mod-add-div' c M, mod-lt c pos, suc-mul (c / M) M) in
       mod-add-mod (c + x) M (M - c % M) ∙ ap (λ (a : ℕ). a % M) rounds ∙ add-mul-mod_self_right x (suc (c / M)) M ∙ mod-eq_of_lt l
 
-  pub add-mod-injective : (x y : ℕ) → x < M → y < M → (c + x) % M ≡ (c + y) % M → x ≡ y
-  add-mod-injective x y lx ly e = sym (undone x lx) ∙ ap (λ (a : ℕ). (a + (M - c % M)) % M) e ∙ undone y ly
+  pub add_mod_injective : (x y : ℕ) → x < M → y < M → (c + x) % M ≡ (c + y) % M → x ≡ y
+  add_mod_injective x y lx ly e = sym (undone x lx) ∙ ap (λ (a : ℕ). (a + (M - c % M)) % M) e ∙ undone y ly
 
 -- ---- evenly spread values
 
@@ -41,11 +41,11 @@ count_remainders q k p =
 module _
     (A B : ℕ) (f g : ℕ → ℕ) (fb : (z : ℕ) → z < A * B → f z < B) (gb : (z : ℕ) → z < A * B → g z < A)
     (determined : (y z : ℕ) → y < A * B → z < A * B → f y ≡ f z → g y ≡ g z → y ≡ z) where
-  pub count-spread : (p : ℕ → Bool) → count (A * B) (λ z. p (f z)) ≡ A * count B p
+  pub count_spread : (p : ℕ → Bool) → count (A * B) (λ z. p (f z)) ≡ A * count B p
   unfolding count
-  count-spread p =
+  count_spread p =
       count_ext (A * B) (λ z. p (f z)) (λ z. p (pair z % B)) (λ z l. ap p (sym (low z l)))
-      ∙ sum-injective (A * B) pair (λ z. one (p (z % B))) (λ z l. digits_lt (gb z l) (fb z l)) (λ y z ly lz e.
+      ∙ sum_injective (A * B) pair (λ z. one (p (z % B))) (λ z l. digits_lt (gb z l) (fb z l)) (λ y z ly lz e.
       determined y z ly lz (sym (low y ly) ∙ ap (λ (a : ℕ). a % B) e ∙ low z lz) (sym (high y ly) ∙ ap (λ (a : ℕ). a / B) e ∙ high z lz))
       ∙ count_remainders A B p
     where
@@ -91,11 +91,11 @@ module _ (M k : ℕ) (pos : 0 < k) where
   unfolding count
   ranks_fair r l =
       ap (λ (a : ℕ). count a (gives_rank M k r)) (omega (arith, mod-add-div' M k))
-      ∙ sum-split L (M % k) (λ w. one (gives_rank M k r w))
+      ∙ sum_split L (M % k) (λ w. one (gives_rank M k r w))
       ∙ ap₂ (λ (a b : ℕ). a + b)
       (count_ext L (gives_rank M k r) (λ w. eqb (w % k) r) (λ w j. rw (lt-ltb w L j))
       ∙ ap (λ (a : ℕ). count a (λ w. eqb (w % k) r)) (multiple_is M k) ∙ count_remainders (M / k) k (λ x. eqb x r) ∙ rw (count_equal k r l, mul-one))
-      (count-never (M % k) (λ i. gives_rank M k r (L + i)) (λ i j. rw (le-ltb (L + i) L (omega arith))))
+      (count_never (M % k) (λ i. gives_rank M k r (L + i)) (λ i j. rw (le-ltb (L + i) L (omega arith))))
       ∙ add-zero (M / k) ∙ sym (ap (λ (a : ℕ). a / k) (multiple_is M k) ∙ mul-div_cancel (M / k) pos)
 
   -- and more than half of the numbers give one

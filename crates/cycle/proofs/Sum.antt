@@ -27,10 +27,10 @@ sum_zero n = sum_const n 0 ∙ mul-zero n
 pub sum_one : (n : ℕ) → sum n (λ i. 1) ≡ n
 sum_one n = sum_const n 1 ∙ mul-one n
 
-pub sum-add : (n : ℕ) (f g : ℕ → ℕ) → sum n (λ i. f i + g i) ≡ sum n f + sum n g
+pub sum_add : (n : ℕ) (f g : ℕ → ℕ) → sum n (λ i. f i + g i) ≡ sum n f + sum n g
 unfolding sum
-sum-add zero f g = refl
-sum-add (suc n) f g = omega (arith, sum-add n f g)
+sum_add zero f g = refl
+sum_add (suc n) f g = omega (arith, sum_add n f g)
 
 pub sum_scale : (n c : ℕ) (f : ℕ → ℕ) → sum n (λ i. f i * c) ≡ sum n f * c
 unfolding sum
@@ -40,18 +40,18 @@ sum_scale (suc n) c f = omega (arith, sum_scale n c f, add-mul (sum n f) (f n) c
 pub sum_swap : (m n : ℕ) (f : ℕ → ℕ → ℕ) → sum m (λ i. sum n (f i)) ≡ sum n (λ j. sum m (λ i. f i j))
 unfolding sum
 sum_swap zero n f = sym (sum_zero n)
-sum_swap (suc m) n f = ap (λ (x : ℕ). x + sum n (f m)) (sum_swap m n f) ∙ sym (sum-add n (λ j. sum m (λ i. f i j)) (f m))
+sum_swap (suc m) n f = ap (λ (x : ℕ). x + sum n (f m)) (sum_swap m n f) ∙ sym (sum_add n (λ j. sum m (λ i. f i j)) (f m))
 
-pub sum-split : (m n : ℕ) (f : ℕ → ℕ) → sum (m + n) f ≡ sum m f + sum n (λ i. f (m + i))
+pub sum_split : (m n : ℕ) (f : ℕ → ℕ) → sum (m + n) f ≡ sum m f + sum n (λ i. f (m + i))
 unfolding sum
-sum-split m zero f = rw (add-zero, add-zero)
-sum-split m (suc n) f = rw add-suc (omega (arith, sum-split m n f))
+sum_split m zero f = rw (add-zero, add-zero)
+sum_split m (suc n) f = rw add-suc (omega (arith, sum_split m n f))
 
 -- a sum over q blocks of k terms
 pub sum_blocks : (q k : ℕ) (f : ℕ → ℕ) → sum (q * k) f ≡ sum q (λ y. sum k (λ x. f (y * k + x)))
 unfolding sum
 sum_blocks zero k f = rw zero-mul
-sum_blocks (suc q) k f = rw suc-mul (sum-split (q * k) k f ∙ ap (λ (x : ℕ). x + sum k (λ x. f (q * k + x))) (sum_blocks q k f))
+sum_blocks (suc q) k f = rw suc-mul (sum_split (q * k) k f ∙ ap (λ (x : ℕ). x + sum k (λ x. f (q * k + x))) (sum_blocks q k f))
 
 -- terms of the same parity give sums of the same parity
 pub sum-parity : (n : ℕ) (f g : ℕ → ℕ) → ((i : ℕ) → i < n → f i % 2 ≡ g i % 2) → sum n f % 2 ≡ sum n g % 2

@@ -25,9 +25,9 @@ use Rattle.tsc.proofs.WordPeriod.{words_return, words-halved, word-period}
 use Rattle.card_format.specs.Reading.{card_of, form_checks, no_card, reading}
 use Rattle.card_format.specs.Verdict.{card_checks, verdict, Accepted}
 use Rattle.card_format.specs.Writing.{writing, page_after, rewrite_checks, rewriting, page_rewritten}
-use Rattle.card_format.proofs.Verdict.{verdict-covers, accepted-card}
+use Rattle.card_format.proofs.Verdict.{verdict_covers, accepted_card}
 use Rattle.card_format.proofs.RoundTrip.{accepted-short, accepted-writing}
-use Rattle.card_format.proofs.Examples.{longest, longest-accepted}
+use Rattle.card_format.proofs.Examples.{longest, longest_accepted}
 use Rattle.diagnoses.specs.BadPlaces.{bad_checks}
 use Rattle.diagnoses.proofs.Fatal.{fatal_iff}
 use Rattle.diagnoses.proofs.Answers.{bad_form, ring_iff, shown_iff, ascending, zeros-past, exactly, shown-below, shows_exists, shows_unique, shown-half, still_seven}
@@ -36,25 +36,25 @@ use Rattle.periods.proofs.Wide.{wide-period}
 use Rattle.draws.specs.Calls.{refusal_for, stepped, stepped_back, drawing}
 use Rattle.draws.proofs.Opening.{passes, unless_passed}
 use Rattle.draws.proofs.Called.{only-before}
-use Rattle.draws.proofs.Draws.{back_of_stepped, draws-state, draws-word, orbit-lists}
+use Rattle.draws.proofs.Draws.{back_of_stepped, draws-state, draws-word, orbit_lists}
 use Rattle.fills.specs.Fills.{fill_refusal, filled, filled_state}
 use Rattle.fills.proofs.Fills.{fill_draws, fill_undone, fill_none, fill_append}
 use Rattle.samples.proofs.Tried.{taken-none_iff, taken-few, taken-over, taken-serves, taken-kept}
 use Rattle.picks.specs.Picks.{pick_refusal, picking, picked}
-use Rattle.picks.proofs.Choice.{pick_chooses, pick-order}
-use Rattle.picks.proofs.Steps.{pick-steps, pick-undone}
+use Rattle.picks.proofs.Choice.{pick_chooses, pick_order}
+use Rattle.picks.proofs.Steps.{pick_steps, pick_undone}
 use Rattle.picks.proofs.Shift.{standby_alike}
 use Rattle.picks.proofs.Fair.{picks_fair}
 use Rattle.margins.proofs.Answers.{margin_refused, margin_one}
 use Rattle.margins.proofs.Alike.{margin_order}
-use Rattle.margins.proofs.Firm.{counts-unrefused, told-counts, told-least, firm-exactly, alone-firm}
+use Rattle.margins.proofs.Firm.{counts-unrefused, told_counts, told_least, firm-exactly, alone-firm}
 use Rattle.picks.specs.declared.Pick.{Pick}
 use Rattle.picks.specs.declared.Pick.TheVariants.{Shovel, Refused}
 use Rattle.records.specs.declared.Order.TheVariants as Order
 use Rattle.records.specs.Reading.{record_of, no_record, reading_record}
 use Rattle.records.specs.Orders.{order_for}
-use Rattle.records.proofs.Reading.{read-absent, whole_unique, whole-short}
-use Rattle.records.proofs.Writing.{encoded-whole, encoded-back}
+use Rattle.records.proofs.Reading.{read_absent, whole_unique, whole_short}
+use Rattle.records.proofs.Writing.{encoded_whole, encoded_back}
 use Rattle.records.proofs.Full.{longest_record}
 use Rattle.records.proofs.Orders.{order-heard, cabs_alike, cab_tells}
 use Rattle.records.specs.Writing.{recorded_on}
@@ -63,13 +63,13 @@ use Rattle.recorded_picks.proofs.Order.{recorded_order, page-order, standby_reco
 use Rattle.recorded_picks.proofs.Desk.{page-left, page-kept, record_read, record_replayed}
 use Rattle.bit_counts.specs.Calls.{bit_refusal, counting_bits, bit_page}
 use Rattle.bit_counts.proofs.Sums.{balance-append, balance-parity, balance-bound}
-use Rattle.bit_counts.proofs.Extremes.{forward-extremes, backward-extremes, furthest_is, forward-bounds, backward-bounds}
+use Rattle.bit_counts.proofs.Extremes.{forward_extremes, backward_extremes, furthest_is, forward_bounds, backward_bounds}
 use Rattle.bit_counts.proofs.Runs.{runs_append, runs-bound}
 use Rattle.bit_counts.proofs.Bits.{bits_of-append}
-use Rattle.bit_counts.proofs.Counting.{page_digits, page-back, page-rest}
+use Rattle.bit_counts.proofs.Counting.{page_digits, page_back, page_rest}
 use Rattle.bit_counts.proofs.Examples.{examples_hold, no_bits}
 use Rattle.gates.proofs.Formulas.{bit-on_words, equation_16, equation_17}
-use Rattle.gates.proofs.GateStep.{card-p1, tsc1_alone, gate_step_lem, gate_orbit}
+use Rattle.gates.proofs.GateStep.{card_p1, tsc1_alone, gate_step_lem, gate_orbit}
 use Rattle.places.proofs.Distances.{squared_is, squared_zero, squared_le, distance_is}
 use Rattle.places.proofs.Places.{radius_is}
 use Rattle.ties.specs.Ties.{ties, TieAt}
@@ -77,7 +77,7 @@ use Rattle.samples.specs.Samples.{taken, drawn_rank}
 use Rattle.places.specs.Places.{Places, distances_of, most_coordinate}
 use Rattle.map_picks.specs.MapPicks.{map_pick_checks, map_pick_refusal, map_picking, map_picked}
 use Rattle.map_picks.proofs.Timed.{map-timed, map-passed}
-use Rattle.map_picks.proofs.Order.{map-pick-order}
+use Rattle.map_picks.proofs.Order.{map_pick_order}
 use Rattle.map_picks.proofs.Shift.{mixed_alike, map-undone}
 use Rattle.nearby.specs.Calls.{within_checks, listing, no_list, within_radius}
 use Rattle.nearby.proofs.Answers.{answer-exactly, answer-only, answer-ascending, answer-once, answer-length, answer-past, within-order}
@@ -131,7 +131,7 @@ answered_or_refused =
 -- with an accepted card and a state of its size no call is refused, and it leaves the step or the step back
 module _ (bytes xs : List ℕ) (h : Ready bytes xs) where
   ok : Accepted (card_of bytes)
-  ok = accepted-card bytes h.accepted
+  ok = accepted_card bytes h.accepted
 
   none : refusal_for bytes xs ≡ 0
   none = passes bytes xs h.accepted h.state
@@ -184,14 +184,14 @@ unfolding pick_refusal
 same_lots =
     record {
       ranked = λ bytes xs shovels times n. pick_chooses bytes xs shovels times (first-none _ n);
-      one_pick = pick-order;
+      one_pick = pick_order;
       shift = standby_alike;
     }
 
 -- ---- demand 3
 
 pub accepted_iff_covers : AcceptedIffCovers
-accepted_iff_covers = verdict-covers
+accepted_iff_covers = verdict_covers
 
 -- ---- document 02, One
 
@@ -211,13 +211,13 @@ fair_ranks =
       over = taken-over;
       kept = taken-kept;
       serves = taken-serves;
-      steps = pick-steps;
-      undone = pick-undone;
+      steps = pick_steps;
+      undone = pick_undone;
       ranks = λ card k r l. ranks_fair (2 ^ card.width) k (omega arith) r l;
       words = λ bytes xs h.
           let card = card_of bytes in
           let a = ok bytes xs h in
-          word_balanced card a.formed.words (omega (arith, a.formed.width)) (orbit card xs) (orbit-lists bytes xs (none bytes xs h));
+          word_balanced card a.formed.words (omega (arith, a.formed.width)) (orbit card xs) (orbit_lists bytes xs (none bytes xs h));
       loads = λ bytes xs shovels times n. picks_fair bytes xs shovels times (first-none _ n);
     }
 
@@ -227,8 +227,8 @@ pub nearest_change : NearestChange
 unfolding pick_refusal
 nearest_change =
     record {
-      counts = told-counts;
-      least = told-least;
+      counts = told_counts;
+      least = told_least;
       firm = λ bytes xs shovels times n. firm-exactly bytes xs shovels times (first-none _ n);
       alone = λ bytes xs shovels times n one m h.
           let z = first-none _ n in
@@ -243,9 +243,9 @@ nearest_change =
 pub up_to_eight_words : UpToEightWords
 up_to_eight_words =
     record {
-      words = λ bytes z. let a = accepted-card bytes z in (a.formed.words, a.few);
+      words = λ bytes z. let a = accepted_card bytes z in (a.formed.words, a.few);
       short = accepted-short;
-      reached = (longest, longest-accepted.0, longest-accepted.1, longest-accepted.2);
+      reached = (longest, longest_accepted.0, longest_accepted.1, longest_accepted.2);
       as_before = λ bytes xs h few. word_of_few (card_of bytes) xs (omega (arith, h.state.0));
     }
 
@@ -281,7 +281,7 @@ cab_and_desk =
           let e = ap reading_record l.0 ∙ (record_read bytes xs shovels times (length page) s k t answer truck lt h tie).1 in
           record_replayed bytes xs shovels times (length page) s k t answer truck lt h tie _ e;
       no_tie = λ bytes xs shovels times page truck s t. page-kept bytes xs shovels times truck page s t;
-      absent = read-absent;
+      absent = read_absent;
       hears_the_same = cabs_alike;
       depends_on = order-heard;
       tells = cab_tells;
@@ -290,33 +290,33 @@ cab_and_desk =
           (o.0, o.1, page-order bytes xs shovels times shovels₂ times₂ h truck page);
       shift = standby_records;
       pages = standby_pages;
-      short = whole-short;
+      short = whole_short;
       reached = longest_record;
       unique = whole_unique;
-      written = λ r f. (encoded-whole r f, encoded-back r f);
+      written = λ r f. (encoded_whole r f, encoded_back r f);
     }
 
 -- ---- document 02, Eight
 
-pub bits-counted : BitsCounted
+pub bits_counted : BitsCounted
 unfolding bit_refusal
-bits-counted =
+bits_counted =
     record {
       top_bit_first = λ bytes strip page n. page_digits bytes strip page (first-none _ n);
-      read_back = λ bytes strip page n. page-back bytes strip page (first-none _ n);
-      untouched = λ bytes strip page n. page-rest bytes strip page (first-none _ n);
+      read_back = λ bytes strip page n. page_back bytes strip page (first-none _ n);
+      untouched = λ bytes strip page n. page_rest bytes strip page (first-none _ n);
       examples = examples_hold;
       none = no_bits;
       furthest_sum = furthest_is;
       parity = balance-parity;
       bound = balance-bound;
-      forward = forward-bounds;
-      backward = backward-bounds;
+      forward = forward_bounds;
+      backward = backward_bounds;
       few_runs = runs-bound;
       strips = bits_of-append;
       balances = balance-append;
       joined_runs = runs_append;
-      one_pass = λ bits. (forward-extremes bits, backward-extremes bits);
+      one_pass = λ bits. (forward_extremes bits, backward_extremes bits);
     }
 
 -- ---- document 02, Nine
@@ -324,13 +324,13 @@ bits-counted =
 pub same_by_gates : SameByGates
 same_by_gates =
     record {
-      values = card-p1;
-      alone = λ bytes b z e. tsc1_alone bytes b z (e ∙ card-p1);
+      values = card_p1;
+      alone = λ bytes b z e. tsc1_alone bytes b z (e ∙ card_p1);
       once = equation_16;
       twice = equation_17;
       bitwise = λ n ws fits f i l. bit-on_words n ws fits i l f;
-      steps = λ xs. rw card-p1 (gate_step_lem xs);
-      orbits = λ xs. rw card-p1 (gate_orbit xs);
+      steps = λ xs. rw card_p1 (gate_step_lem xs);
+      orbits = λ xs. rw card_p1 (gate_orbit xs);
     }
 
 -- ---- document 02, Ten
@@ -346,7 +346,7 @@ module _ (bytes state : List ℕ) (q : Places) (h : NoneApplies (map_pick_checks
   near =
       let p = map-passed bytes state q unrefused in
       let c = pick_chooses bytes state q.shovels (distances_of q) p.1 in
-      (c.0, c.1, (map-timed bytes state q p.0.is_paired p.0.all-allowed).0 ∙ c.2)
+      (c.0, c.1, (map-timed bytes state q p.0.is_paired p.0.all_allowed).0 ∙ c.2)
 
 pub by_the_map : ByTheMap
 by_the_map =
@@ -360,7 +360,7 @@ by_the_map =
       timed = map-timed;
       nearest = near;
       undone = map-undone;
-      order = map-pick-order;
+      order = map_pick_order;
       shift = mixed_alike;
       exactly = λ q radius h. answer-exactly q radius (first-none (within_checks q radius) h);
       only_these = λ q radius h. answer-only q radius (first-none (within_checks q radius) h);
@@ -373,8 +373,8 @@ by_the_map =
 
 -- ---- document 02, Eleven
 
-pub fewest-places : FewestPlaces
-fewest-places =
+pub fewest_places : FewestPlaces
+fewest_places =
     record {
       form = bad_form;
       sound_ring = ring_iff;
@@ -407,8 +407,8 @@ demands =
       request_five = up_to_eight_words;
       request_six = no_early_repeat;
       request_seven = cab_and_desk;
-      request_eight = bits-counted;
+      request_eight = bits_counted;
       request_nine = same_by_gates;
       request_ten = by_the_map;
-      request_eleven = fewest-places;
+      request_eleven = fewest_places;
     }

@@ -22,10 +22,10 @@ use Rattle.tsc.specs.Step.{entry}
 use Rattle.tsc.specs.Coverage.{WellFormed}
 use Rattle.tsc.proofs.Table.{table_cycle}
 use Rattle.refusals.specs.Refusals.{check, first_of, not_single_cycle, single_cycle}
-use Rattle.refusals.proofs.Refusals.{first-append, first-left, first-both, none_first}
+use Rattle.refusals.proofs.Refusals.{first-append, first-left, first_both, none_first}
 use Rattle.card_format.specs.Reading.{card_of, form_checks, SoundForm}
 use Rattle.card_format.specs.Verdict.{is_single_cycle, verdict}
-use Rattle.card_format.proofs.Sound.{sound-card}
+use Rattle.card_format.proofs.Sound.{sound_card}
 use Rattle.card_format.proofs.Verdict.{verdict-period, verdict-form, words-sound}
 use Rattle.diagnoses.specs.declared.BadPlaces.{BadPlaces}
 use Rattle.diagnoses.specs.BadPlaces.{Fatal, bad_checks, most_places, showing, no_places, Shows}
@@ -41,21 +41,21 @@ module _ (bytes : List ℕ) where
   f = entry (card_of bytes)
 
   -- of a card of bad form, what the reader and check tell
-  pub form-told : first_of (form_checks bytes) ≢ 0 → first_of (bad_checks bytes) ≡ first_of (form_checks bytes)
+  pub form_told : first_of (form_checks bytes) ≢ 0 → first_of (bad_checks bytes) ≡ first_of (form_checks bytes)
   unfolding bad_checks
-  form-told ne = first-left (form_checks bytes) _ ne
+  form_told ne = first-left (form_checks bytes) _ ne
 
   pub bad_form : first_of (form_checks bytes) ≢ 0 → first_of (bad_checks bytes) ≡ verdict bytes
-  bad_form ne = form-told ne ∙ verdict-form bytes ne
+  bad_form ne = form_told ne ∙ verdict-form bytes ne
 
   -- places are shown of cards of sound form alone, whose table is no single cycle
   pub shown-sound : first_of (bad_checks bytes) ≡ 0 → SoundForm bytes
   unfolding bad_checks
-  shown-sound z = none_first (form_checks bytes) (first-both (form_checks bytes) _ z).0
+  shown-sound z = none_first (form_checks bytes) (first_both (form_checks bytes) _ z).0
 
   module _ (s : SoundForm bytes) where
     below : MapsBelow N f
-    below = (sound-card bytes s).entries
+    below = (sound_card bytes s).entries
 
     pub told : (b : Bool) → is_single_cycle (card_of bytes) ≡ b → first_of (bad_checks bytes) ≡ cond b single_cycle.number 0
     unfolding bad_checks first_of
@@ -95,15 +95,15 @@ shows_least bytes r P z least h = record { refused = λ p. absurd (omega arith);
 
 -- the list at the front, zeros past it
 module _ (N : ℕ) (P : ℕ → Bool) where
-  shown-at : (k : ℕ) → get_or (showing N P).places k 0 ≡ get_or (members N P) k 0
-  shown-at k = get_or-filled (members N P) (most_places - length (members N P)) k 0
+  shown_at : (k : ℕ) → get_or (showing N P).places k 0 ≡ get_or (members N P) k 0
+  shown_at k = get_or-filled (members N P) (most_places - length (members N P)) k 0
 
   shown-past : (k : ℕ) → count N P ≤ k → get_or (showing N P).places k 0 ≡ 0
-  shown-past k l = shown-at k ∙ get_or-eq_default (members N P) 0 (omega (arith, members-count N P))
+  shown-past k l = shown_at k ∙ get_or-eq_default (members N P) 0 (omega (arith, members-count N P))
 
 -- an answer that is refused, or that shows places
-by-told : {A : Type 0} (n : ℕ) → (0 < n → A) → (n ≡ 0 → A) → A
-by-told {A} n some none = go (ℕ_discrete n 0)
+by_told : {A : Type 0} (n : ℕ) → (0 < n → A) → (n ≡ 0 → A) → A
+by_told {A} n some none = go (ℕ_discrete n 0)
   where
     go : Dec (n ≡ 0) → A
     go (yes z) = none z
@@ -115,15 +115,15 @@ Ascends r = (j k : ℕ) → j < k → k < r.count → get_or r.places j 0 < get_
 
 pub ascending : (bytes : List ℕ) (r : BadPlaces) → Shows bytes r → Ascends r
 ascending bytes r a =
-    by-told (first_of (bad_checks bytes)) (λ p. subst Ascends (sym (a.refused p)) (λ j k jk l. absurd (omega arith)))
-    (λ z. let (P, least, e) = a.shown z in subst Ascends (sym e) (λ j k jk l. rw (shown-at _ P j, shown-at _ P k) (members_ascend _ P j k jk l)))
+    by_told (first_of (bad_checks bytes)) (λ p. subst Ascends (sym (a.refused p)) (λ j k jk l. absurd (omega arith)))
+    (λ z. let (P, least, e) = a.shown z in subst Ascends (sym e) (λ j k jk l. rw (shown_at _ P j, shown_at _ P k) (members_ascend _ P j k jk l)))
 
 abbrev pub ZerosPast : BadPlaces → Type 0
 ZerosPast r = (k : ℕ) → r.count ≤ k → get_or r.places k 0 ≡ 0
 
 pub zeros-past : (bytes : List ℕ) (r : BadPlaces) → Shows bytes r → ZerosPast r
 zeros-past bytes r a =
-    by-told (first_of (bad_checks bytes)) (λ p. subst ZerosPast (sym (a.refused p)) (λ k l. get_or-filled [] most_places k 0))
+    by_told (first_of (bad_checks bytes)) (λ p. subst ZerosPast (sym (a.refused p)) (λ k l. get_or-filled [] most_places k 0))
     (λ z. let (P, least, e) = a.shown z in subst ZerosPast (sym e) (shown-past _ P))
 
 -- the places of the least fatal set
@@ -143,7 +143,7 @@ pub shown-below : (bytes : List ℕ) (r : BadPlaces) → Shows bytes r → first
 shown-below bytes r a z k =
     let N = 2 ^ (card_of bytes).words in
     let (P, least, e) = a.shown z in
-    subst (λ (r : BadPlaces). k < r.count → get_or r.places k 0 < N) (sym e) (λ l. rw (shown-at N P k) (member_at N P k l).0)
+    subst (λ (r : BadPlaces). k < r.count → get_or r.places k 0 < N) (sym e) (λ l. rw (shown_at N P k) (member_at N P k l).0)
 
 -- ---- there is one answer, and half of the places are told at most
 
@@ -152,7 +152,7 @@ module _ (bytes : List ℕ) (z : first_of (bad_checks bytes) ≡ 0) where
   card = card_of bytes
 
   formed : WellFormed card
-  formed = sound-card bytes (shown-sound bytes z)
+  formed = sound_card bytes (shown-sound bytes z)
 
   unsound : SingleCycle (2 ^ card.words) (entry card) 0 → ⊥
   unsound c = let r = (ring_iff bytes (shown-sound bytes z)).1 c in omega arith
@@ -162,12 +162,12 @@ module _ (bytes : List ℕ) (z : first_of (bad_checks bytes) ≡ 0) where
 
 pub shows_exists : (bytes : List ℕ) → (r : BadPlaces) × Shows bytes r
 shows_exists bytes =
-    by-told (first_of (bad_checks bytes)) (λ p. let n = first_of (bad_checks bytes) in (no_places n, shows_refused bytes (no_places n) n refl (λ z. omega arith) refl))
+    by_told (first_of (bad_checks bytes)) (λ p. let n = first_of (bad_checks bytes) in (no_places n, shows_refused bytes (no_places n) n refl (λ z. omega arith) refl))
     (λ z. let (P, c) = chosen bytes z in let r = showing (2 ^ (card_of bytes).words) P in (r, shows_least bytes r P z c.0 refl))
 
 pub shows_unique : (bytes : List ℕ) (r s : BadPlaces) → Shows bytes r → Shows bytes s → r ≡ s
 shows_unique bytes r s a b =
-    by-told (first_of (bad_checks bytes)) (λ p. a.refused p ∙ sym (b.refused p))
+    by_told (first_of (bad_checks bytes)) (λ p. a.refused p ∙ sym (b.refused p))
     (λ z.
     let N = 2 ^ (card_of bytes).words in
     let (P, least, e) = a.shown z in
@@ -186,7 +186,7 @@ shown-half bytes r a z =
 -- so every answer fits its array
 pub shown-fits : (bytes : List ℕ) (r : BadPlaces) → Shows bytes r → r.count ≤ most_places
 shown-fits bytes r a =
-    by-told (first_of (bad_checks bytes)) (λ p. omega (arith, ap (λ (r : BadPlaces). r.count) (a.refused p)))
+    by_told (first_of (bad_checks bytes)) (λ p. omega (arith, ap (λ (r : BadPlaces). r.count) (a.refused p)))
     (λ z. omega (arith, shown-half bytes r a z, pow_mono (words-sound bytes (shown-sound bytes z))))
 
 -- ---- what does not mend it
@@ -203,8 +203,8 @@ still_seven bytes other r a z s w =
     sym (verdict-period other s)
     ∙ least.wanted (card_of other) (record {
       words = w;
-      allowed = subst (λ (m : ℕ). (x : ℕ) → x < 2 ^ m → entry (card_of other) x < 2 ^ m) w (sound-card other s).entries;
+      allowed = subst (λ (m : ℕ). (x : ℕ) → x < 2 ^ m → entry (card_of other) x < 2 ^ m) w (sound_card other s).entries;
       agrees = λ x l h.
           let (k, lk, g) = member_of N P x l h in
-          subst (λ (x : ℕ). entry (card_of other) x ≡ entry (card_of bytes) x) (shown-at N P k ∙ g) (keep k lk);
+          subst (λ (x : ℕ). entry (card_of other) x ≡ entry (card_of bytes) x) (shown_at N P k ∙ g) (keep k lk);
     }))

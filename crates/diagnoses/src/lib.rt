@@ -6,7 +6,7 @@ pub const MOST_PLACES: usize = TABLE_SIZE / 2;
 
 // What is answered, as C has it too: places ascending, as many as the count says, and zeros past them; or the refusal.
 #[repr(C)]
-#[derive(Drop)]
+#[derive(Clone, Copy)]
 pub struct BadPlaces {
     pub places: [u8; MOST_PLACES],
     pub count: u8,

@@ -10,7 +10,7 @@ use Rattle.cycle.specs.Notation.{one, count, zero_filled}
 use Rattle.cycle.proofs.Lists.{filled_more}
 use Rattle.cycle.proofs.Count.{count_next, count_prefix}
 use Rattle.completions.specs.Sets.{members}
-use Rattle.completions.proofs.Members.{members-count, members-next}
+use Rattle.completions.proofs.Members.{members-count, members_next}
 
 module _ (most : ℕ) (P : ℕ → Bool) (x : ℕ) where
   -- room is left where the next one counts
@@ -22,7 +22,7 @@ module _ (most : ℕ) (P : ℕ → Bool) (x : ℕ) where
   listed_next places n e c r = go (P x) refl
     where
       next : (b : Bool) → P x ≡ b → members (x + 1) P ≡ members x P ++ cond b (x ∷ []) []
-      next b h = ap (λ (k : ℕ). members k P) (add-one x) ∙ members-next x P ∙ ap (λ (b : Bool). members x P ++ cond b (x ∷ []) []) h
+      next b h = ap (λ (k : ℕ). members k P) (add-one x) ∙ members_next x P ∙ ap (λ (b : Bool). members x P ++ cond b (x ∷ []) []) h
 
       go : (b : Bool) → P x ≡ b → cond b (set places n x) places ≡ zero_filled most (members (x + 1) P)
       go true h =

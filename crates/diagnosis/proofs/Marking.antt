@@ -87,9 +87,9 @@ along_marked f x (suc n) marks b v =
 pub uses-none : (f : ℕ → ℕ) (v : ℕ) → uses 0 f v ≡ 0
 uses-none f v = count_none (λ x. eqb (f x) v)
 
-pub uses-next : (f : ℕ → ℕ) (x : ℕ) (counts : List ℕ) → f x < length counts → ((v : ℕ) → get_or counts v 0 ≡ uses x f v)
+pub uses_next : (f : ℕ → ℕ) (x : ℕ) (counts : List ℕ) → f x < length counts → ((v : ℕ) → get_or counts v 0 ≡ uses x f v)
     → (v : ℕ) → get_or (set counts (f x) (get_or counts (f x) 0 + 1)) v 0 ≡ uses (x + 1) f v
-uses-next f x counts l h v = go (ℕ_discrete v (f x))
+uses_next f x counts l h v = go (ℕ_discrete v (f x))
   where
     go : Dec (v ≡ f x) → get_or (set counts (f x) (get_or counts (f x) 0 + 1)) v 0 ≡ uses (x + 1) f v
     go (yes e) = rw e (get_or-set_same counts (f x) _ 0 l ∙ counted_next x (λ y. eqb (f y) (f x)) (h (f x)) (sym (ap one (eq-eqb (f x) (f x) refl))))

@@ -64,8 +64,8 @@ module _ (N : ℕ) (f : ℕ → ℕ) (pos : 0 < N) (fits : N ≤ 2 ^ most_words)
       long_after : length after ≡ 2 ^ most_words
       long_after = ap length m ∙ along_length f x n marks ∙ t.long
 
-      passed-after : (v : ℕ) → marked after v ≡ true → (z : ℕ) × (k : ℕ) × (z < x + 1) × (iterate f k z ≡ v)
-      passed-after v h = passed_along x n marks xN t.long t.passed v (rw m at h)
+      passed_after : (v : ℕ) → marked after v ≡ true → (z : ℕ) × (k : ℕ) × (z < x + 1) × (iterate f k z ≡ v)
+      passed_after v h = passed_along x n marks xN t.long t.passed v (rw m at h)
 
       pub tried-kept : found.steps ≤ n → Tried N f (x + 1) found after
       tried-kept l =
@@ -75,7 +75,7 @@ module _ (N : ℕ) (f : ℕ → ℕ) (pos : 0 < N) (fits : N ≤ 2 ^ most_words)
             least = extend (λ z. found.steps ≤ cycle_length N f z) x t.least (omega arith);
             first = t.first;
             long = long_after;
-            passed = passed-after;
+            passed = passed_after;
           }
 
       pub tried_better : n < found.steps → Tried N f (x + 1) (record { start = x; steps = n }) after
@@ -86,12 +86,12 @@ module _ (N : ℕ) (f : ℕ → ℕ) (pos : 0 < N) (fits : N ≤ 2 ^ most_words)
             least = extend (λ z. n ≤ cycle_length N f z) x (λ z h. omega (arith, t.least z h)) (omega arith);
             first = λ z h. omega (arith, t.least z h);
             long = long_after;
-            passed = passed-after;
+            passed = passed_after;
           }
 
   -- all tried
-  pub tried-all : (found : Found) (marks : List ℕ) → Tried N f N found marks → Shortest N f found.start
-  tried-all found marks t =
+  pub tried_all : (found : Found) (marks : List ℕ) → Tried N f N found marks → Shortest N f found.start
+  tried_all found marks t =
       record {
         below = t.start;
         least = λ z l. omega (arith, t.steps, t.least z l);

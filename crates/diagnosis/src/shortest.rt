@@ -8,7 +8,7 @@ ghost use Rattle.diagnosis.specs.Marks.{entry_of, TableOf, marks_along, Tried};
 use tsc::TABLE_SIZE;
 
 // Where a cycle starts, and how often the table is followed till it returns.
-#[derive(Drop)]
+#[derive(Clone, Copy)]
 pub struct Found {
     pub start: usize,
     pub steps: usize,

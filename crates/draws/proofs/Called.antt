@@ -13,12 +13,12 @@ use Rattle.tsc.specs.Coverage.{IsState, step_back}
 use Rattle.tsc.specs.Step.{step}
 use Rattle.tsc.specs.Word.{word}
 use Rattle.tsc.proofs.Step.{step_in_range}
-use Rattle.tsc.proofs.StepBack.{step_back_in_range, back_of_step_lem, step_of_back_lem, back-only}
+use Rattle.tsc.proofs.StepBack.{step_back_in_range, back_of_step_lem, step_of_back_lem, back_only}
 use Rattle.tsc.proofs.Word.{word_lt}
 use Rattle.card_format.specs.Reading.{card_of}
 use Rattle.card_format.specs.Verdict.{Accepted}
 use Rattle.cycle.proofs.Lists.{take-filled}
-use Rattle.card_format.proofs.Verdict.{accepted-card}
+use Rattle.card_format.proofs.Verdict.{accepted_card}
 use Rattle.draws.specs.declared.Draw.TheVariants.{Word, Refused}
 use Rattle.stepping.specs.State.{used, Holds, holding}
 use Rattle.stepping.proofs.Holding.{held, holds}
@@ -30,13 +30,13 @@ pub only-before : (card : Card) → Accepted card → (xs : List ℕ) → IsStat
 only-before card ok xs sx = (
   step_back_in_range card xs sx,
   step_of_back_lem card ok.formed ok.period xs sx,
-  λ zs sz. back-only card ok.formed ok.period zs xs sz sx,
+  λ zs sz. back_only card ok.formed ok.period zs xs sz sx,
 )
 
 -- a call that is refused, whatever else it promises of an answer 0
-pub call-refused : (bytes xs ys : List ℕ) (A : Type 0) (r : ℕ) → r ≡ refusal_for bytes xs → r ≢ 0
+pub call_refused : (bytes xs ys : List ℕ) (A : Type 0) (r : ℕ) → r ≡ refusal_for bytes xs → r ≢ 0
     → (r ≡ refusal_for bytes xs) × ((xs ≡ unless_refused bytes xs ys) × (r ≡ 0 → A))
-call-refused bytes xs ys A r e ne = (e, (unless_refused_lem bytes xs ys (λ z. ne (e ∙ z)), λ z. absurd (ne z)))
+call_refused bytes xs ys A r e ne = (e, (unless_refused_lem bytes xs ys (λ z. ne (e ∙ z)), λ z. absurd (ne z)))
 
 -- a state as it is stored over n lent words
 pub stored : (card : Card) (n : ℕ) (ys : List ℕ) (s : State) → n ≡ card.words → IsState card ys → s ≡ holding ys → take n s.words ≡ ys
@@ -46,7 +46,7 @@ stored card n ys s e sy h = ap (λ (s : State). take n s.words) h ∙ take-fille
 
 module _ {bytes xs : List ℕ} {card : Card} (k : Clear bytes xs card) where
   taken : Accepted (card_of bytes)
-  taken = accepted-card bytes (passed bytes xs k.none).0
+  taken = accepted_card bytes (passed bytes xs k.none).0
 
   pub in_range : IsState (card_of bytes) xs
   in_range = (passed bytes xs k.none).1
@@ -66,10 +66,10 @@ module _ {bytes xs : List ℕ} {card : Card} (k : Clear bytes xs card) where
     of_values f = ap₂ f k.card_is (ap₂ used k.card_is e ∙ held (card_of bytes) xs in_range)
 
   -- what step and step back promise of the words ys that they leave, once s is worked out from the values and stored
-  pub step-made : {lent s : State} {ys : List ℕ} → lent ≡ holding xs → s ≡ holding (step card (used card lent)) → ys ≡ take (length xs) s.words
+  pub step_made : {lent s : State} {ys : List ℕ} → lent ≡ holding xs → s ≡ holding (step card (used card lent)) → ys ≡ take (length xs) s.words
       → (0 ≡ refusal_for bytes xs) × ((ys ≡ stepped bytes xs) × (zero ≡ 0 → IsState (card_of bytes) ys × (step_back (card_of bytes) ys ≡ xs)))
   unfolding stepped
-  step-made {lent} {s} {ys} el h e =
+  step_made {lent} {s} {ys} el h e =
       let card = card_of bytes in
       let state = step_in_range card xs in
       let made = h ∙ of_values el (λ c w. holding (step c w)) in
@@ -81,10 +81,10 @@ module _ {bytes xs : List ℕ} {card : Card} (k : Clear bytes xs card) where
         ),
       )
 
-  pub step-back-made : {lent s : State} {ys : List ℕ} → lent ≡ holding xs → s ≡ holding (step_back card (used card lent)) → ys ≡ take (length xs) s.words
+  pub step_back_made : {lent s : State} {ys : List ℕ} → lent ≡ holding xs → s ≡ holding (step_back card (used card lent)) → ys ≡ take (length xs) s.words
       → (0 ≡ refusal_for bytes xs) × ((ys ≡ stepped_back bytes xs) × (zero ≡ 0 → OnlyBefore (card_of bytes) ys xs))
   unfolding stepped_back
-  step-back-made {lent} {s} {ys} el h e =
+  step_back_made {lent} {s} {ys} el h e =
       let card = card_of bytes in
       let before = only-before card taken xs in_range in
       let made = h ∙ of_values el (λ c w. holding (step_back c w)) in
@@ -124,4 +124,4 @@ pub draw_made : {bytes xs : List ℕ} {card : Card} → Clear bytes xs card → 
 draw_made {bytes} {xs} k {v} el ev es ey =
     let card = card_of bytes in
     let drawn : v ≡ word card (step card xs) = ev ∙ of_values k el (λ c w. word c (step c w)) in
-    (drawing-word bytes xs v drawn k.none, ((step-made k el es ey).1.0, λ w h. narrow-word card (step card xs) v w drawn h))
+    (drawing-word bytes xs v drawn k.none, ((step_made k el es ey).1.0, λ w h. narrow-word card (step card xs) v w drawn h))

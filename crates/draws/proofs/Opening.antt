@@ -9,7 +9,7 @@ use native.Mathlib.Omega.{arith}
 use borrow.Author.Tests.{eq-eqb, ne_eqb, eqb-true, lt-ltb, ltb-true, not-false}
 use lib.Dec.{eqb, ltb}
 use lib.ListN.{length, get_or}
-use Rattle.cycle.proofs.Every.{every-at, every_of}
+use Rattle.cycle.proofs.Every.{every_at, every_of}
 use Rattle.tsc.specs.declared.Card.{Card}
 use Rattle.tsc.specs.Coverage.{IsState}
 use Rattle.refusals.specs.Refusals.{first_of, NoneApplies}
@@ -26,9 +26,9 @@ pub record Clear (bytes xs : List ℕ) (card : Card) : Type 0 where
   pub card_is : card ≡ card_of bytes
 
 module _ (bytes xs : List ℕ) where
-  pub refusal-card : verdict bytes ≢ 0 → verdict bytes ≡ refusal_for bytes xs
+  pub refusal_card : verdict bytes ≢ 0 → verdict bytes ≡ refusal_for bytes xs
   unfolding verdict refusal_for
-  refusal-card ne = sym (first-left (card_checks bytes) (state_checks (card_of bytes).words (card_of bytes).width xs) ne)
+  refusal_card ne = sym (first-left (card_checks bytes) (state_checks (card_of bytes).words (card_of bytes).width xs) ne)
 
   pub refusal-state : verdict bytes ≡ 0 → first_of (state_checks (card_of bytes).words (card_of bytes).width xs) ≡ refusal_for bytes xs
   unfolding verdict refusal_for
@@ -43,7 +43,7 @@ module _ (bytes xs : List ℕ) where
       let state = none_right (card_checks bytes) (state_checks (card_of bytes).words (card_of bytes).width xs) none in
       let size : length xs ≡ (card_of bytes).words = eqb-true (length xs) (card_of bytes).words (not-false _ state.0) in (
         first-none (card_checks bytes) (none_left (card_checks bytes) (state_checks (card_of bytes).words (card_of bytes).width xs) none),
-        (size, λ k l. ltb-true (get_or xs k 0) (2 ^ n) (every-at (length xs) (λ k. ltb (get_or xs k 0) (2 ^ n)) (not-false _ state.1.0) k (omega arith))),
+        (size, λ k l. ltb-true (get_or xs k 0) (2 ^ n) (every_at (length xs) (λ k. ltb (get_or xs k 0) (2 ^ n)) (not-false _ state.1.0) k (omega arith))),
       )
 
   -- and the other way round
@@ -68,7 +68,7 @@ module _ (bytes xs : List ℕ) where
 
       go : Dec (verdict bytes ≡ 0) → answer (answering (verdict bytes) (card_of bytes)) ≡ refusal_for bytes xs
       go (yes z) = simp (eq-eqb (verdict bytes) 0 z) (refusal-state z)
-      go (no ne) = simp (ne_eqb (verdict bytes) 0 ne) (refusal-card ne)
+      go (no ne) = simp (ne_eqb (verdict bytes) 0 ne) (refusal_card ne)
 
   -- and where there is none, the card's values are those found
   pub clear : (found : Reading) → found ≡ accepting bytes → refusal_for bytes xs ≡ 0 → Clear bytes xs found.card

@@ -10,7 +10,7 @@ use native.Mathlib.Omega.{arith}
 use lib.ListN.{length, take, drop, length-set}
 use lib.Seq.{paste, paste-zero, paste-suc, take_all}
 use Rattle.cycle.specs.Notation.{iterate}
-use Rattle.cycle.proofs.Iterate.{iterate-add}
+use Rattle.cycle.proofs.Iterate.{iterate_add}
 use Rattle.tsc.specs.Word.{orbit_words}
 use Rattle.tsc.proofs.Word.{length-orbit_words, orbit_words_at}
 use Rattle.card_format.specs.Reading.{card_of}
@@ -18,7 +18,7 @@ use Rattle.draws.specs.declared.Draw.{Draw}
 use Rattle.draws.specs.declared.Draw.TheVariants.{Word, Refused}
 use Rattle.draws.specs.Calls.{refusal_for, stepped, drawing}
 use Rattle.draws.proofs.Called.{drawing-refused}
-use Rattle.draws.proofs.Draws.{never-refused, draws-state, draws-word, refused-state}
+use Rattle.draws.proofs.Draws.{never_refused, draws-state, draws-word, refused-state}
 use Rattle.fills.specs.Draws.{with_draw, drawn_strip}
 
 length-with_draw : (strip : List ℕ) (place : ℕ) (d : Draw) → length (with_draw strip place d) ≡ length strip
@@ -26,7 +26,7 @@ length-with_draw strip place (Word w) = length-set strip place w
 length-with_draw strip place (Refused r) = refl
 
 pub drawn-state-append : (bytes xs : List ℕ) (j k : ℕ) → iterate (stepped bytes) (j + k) xs ≡ iterate (stepped bytes) k (iterate (stepped bytes) j xs)
-drawn-state-append bytes xs j k = ap (λ (t : ℕ). iterate (stepped bytes) t xs) (add_comm j k) ∙ iterate-add (stepped bytes) k j xs
+drawn-state-append bytes xs j k = ap (λ (t : ℕ). iterate (stepped bytes) t xs) (add_comm j k) ∙ iterate_add (stepped bytes) k j xs
 
 module _ (bytes xs strip : List ℕ) (place : ℕ) where
   pub length-drawn_strip : (t : ℕ) → length (drawn_strip bytes xs strip place t) ≡ length strip
@@ -72,9 +72,9 @@ module _ (bytes xs strip : List ℕ) (place : ℕ) where
         ∙ ap (λ (r : List ℕ). take place strip ++ r ++ drop (place + count) strip) (take_all count row (le_of_eq (length-orbit_words (card_of bytes) xs count)))
 
 -- draws change nothing of whether a draw is refused
-pub drawn-told : (bytes xs : List ℕ) (t : ℕ) → refusal_for bytes (iterate (stepped bytes) t xs) ≡ refusal_for bytes xs
-drawn-told bytes xs t = go (ℕ_discrete (refusal_for bytes xs) 0)
+pub drawn_told : (bytes xs : List ℕ) (t : ℕ) → refusal_for bytes (iterate (stepped bytes) t xs) ≡ refusal_for bytes xs
+drawn_told bytes xs t = go (ℕ_discrete (refusal_for bytes xs) 0)
   where
     go : Dec (refusal_for bytes xs ≡ 0) → refusal_for bytes (iterate (stepped bytes) t xs) ≡ refusal_for bytes xs
-    go (yes z) = ap (refusal_for bytes) (draws-state bytes xs z t) ∙ never-refused bytes xs z t ∙ sym z
+    go (yes z) = ap (refusal_for bytes) (draws-state bytes xs z t) ∙ never_refused bytes xs z t ∙ sym z
     go (no n) = ap (refusal_for bytes) (refused-state bytes xs n t)

@@ -11,9 +11,9 @@ use Rattle.tsc.specs.Word.{orbit_words}
 use Rattle.tsc.proofs.Step.{orbit_in_range}
 use Rattle.tsc.proofs.Word.{length-orbit_words}
 use Rattle.refusals.specs.Refusals.{first_of}
-use Rattle.refusals.proofs.Refusals.{first-left, first_right, first-both}
+use Rattle.refusals.proofs.Refusals.{first-left, first_right, first_both}
 use Rattle.card_format.specs.Reading.{card_of}
-use Rattle.cycle.proofs.Lists.{put-part}
+use Rattle.cycle.proofs.Lists.{put_part}
 use Rattle.stepping.specs.State.{used, holding}
 use Rattle.tsc.specs.declared.Card.{Card}
 use Rattle.draws.specs.Calls.{call_checks, refusal_for}
@@ -24,9 +24,9 @@ use Rattle.spans.proofs.Span.{span_within}
 use Rattle.fills.specs.Fills.{fill_refusal, filled, filled_state}
 
 module _ (bytes xs strip : List ℕ) (place count : ℕ) where
-  pub refusal-call : refusal_for bytes xs ≢ 0 → refusal_for bytes xs ≡ fill_refusal bytes xs strip place count
+  pub refusal_call : refusal_for bytes xs ≢ 0 → refusal_for bytes xs ≡ fill_refusal bytes xs strip place count
   unfolding refusal_for fill_refusal
-  refusal-call ne = sym (first-left (call_checks bytes xs) (span_checks (length strip) place count) ne)
+  refusal_call ne = sym (first-left (call_checks bytes xs) (span_checks (length strip) place count) ne)
 
   pub refusal_span : refusal_for bytes xs ≡ 0 → first_of (span_checks (length strip) place count) ≡ fill_refusal bytes xs strip place count
   unfolding refusal_for fill_refusal
@@ -35,7 +35,7 @@ module _ (bytes xs strip : List ℕ) (place count : ℕ) where
   -- no refusal: the call's checks are passed, and the span is in the strip
   pub fill_passed : fill_refusal bytes xs strip place count ≡ 0 → (refusal_for bytes xs ≡ 0) × (place + count ≤ length strip)
   unfolding refusal_for fill_refusal
-  fill_passed z = let b = first-both (call_checks bytes xs) (span_checks (length strip) place count) z in (b.0, span_within (length strip) place count b.1)
+  fill_passed z = let b = first_both (call_checks bytes xs) (span_checks (length strip) place count) z in (b.0, span_within (length strip) place count b.1)
 
   -- what a fill promises of its answer r, of the strip ws and of the state words ys that it leaves
   abbrev pub Promised : ℕ → List ℕ → List ℕ → Type 0
@@ -56,8 +56,8 @@ module _ (bytes xs strip : List ℕ) (place count : ℕ) where
   promised_passed z = rw z (refl, (refl, refl))
 
   -- refused by the card or the state, and by the span
-  pub refused-call : (r : ℕ) → r ≡ refusal_for bytes xs → r ≢ 0 → Promised r strip xs
-  refused-call r e ne = promised_refused r ne (e ∙ refusal-call (λ z. ne (e ∙ z)))
+  pub refused_call : (r : ℕ) → r ≡ refusal_for bytes xs → r ≢ 0 → Promised r strip xs
+  refused_call r e ne = promised_refused r ne (e ∙ refusal_call (λ z. ne (e ∙ z)))
 
   pub refused_span : {card : Card} → Clear bytes xs card → (r : ℕ) → r ≡ first_of (span_checks (length strip) place count) → r ≢ 0 → Promised r strip xs
   refused_span k r e ne = promised_refused r ne (e ∙ refusal_span k.none)
@@ -79,5 +79,5 @@ module _ (bytes xs strip : List ℕ) (place count : ℕ) where
         let part-is = ep ∙ of_values k el (λ c w. orbit_words c w count ++ drop count (take (length strip - place) (drop place strip))) in
         let size = length-orbit_words card xs count in
         let whole = ap back (part-is ∙ ap (λ (n : ℕ). words ++ drop n (take (length strip - place) (drop place strip))) (sym size))
-        ∙ put-part strip words place ∙ ap (λ (n : ℕ). take place strip ++ words ++ drop (place + n) strip) size in
+        ∙ put_part strip words place ∙ ap (λ (n : ℕ). take place strip ++ words ++ drop (place + n) strip) size in
         (done.0, (whole ∙ done.1.0, ey ∙ stored card (length xs) (orbit card xs count) s sx.0 (orbit_in_range card xs sx count) state ∙ done.1.1))

@@ -16,8 +16,8 @@ use Rattle.draws.proofs.Draws.{draws-state, refused-state, draws-undone}
 use Rattle.spans.proofs.Span.{span_fits}
 use Rattle.fills.specs.Fills.{fill_refusal, filled, filled_state}
 use Rattle.fills.specs.Draws.{drawn_strip, draws_made}
-use Rattle.fills.proofs.Filling.{refusal-call, refusal_span, fill_passed, fill_refused, promised_passed}
-use Rattle.fills.proofs.Draws.{length-drawn_strip, drawn-append, drawn-state-append, refused_strip, drawn-row, drawn-told}
+use Rattle.fills.proofs.Filling.{refusal_call, refusal_span, fill_passed, fill_refused, promised_passed}
+use Rattle.fills.proofs.Draws.{length-drawn_strip, drawn-append, drawn-state-append, refused_strip, drawn-row, drawn_told}
 
 module _ (bytes xs strip : List ℕ) (place count : ℕ) where
   -- what a fill leaves is what so many draws leave
@@ -27,7 +27,7 @@ module _ (bytes xs strip : List ℕ) (place count : ℕ) where
   -- with a card and a state that are refused nothing is drawn
   as_refused : (t : ℕ) → refusal_for bytes xs ≢ 0 → As t
   as_refused t n =
-      let r = fill_refused bytes xs strip place count (λ z. n (refusal-call bytes xs strip place count n ∙ z)) in
+      let r = fill_refused bytes xs strip place count (λ z. n (refusal_call bytes xs strip place count n ∙ z)) in
       (r.0 ∙ sym (refused_strip bytes xs strip place n t), r.1 ∙ sym (refused-state bytes xs n t))
 
   module _ (room : place + count ≤ length strip) where
@@ -37,7 +37,7 @@ module _ (bytes xs strip : List ℕ) (place count : ℕ) where
       where
         go : Dec (refusal_for bytes xs ≡ 0) → fill_refusal bytes xs strip place count ≡ refusal_for bytes xs
         go (yes z) = sym (refusal_span bytes xs strip place count z) ∙ span_fits (length strip) place count room ∙ sym z
-        go (no n) = sym (refusal-call bytes xs strip place count n)
+        go (no n) = sym (refusal_call bytes xs strip place count n)
 
     fill_draws_in : As count
     fill_draws_in = go (ℕ_discrete (refusal_for bytes xs) 0)
@@ -87,7 +87,7 @@ fill_append bytes xs strip place j k room =
     let size : length ws ≡ length strip = ap length first.0 ∙ length-drawn_strip bytes xs strip place j in
     let behind : place + j + k ≤ length ws = omega arith in
     let second = fill_draws_in bytes ys ws (place + j) k behind in (
-      fill_told bytes ys ws (place + j) k behind ∙ ap (refusal_for bytes) first.1 ∙ drawn-told bytes xs j ∙ sym (fill_told bytes xs strip place (j + k) room),
+      fill_told bytes ys ws (place + j) k behind ∙ ap (refusal_for bytes) first.1 ∙ drawn_told bytes xs j ∙ sym (fill_told bytes xs strip place (j + k) room),
       second.0
           ∙ ap₂ (λ (ys ws : List ℕ). drawn_strip bytes ys ws (place + j) k) first.1 first.0 ∙ sym (drawn-append bytes xs strip place j k)
           ∙ sym both.0,

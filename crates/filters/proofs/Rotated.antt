@@ -12,7 +12,7 @@ use Rattle.tsc.specs.declared.Card.{Card}
 use Rattle.tsc.specs.declared.State.{State}
 use Rattle.tsc.specs.Constants.{most_words, filter_words}
 use Rattle.tsc.specs.Word.{◌⊞◌, ◌⋘◌, further}
-use Rattle.tsc.proofs.Word.{further-more}
+use Rattle.tsc.proofs.Word.{further_more}
 use Rattle.cycle.proofs.Digits.{get_d_tabulate}
 use Rattle.words.specs.Widths.{IsWidth}
 use Rattle.filters.specs.declared.filter.Rotations.{Rotations}
@@ -24,9 +24,9 @@ unfolding ◌⊞◌
 sum_lt n x y r e = rw e (mod-lt (x + y) (pow_pos n))
 
 -- a rotation by k modulo n is one by k
-rotated-mod : (n x k : ℕ) → ◌⋘◌ n x (k % n) ≡ ◌⋘◌ n x k
+rotated_mod : (n x k : ℕ) → ◌⋘◌ n x (k % n) ≡ ◌⋘◌ n x k
 unfolding ◌⋘◌
-rotated-mod n x k = rw mod-mod
+rotated_mod n x k = rw mod-mod
 
 module _ (t : Rotations) (rotations : List ℕ) (h : HasRotations t rotations) where
   -- rotation i
@@ -41,29 +41,29 @@ module _ (t : Rotations) (rotations : List ℕ) (h : HasRotations t rotations) w
 
   -- and what it gives
   pub rotated : (x i : ℕ) → let n = t.width.bits in ◌⋘◌ n x (get_or t.places i 0) ≡ ◌⋘◌ n x (get_or rotations i 0)
-  rotated x i = rw (place i) (rotated-mod t.width.bits x (get_or rotations i 0))
+  rotated x i = rw (place i) (rotated_mod t.width.bits x (get_or rotations i 0))
 
 -- the same of the further words, and a sum with one more of them
 module _ (t : Rotations) (h : HasFurther t) (j : ℕ) (l : j < most_words - filter_words) where
-  further-place : get_or t.further j 0 ≡ (filter_words + j) % t.width.bits
-  further-place =
+  further_place : get_or t.further j 0 ≡ (filter_words + j) % t.width.bits
+  further_place =
       ap (λ (a : List ℕ). get_or a j 0) h.1 ∙ get_d_tabulate (most_words - filter_words) (λ j. (filter_words + j) % t.width.bits) j l
 
-  pub further-rotatable : (x : ℕ) → let n = t.width.bits in x < 2 ^ n → IsWidth t.width × (x < 2 ^ n) × (get_or t.further j 0 < n)
-  further-rotatable x lx = (h.0, lx, rw further-place (mod-lt (filter_words + j) h.0.0))
+  pub further_rotatable : (x : ℕ) → let n = t.width.bits in x < 2 ^ n → IsWidth t.width × (x < 2 ^ n) × (get_or t.further j 0 < n)
+  further_rotatable x lx = (h.0, lx, rw further_place (mod-lt (filter_words + j) h.0.0))
 
-  pub further-next : (x : ℕ → ℕ) (word sum turned r : ℕ) → let n = t.width.bits in sum ≡ ◌⊞◌ n word (further n x j)
+  pub further_next : (x : ℕ → ℕ) (word sum turned r : ℕ) → let n = t.width.bits in sum ≡ ◌⊞◌ n word (further n x j)
       → turned ≡ ◌⋘◌ n (x (filter_words + j)) (get_or t.further j 0) → r ≡ ◌⊞◌ n sum turned → r ≡ ◌⊞◌ n word (further n x (j + 1))
   unfolding ◌⊞◌
-  further-next x word sum turned r es et er =
+  further_next x word sum turned r es et er =
       let n = t.width.bits in
       let N = 2 ^ n in
       let F = further n x j in
       let T = ◌⋘◌ n (x (filter_words + j)) (filter_words + j) in
-      let same : turned ≡ T = et ∙ ap (◌⋘◌ n (x (filter_words + j))) further-place ∙ rotated-mod n (x (filter_words + j)) (filter_words + j) in
+      let same : turned ≡ T = et ∙ ap (◌⋘◌ n (x (filter_words + j))) further_place ∙ rotated_mod n (x (filter_words + j)) (filter_words + j) in
       let order : T + (word + F) ≡ word + (F + T) = omega arith in
       er ∙ ap₂ (λ (a b : ℕ). (a + b) % N) es same ∙ ap (λ (a : ℕ). a % N) (add_comm ((word + F) % N) T) ∙ add-mod-mod T (word + F) N
-      ∙ ap (λ (a : ℕ). a % N) order ∙ ap (λ (a : ℕ). (word + a) % N) (sym (further-more n x j))
+      ∙ ap (λ (a : ℕ). a % N) order ∙ ap (λ (a : ℕ). (word + a) % N) (sym (further_more n x j))
 
 -- what a filter requires, of the rotations and the words
 pub chosen : (card : Card) (t : Rotations) (s : State) (rotations : List ℕ) → Filters card t s → cond (eqb card.filter 2) rotations2 rotations1 ≡ rotations

@@ -15,7 +15,7 @@ const FURTHER_WORDS: usize = MOST_WORDS - FILTER_WORDS;
 
 // What the filter of a card needs, worked out once for all the words of a call: the width, and by how many places each rotation goes, modulo n. Those of the
 // further words are 0 where there are none.
-#[derive(Drop)]
+#[derive(Clone, Copy)]
 pub struct Rotations {
     // m
     pub words: u32,

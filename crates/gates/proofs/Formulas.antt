@@ -3,7 +3,7 @@ use Rattle.std.proofs.Common.{◌≡◌, ℕ, zero, suc, ◌+◌, ◌-◌, ◌*�
 use lib.Bits.{and_lt, or_lt, xor_lt}
 use Rattle.cycle.specs.Notation.{every, iterate, bit}
 use Rattle.cycle.proofs.Bits.{bit-bit_and, bit-bit_or, bit-bit_xor, bit_not}
-use Rattle.cycle.proofs.Every.{every-at}
+use Rattle.cycle.proofs.Every.{every_at}
 use Rattle.tsc.specs.Columns.{column}
 use Rattle.tsc.specs.Step.{entry}
 use Rattle.tsc.proofs.Columns.{column_lt}
@@ -40,7 +40,7 @@ gives equation p c = every 4 (λ k. eqb (on_bits c (line equation k)) (bit k (it
 
 tested : (equation : List Formula) (p : ℕ) → every 16 (gives equation p) ≡ true → GivesPower equation p
 tested equation p h k c lk lc =
-    eqb-true _ _ (every-at 4 (λ k. eqb (on_bits c (line equation k)) (bit k (iterate (entry tsc1_card) p c))) (every-at 16 (gives equation p) h c lc) k lk)
+    eqb-true _ _ (every_at 4 (λ k. eqb (on_bits c (line equation k)) (bit k (iterate (entry tsc1_card) p c))) (every_at 16 (gives equation p) h c lc) k lk)
 
 -- document 002 (16) is S
 pub equation_16 : GivesPower equation16 1
@@ -54,7 +54,7 @@ equation_17 = tested equation17 2 refl
 
 chosen : (c : ℕ) → c < 8 → on_bits c choice ≡ cond (eqb (bit 2 c) 1) (bit 0 c) (bit 1 c)
 unfolding every on_bits
-chosen c l = eqb-true _ _ (every-at 8 (λ c. eqb (on_bits c choice) (cond (eqb (bit 2 c) 1) (bit 0 c) (bit 1 c))) refl c l)
+chosen c l = eqb-true _ _ (every_at 8 (λ c. eqb (on_bits c choice) (cond (eqb (bit 2 c) 1) (bit 0 c) (bit 1 c))) refl c l)
 
 -- ---- in each place of words u and v the one that z picks
 

@@ -24,7 +24,7 @@ use Rattle.card_format.specs.Verdict.{verdict, Accepted}
 use Rattle.card_format.specs.Examples.{p1, rows}
 use Rattle.card_format.proofs.Examples.{rows_hold}
 use Rattle.card_format.proofs.RoundTrip.{accepted-unique}
-use Rattle.card_format.proofs.Verdict.{accepted-card}
+use Rattle.card_format.proofs.Verdict.{accepted_card}
 use Rattle.gates.specs.Formulas.{Formula, on_words, equation16, equation17, line, choice}
 use Rattle.gates.specs.Tsc1.{tsc1_card, OnlyTsc1, GivesPower, gated, gate_step}
 use Rattle.gates.proofs.Formulas.{on_words_lt, bit-on_words, equation_16, equation_17, bit-choice, choice_lt}
@@ -32,16 +32,16 @@ use Rattle.gates.proofs.Formulas.{on_words_lt, bit-on_words, equation_16, equati
 -- ---- the card
 
 -- what the one byte 00 means
-pub card-p1 : card_of p1 ≡ tsc1_card
+pub card_p1 : card_of p1 ≡ tsc1_card
 unfolding fields field values_at words_of card_of
-card-p1 = refl
+card_p1 = refl
 
 p1-accepted : verdict p1 ≡ 0
 unfolding rows
 p1-accepted = rows_hold.0.0
 
 pub tsc1_accepted : Accepted tsc1_card
-tsc1_accepted = subst Accepted card-p1 (accepted-card p1 p1-accepted)
+tsc1_accepted = subst Accepted card_p1 (accepted_card p1 p1-accepted)
 
 -- a list of one entry is P1 exactly where that is 0
 pub one_zero : (bytes : List ℕ) → length bytes ≡ 1 → (eqb (get_or bytes 0 0) 0 ≡ true) ↔ (bytes ≡ p1)
@@ -56,11 +56,11 @@ one_zero bytes one = (
 
 -- what a call knows of the values of the card once it has asked
 pub only-p1 : (bytes : List ℕ) (card : Card) (r : Bool) → card ≡ card_of bytes → (r ≡ true) ↔ (bytes ≡ p1) → OnlyTsc1 r card
-only-p1 bytes card r e h t = e ∙ ap card_of (h.0 t) ∙ card-p1
+only-p1 bytes card r e h t = e ∙ ap card_of (h.0 t) ∙ card_p1
 
 -- no other accepted card has its values
 pub tsc1_alone : (bytes : List ℕ) → Bytes bytes → verdict bytes ≡ 0 → card_of bytes ≡ tsc1_card → bytes ≡ p1
-tsc1_alone bytes b z e = accepted-unique bytes p1 b (λ i l. one_byte i) z p1-accepted (e ∙ sym card-p1)
+tsc1_alone bytes b z e = accepted-unique bytes p1 b (λ i l. one_byte i) z p1-accepted (e ∙ sym card_p1)
   where
     one_byte : (i : ℕ) → get_or p1 i 0 < 256
     one_byte zero = omega arith
@@ -70,15 +70,15 @@ tsc1_alone bytes b z e = accepted-unique bytes p1 b (λ i l. one_byte i) z p1-ac
 
 module _ (ws : List ℕ) (all : length ws ≡ most_words) (fits : (k : ℕ) → get_or ws k 0 < 2 ^ 32) where
   -- any four words are a state
-  pub first-four : IsState tsc1_card (take 4 ws)
-  first-four = (length-take-le 4 ws (omega (arith, all)), λ k l. rw (get_or-take 4 ws k 0 l) (fits k))
+  pub first_four : IsState tsc1_card (take 4 ws)
+  first_four = (length-take-le 4 ws (omega (arith, all)), λ k l. rw (get_or-take 4 ws k 0 l) (fits k))
 
   -- word k
   abbrev word : ℕ → ℕ
   word k = get_or ws k 0
 
-  four-words : tabulate 4 word ≡ take 4 ws
-  four-words = tabulate-get_or 4 ws (omega (arith, all))
+  four_words : tabulate 4 word ≡ take 4 ws
+  four_words = tabulate-get_or 4 ws (omega (arith, all))
 
   -- document 002 (13) on four words of 32 bits, by sums that wrap
   pub selector-words : (a b s q d : ℕ) → a ≡ (word 2 + word 3) % 2 ^ 32 → b ≡ (word 1 + a) % 2 ^ 32 → s ≡ (word 0 + b) % 2 ^ 32
@@ -89,11 +89,11 @@ module _ (ws : List ℕ) (all : length ws ≡ most_words) (fits : (k : ℕ) → 
       let M = 2 ^ 32 in
       let low : word 3 ≡ bit_and (word 3) (M - 1) = sym (and_mask (word 3) 32 ∙ mod-eq_of_lt (fits 3)) in
       let ep : bit_and (word 0) (bit_and (word 1) (bit_and (word 2) (word 3))) ≡ and_words 32 (take 4 ws) =
-      ap (λ (e : ℕ). bit_and (word 0) (bit_and (word 1) (bit_and (word 2) e))) low ∙ ap (and_words 32) four-words in
+      ap (λ (e : ℕ). bit_and (word 0) (bit_and (word 1) (bit_and (word 2) e))) low ∙ ap (and_words 32) four_words in
       let es : s ≡ sum_words (take 4 ws) % M =
       hs ∙ ap (λ (e : ℕ). (word 0 + e) % M) (hb ∙ ap (λ (e : ℕ). (word 1 + e) % M) ha ∙ add-mod-mod (word 1) (word 2 + word 3) M)
       ∙ add-mod-mod (word 0) (word 1 + (word 2 + word 3)) M
-      ∙ ap (λ (e : ℕ). (word 0 + (word 1 + (word 2 + e))) % M) (sym (add-zero (word 3))) ∙ ap (λ (ys : List ℕ). sum_words ys % M) four-words in
+      ∙ ap (λ (e : ℕ). (word 0 + (word 1 + (word 2 + e))) % M) (sym (add-zero (word 3))) ∙ ap (λ (ys : List ℕ). sum_words ys % M) four_words in
       ap₂ bit_xor (ap₂ bit_xor (hq ∙ ap (λ (e : ℕ). (e + tsc1_constant) % M) ep) ep)
       (hd ∙ ap (λ (e : ℕ). e % M) (sym (two-mul s)) ∙ ap (λ (e : ℕ). 2 * e % M) es)
 
@@ -117,18 +117,18 @@ module _ (xs : List ℕ) (sx : IsState tsc1_card xs) where
     line_lt : (equation : List Formula) → line_word equation < 2 ^ 32
     line_lt equation = on_words_lt 32 xs fits (line equation k)
 
-    gated-at : get_or (gated xs z) k 0 ≡ on_words 32 (line_word equation16 ∷ line_word equation17 ∷ z ∷ []) choice
+    gated_at : get_or (gated xs z) k 0 ≡ on_words 32 (line_word equation16 ∷ line_word equation17 ∷ z ∷ []) choice
     unfolding gated
-    gated-at = get_d_tabulate 4 _ k lk
+    gated_at = get_d_tabulate 4 _ k lk
 
     gated_lt : get_or (gated xs z) k 0 < 2 ^ 32
-    gated_lt = rw gated-at (choice_lt 32 (line_word equation16) (line_word equation17) z (line_lt equation16) (line_lt equation17) lz)
+    gated_lt = rw gated_at (choice_lt 32 (line_word equation16) (line_word equation17) z (line_lt equation16) (line_lt equation17) lz)
 
     -- column i has gone once through the table where z has a 1, and twice where it has a 0
     gated-bit : (i : ℕ) → i < 32 → bit i (get_or (gated xs z) k 0) ≡ bit k (iterate (entry tsc1_card) (power tsc1_card (bit i z)) (column i xs))
     gated-bit i l =
         let b : Bool = eqb (bit i z) 1 in
-        ap (bit i) gated-at ∙ bit-choice 32 (line_word equation16) (line_word equation17) z (line_lt equation16) (line_lt equation17) lz i l
+        ap (bit i) gated_at ∙ bit-choice 32 (line_word equation16) (line_word equation17) z (line_lt equation16) (line_lt equation17) lz i l
         ∙ ap₂ (cond b) (line-bit equation16 1 equation_16 i l) (line-bit equation17 2 equation_17 i l)
         ∙ cond_ap (λ (p : ℕ). bit k (iterate (entry tsc1_card) p (column i xs))) b 1 2
 

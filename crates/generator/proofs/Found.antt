@@ -9,7 +9,7 @@ use Rattle.card_format.specs.Reading.{card_of}
 use Rattle.card_format.specs.Examples.{p1}
 use Rattle.draws.proofs.Opening.{Clear}
 use Rattle.gates.specs.Tsc1.{tsc1_card}
-use Rattle.gates.proofs.GateStep.{card-p1}
+use Rattle.gates.proofs.GateStep.{card_p1}
 
 pub clear_tsc1 : {bytes xs : List ℕ} {card : Card} {r : Bool} → Clear bytes xs card → (r ≡ true) ↔ (bytes ≡ p1) → r ≡ true → Clear bytes xs tsc1_card
-clear_tsc1 k h t = record { none = k.none; card_is = sym (ap card_of (h.0 t) ∙ card-p1) }
+clear_tsc1 k h t = record { none = k.none; card_is = sym (ap card_of (h.0 t) ∙ card_p1) }

@@ -56,7 +56,7 @@ pub fn print_card(card: &[u8]) {
 }
 
 // What was read: how many bytes stand at the front of the slice, and whether the read failed.
-#[derive(Drop)]
+#[derive(Clone, Copy)]
 struct Input {
     length: usize,
     failed: bool,

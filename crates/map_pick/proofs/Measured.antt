@@ -15,13 +15,13 @@ use Rattle.draws.specs.Calls.{call_checks}
 use Rattle.ties.specs.Ties.{most_shovels}
 use Rattle.ties.specs.Least.{SameTies}
 use Rattle.places.specs.Places.{Places, distances_of, paired, on_map, place_checks, Measurable}
-use Rattle.places.proofs.Places.{paired-parts, places-passed}
+use Rattle.places.proofs.Places.{paired-parts, places_passed}
 use Rattle.picks.specs.declared.Pick.{Pick}
 use Rattle.picks.specs.declared.Pick.TheVariants.{Refused}
 use Rattle.picks.specs.Picks.{picking, picked}
-use Rattle.picks.proofs.Choice.{pick-alike}
+use Rattle.picks.proofs.Choice.{pick_alike}
 use Rattle.map_picks.specs.MapPicks.{map_picking, map_picked}
-use Rattle.map_picks.proofs.Timed.{map-refused, refused-here, map-timed}
+use Rattle.map_picks.proofs.Timed.{map-refused, refused_here, map-timed}
 use Rattle.map_pick.specs.Measured.{can_measure}
 
 module _ (shovels : List ℕ) (xs ys : List ℤ) (mapped : Bool) where
@@ -35,32 +35,32 @@ module _ (shovels : List ℕ) (xs ys : List ℤ) (mapped : Bool) where
   -- 12, 13, 14 or 25
   pub unmeasured : can_measure shovels xs ys mapped ≡ false → first_of (place_checks shovels xs ys mapped) ≢ 0
   unmeasured f z =
-      let p = places-passed shovels xs ys mapped z in
-      true≢false (sym (both (both (both p.all-allowed p.is_paired) (lt-ltb 0 (length shovels) p.some)) (le-leb (length shovels) most_shovels p.few)) ∙ f)
+      let p = places_passed shovels xs ys mapped z in
+      true≢false (sym (both (both (both p.all_allowed p.is_paired) (lt-ltb 0 (length shovels) p.some)) (le-leb (length shovels) most_shovels p.few)) ∙ f)
 
 module _ (bytes state : List ℕ) (q : Places) where
-  abbrev mapped-all : Bool
-  mapped-all = on_map q.x q.y q.xs q.ys
+  abbrev mapped_all : Bool
+  mapped_all = on_map q.x q.y q.xs q.ys
 
-  pub measurable : can_measure q.shovels q.xs q.ys mapped-all ≡ true → Measurable q.x q.y q.xs q.ys × (0 < length q.xs) × (length q.xs ≤ most_shovels)
+  pub measurable : can_measure q.shovels q.xs q.ys mapped_all ≡ true → Measurable q.x q.y q.xs q.ys × (0 < length q.xs) × (length q.xs ≤ most_shovels)
   measurable h =
-      let m = measured-parts q.shovels q.xs q.ys mapped-all h in
+      let m = measured-parts q.shovels q.xs q.ys mapped_all h in
       let e = paired-parts q.shovels q.xs q.ys m.1 in
       (record { even = sym e.0 ∙ e.1; mapped = m.0 }, omega (arith, e.0, m.2), omega (arith, e.0, m.3))
 
   -- the refusal that is told then
-  pub told-refused : {r : ℕ} → can_measure q.shovels q.xs q.ys mapped-all ≡ false → r ≡ first_of (call_checks bytes state ++ place_checks q.shovels q.xs q.ys mapped-all)
+  pub told_refused : {r : ℕ} → can_measure q.shovels q.xs q.ys mapped_all ≡ false → r ≡ first_of (call_checks bytes state ++ place_checks q.shovels q.xs q.ys mapped_all)
       → (Refused r ≡ map_picking bytes state q) × (state ≡ map_picked bytes state q)
-  told-refused {r} f e =
-      let h = refused-here bytes state q (unmeasured q.shovels q.xs q.ys mapped-all f) in
+  told_refused {r} f e =
+      let h = refused_here bytes state q (unmeasured q.shovels q.xs q.ys mapped_all f) in
       map-refused bytes state q r (λ z. h.1 (sym e ∙ z)) (e ∙ h.0)
 
   -- the timed pick of times that tie as the distances do
-  pub told-picked : {p : Pick} {left times : List ℕ} → can_measure q.shovels q.xs q.ys mapped-all ≡ true → SameTies (distances_of q) times
+  pub told_picked : {p : Pick} {left times : List ℕ} → can_measure q.shovels q.xs q.ys mapped_all ≡ true → SameTies (distances_of q) times
       → p ≡ picking bytes state q.shovels times → left ≡ picked bytes state q.shovels times
       → (p ≡ map_picking bytes state q) × (left ≡ map_picked bytes state q)
-  told-picked {p} {left} {times} h s ep el =
-      let m = measured-parts q.shovels q.xs q.ys mapped-all h in
+  told_picked {p} {left} {times} h s ep el =
+      let m = measured-parts q.shovels q.xs q.ys mapped_all h in
       let t = map-timed bytes state q m.1 m.0 in
-      let a = pick-alike bytes state q.shovels (distances_of q) times s in
+      let a = pick_alike bytes state q.shovels (distances_of q) times s in
       (ep ∙ sym (t.0 ∙ a.0), el ∙ sym (t.1 ∙ a.1))

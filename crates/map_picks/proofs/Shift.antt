@@ -9,18 +9,18 @@ use Rattle.draws.specs.Calls.{stepped_back}
 use Rattle.places.specs.Places.{Places, distances_of}
 use Rattle.picks.specs.declared.Pick.{Pick}
 use Rattle.picks.specs.Picks.{words_taken}
-use Rattle.picks.proofs.Choice.{pick-order}
-use Rattle.picks.proofs.Steps.{pick-undone}
+use Rattle.picks.proofs.Choice.{pick_order}
+use Rattle.picks.proofs.Steps.{pick_undone}
 use Rattle.map_picks.specs.MapPicks.{map_pick_refusal, map_picking, map_picked}
 use Rattle.map_picks.specs.Shift.{Call, by_time, by_map, answer_to, state_left, mixed_answers, mixed_state, SameCall, AlikeCalls}
 use Rattle.map_picks.proofs.Timed.{map-refused, map-passed, map-timed}
-use Rattle.map_picks.proofs.Order.{map-pick-order}
+use Rattle.map_picks.proofs.Order.{map_pick_order}
 
-call-alike : (bytes state : List ℕ) (c d : Call) → SameCall c d → (answer_to bytes state d ≡ answer_to bytes state c) × (state_left bytes state d ≡ state_left bytes state c)
-call-alike bytes state (by_time q) (by_time r) h = pick-order bytes state q.shovels q.times r.shovels r.times h
-call-alike bytes state (by_map q) (by_map r) h = map-pick-order bytes state q r h
-call-alike bytes state (by_time q) (by_map r) h = absurd h
-call-alike bytes state (by_map q) (by_time r) h = absurd h
+call_alike : (bytes state : List ℕ) (c d : Call) → SameCall c d → (answer_to bytes state d ≡ answer_to bytes state c) × (state_left bytes state d ≡ state_left bytes state c)
+call_alike bytes state (by_time q) (by_time r) h = pick_order bytes state q.shovels q.times r.shovels r.times h
+call_alike bytes state (by_map q) (by_map r) h = map_pick_order bytes state q r h
+call_alike bytes state (by_time q) (by_map r) h = absurd h
+call_alike bytes state (by_map q) (by_time r) h = absurd h
 
 pub mixed_alike : (bytes state : List ℕ) (cs ds : List Call) → AlikeCalls cs ds
     → (mixed_answers bytes state ds ≡ mixed_answers bytes state cs) × (mixed_state bytes state ds ≡ mixed_state bytes state cs)
@@ -29,7 +29,7 @@ mixed_alike bytes state [] [] h = (refl, refl)
 mixed_alike bytes state [] (d ∷ ds) h = absurd h
 mixed_alike bytes state (c ∷ cs) [] h = absurd h
 mixed_alike bytes state (c ∷ cs) (d ∷ ds) h =
-    let o = call-alike bytes state c d h.0 in
+    let o = call_alike bytes state c d h.0 in
     let ih = mixed_alike bytes (state_left bytes state c) cs ds h.1 in (
       ap₂ (λ (a : Pick) (rest : List Pick). a ∷ rest) o.0 (ap (λ (ys : List ℕ). mixed_answers bytes ys ds) o.1 ∙ ih.0),
       ap (λ (ys : List ℕ). mixed_state bytes ys ds) o.1 ∙ ih.1,
@@ -47,6 +47,6 @@ module _ (bytes state : List ℕ) (q : Places) where
       go : Dec (map_pick_refusal bytes state q ≡ 0) → iterate (stepped_back bytes) (words_taken (map_picking bytes state q)) (map_picked bytes state q) ≡ state
       go (yes z) =
           let p = (map-passed bytes state q z).0 in
-          let t = map-timed bytes state q p.is_paired p.all-allowed in
-          ap₂ (λ (a : Pick) (ys : List ℕ). iterate (stepped_back bytes) (words_taken a) ys) t.0 t.1 ∙ pick-undone bytes state q.shovels (distances_of q)
+          let t = map-timed bytes state q p.is_paired p.all_allowed in
+          ap₂ (λ (a : Pick) (ys : List ℕ). iterate (stepped_back bytes) (words_taken a) ys) t.0 t.1 ∙ pick_undone bytes state q.shovels (distances_of q)
       go (no n) = let r = map-refused bytes state q (map_pick_refusal bytes state q) n refl in none-taken (map_picking bytes state q) (map_picked bytes state q) (sym (ap words_taken r.0)) (sym r.1)

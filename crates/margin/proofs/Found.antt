@@ -8,7 +8,7 @@ use borrow.Author.Tests.{leb-true}
 use lib.Dec.{leb}
 use lib.ListN.{length, get_or}
 use Rattle.cycle.specs.Notation.{first}
-use Rattle.cycle.proofs.First.{first-meets}
+use Rattle.cycle.proofs.First.{first_meets}
 use Rattle.tsc.specs.declared.Card.{Card}
 use Rattle.tsc.specs.declared.State.{State}
 use Rattle.tsc.specs.Word.{orbit_words}
@@ -32,14 +32,14 @@ use Rattle.outcomes.specs.Elsewhere.{elsewhere, Listed}
 use Rattle.candidates.specs.Best.{Sound, LeadsOver, BestOf}
 use Rattle.picks.specs.declared.Pick.TheVariants.{Shovel}
 use Rattle.picks.specs.Picks.{picking}
-use Rattle.picks.proofs.Picking.{pick-passed}
-use Rattle.picks.proofs.Choice.{ties-from-one, drawn-rank_lt}
+use Rattle.picks.proofs.Picking.{pick_passed}
+use Rattle.picks.proofs.Choice.{ties_from_one, drawn-rank_lt}
 use Rattle.pick.specs.declared.listing.Listing.{Listing}
 use Rattle.pick.proofs.Passed.{Free}
 use Rattle.margins.specs.declared.Nearest.{Nearest}
 use Rattle.margins.specs.declared.Margin.TheVariants.{Least, Refused}
 use Rattle.margins.specs.Margins.{Elsewhere, Tells, IsMargin}
-use Rattle.margins.proofs.Changed.{rank-at, at-rank, changed-pick, elsewhere_test}
+use Rattle.margins.proofs.Changed.{rank_at, at_rank, changed_pick_lem, elsewhere_test}
 use Rattle.margins.proofs.Answers.{margin_passed}
 
 -- what the search is given: the width and the words of the state, and the first place of the rank drawn
@@ -64,26 +64,26 @@ module _ (bytes xs shovels times : List ℕ) (given : Card) (l : Listing) (f : F
       ap₂ (λ (n : ℕ) (row : List ℕ). ranked n row k) width (d.words ∙ of_values f.clear d.lent (λ card xs. orbit_words card xs most_taken))
       ∙ ranked-row card xs k
 
-  rank-by : (k : ℕ) → (ranked known.width known.words k).rank ≡ drawn_rank card xs k
-  rank-by k = ap (λ (r : Ranked). r.rank) (by_row k)
+  rank_by : (k : ℕ) → (ranked known.width known.words k).rank ≡ drawn_rank card xs k
+  rank_by k = ap (λ (r : Ranked). r.rank) (by_row k)
 
   allowed : Allowed shovels times
-  allowed = (pick-passed bytes xs shovels times f.none).1
+  allowed = (pick_passed bytes xs shovels times f.none).1
 
   -- the chosen shovel
   found : (known.chosen < length times) × (has_rank shovels times (ranked known.width known.words (ties times)).rank known.chosen ≡ true)
   found =
       let r : ℕ = (ranked known.width known.words (ties times)).rank in
-      let low : r < ties times = rw (rank-by (ties times)) (drawn-rank_lt card xs (ties times) (ties-from-one bytes xs shovels times f.none).0) in
+      let low : r < ties times = rw (rank_by (ties times)) (drawn-rank_lt card xs (ties times) (ties_from_one bytes xs shovels times f.none).0) in
       let t = tie_of_rank shovels times allowed.once allowed.paired r low in
-      let m = first-meets (length times) (has_rank shovels times r) t.0 t.1.listed (rank-at shovels times r t.0 t.1) in
+      let m = first_meets (length times) (has_rank shovels times r) t.0 t.1.listed (rank_at shovels times r t.0 t.1) in
       subst (λ (p : ℕ). (p < length times) × (has_rank shovels times r p ≡ true)) (sym place) m
     where
       place : known.chosen ≡ first (length times) (has_rank shovels times (ranked known.width known.words (ties times)).rank)
       place = d.chosen ∙ ap (λ (k : ℕ). first (length times) (has_rank shovels times (ranked known.width known.words k).rank)) f.tied
 
   tie : TieAt shovels times (drawn_rank card xs (ties times)) known.chosen
-  tie = subst (λ (r : ℕ). TieAt shovels times r known.chosen) (rank-by (ties times)) (at-rank shovels times _ known.chosen found.0 found.1)
+  tie = subst (λ (r : ℕ). TieAt shovels times r known.chosen) (rank_by (ties times)) (at_rank shovels times _ known.chosen found.0 found.1)
 
   pub listed : Listed known shovels times
   listed =
@@ -99,7 +99,7 @@ module _ (bytes xs shovels times : List ℕ) (given : Card) (l : Listing) (f : F
 
   same_test : (ys : List ℕ) → elsewhere known shovels ys ≡ (leb (ties ys) (2 ^ card.width) && not (has_rank shovels ys (drawn_rank card xs (ties ys)) known.chosen))
   unfolding elsewhere
-  same_test ys = ap₂ (λ (n r : ℕ). leb (ties ys) (2 ^ n) && not (has_rank shovels ys r known.chosen)) width (rank-by (ties ys))
+  same_test ys = ap₂ (λ (n r : ℕ). leb (ties ys) (2 ^ n) && not (has_rank shovels ys r known.chosen)) width (rank_by (ties ys))
 
   wanted : (ys : List ℕ) → length ys ≡ length times → (elsewhere known shovels ys ≡ true) ↔ Elsewhere bytes xs shovels times ys
   wanted ys l =
@@ -118,31 +118,31 @@ module _ (bytes xs shovels times : List ℕ) (given : Card) (l : Listing) (f : F
       (refl, λ c k. h.leads c k.listed ((counts_same times Test (Elsewhere bytes xs shovels times) wanted c).1 k))
 
   module _ (c : Change) (h : BestOf shovels times Test (length times) (best.Least c)) where
-    pub found-counts : Counts times Test c
+    pub found_counts : Counts times Test c
     unfolding Sound
-    found-counts = h.sound
+    found_counts = h.sound
 
     least : LeastChange shovels times (Elsewhere bytes xs shovels times) c
     unfolding LeadsOver
-    least = least-same times Test (Elsewhere bytes xs shovels times) wanted shovels c (record { counts = found-counts; least = λ e k. h.leads e k.listed k })
+    least = least-same times Test (Elsewhere bytes xs shovels times) wanted shovels c (record { counts = found_counts; least = λ e k. h.leads e k.listed k })
 
     -- told with the pick by the words
-    pub found-least : (n : Nearest) → let ys = changed times c in let r = ranked known.width known.words (ties ys) in
+    pub found_least : (n : Nearest) → let ys = changed times c in let r = ranked known.width known.words (ties ys) in
         (n.seconds ≡ c.seconds) × (n.changed ≡ get_or shovels c.place 0) × (n.raised ≡ c.raised)
         → n.shovel ≡ chosen shovels ys r.rank → n.ties ≡ ties ys → n.taken ≡ r.taken → IsMargin bytes xs shovels times (Least n)
-    found-least n t es ek et = (margin_passed bytes xs shovels times f.none (Least n)).1 (c, least, tells)
+    found_least n t es ek et = (margin_passed bytes xs shovels times f.none (Least n)).1 (c, least, tells)
       where
         ys : List ℕ
         ys = changed times c
 
         within : ties ys ≤ 2 ^ card.width
-        within = leb-true (ties ys) _ ((and-eq-true_iff _ _).0 (sym (same_test ys) ∙ found-counts.wanted)).0
+        within = leb-true (ties ys) _ ((and-eq-true_iff _ _).0 (sym (same_test ys) ∙ found_counts.wanted)).0
 
         made : picking bytes xs shovels ys ≡ Shovel n.shovel n.ties n.taken
         made =
-            let number = ap (λ (r : ℕ). chosen shovels ys r) (sym (rank-by (ties ys))) ∙ sym es in
+            let number = ap (λ (r : ℕ). chosen shovels ys r) (sym (rank_by (ties ys))) ∙ sym es in
             let words = ap (λ (r : Ranked). r.taken) (sym (by_row (ties ys))) ∙ sym et in
-            sym (changed-pick bytes xs shovels times f.none known.chosen tie ys (length-changed times c) within) ∙ (λ i. Shovel (number i) (sym ek i) (words i))
+            sym (changed_pick_lem bytes xs shovels times f.none known.chosen tie ys (length-changed times c) within) ∙ (λ i. Shovel (number i) (sym ek i) (words i))
 
         tells : Tells bytes xs shovels times c n
         tells = record { seconds = t.0; shovel = t.1; direction = t.2; changed_pick = made }

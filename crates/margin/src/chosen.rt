@@ -18,7 +18,7 @@ use tries::row;
 use tsc::{Card, State};
 
 // The shovel, how many ties there are, and how many words are taken.
-#[derive(Drop)]
+#[derive(Clone, Copy)]
 pub struct Chosen {
     pub shovel: u16,
     pub ties: usize,

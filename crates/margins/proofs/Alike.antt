@@ -11,11 +11,11 @@ use Rattle.ties.proofs.Order.{length-reordered, get_or-reordered}
 use Rattle.tie_list.proofs.Allowed.{Allowed}
 use Rattle.changes.specs.declared.Change.{Change}
 use Rattle.changes.specs.Change.{changed}
-use Rattle.changes.proofs.Listing.{there, changed-reordered, counts-back, least-there}
+use Rattle.changes.proofs.Listing.{there, changed-reordered, counts_back, least_there}
 use Rattle.picks.specs.declared.Pick.{Pick}
 use Rattle.picks.specs.Picks.{pick_refusal, picking}
-use Rattle.picks.proofs.Picking.{pick-passed}
-use Rattle.picks.proofs.Choice.{refusal-reordered, pick-order}
+use Rattle.picks.proofs.Picking.{pick_passed}
+use Rattle.picks.proofs.Choice.{refusal-reordered, pick_order}
 use Rattle.margins.specs.declared.Nearest.{Nearest}
 use Rattle.margins.specs.declared.Margin.{Margin}
 use Rattle.margins.specs.declared.Margin.TheVariants.{Least, Refused}
@@ -24,8 +24,8 @@ use Rattle.margins.proofs.Answers.{Passed, margin_passed, margin_refused, margin
 
 module _ (bytes xs : List ℕ) (f : ℕ → ℕ) (shovels times : List ℕ) (s : Permutes (length shovels) f) where
   -- a pick of these shovels with any times
-  same-pick : (ys : List ℕ) → picking bytes xs (reordered f shovels) (reordered f ys) ≡ picking bytes xs shovels ys
-  same-pick ys = (pick-order bytes xs shovels ys (reordered f shovels) (reordered f ys) (record { order = f; permutes = s; numbers = λ i. reordered f shovels; durations = λ i. reordered f ys })).0
+  same_pick : (ys : List ℕ) → picking bytes xs (reordered f shovels) (reordered f ys) ≡ picking bytes xs shovels ys
+  same_pick ys = (pick_order bytes xs shovels ys (reordered f shovels) (reordered f ys) (record { order = f; permutes = s; numbers = λ i. reordered f shovels; durations = λ i. reordered f ys })).0
 
   abbrev Here : List ℕ → Type 0
   Here = Elsewhere bytes xs (reordered f shovels) (reordered f times)
@@ -33,8 +33,8 @@ module _ (bytes xs : List ℕ) (f : ℕ → ℕ) (shovels times : List ℕ) (s :
   abbrev There : List ℕ → Type 0
   There = Elsewhere bytes xs shovels times
 
-  same-elsewhere : (ys : List ℕ) → Here (reordered f ys) ↔ There ys
-  same-elsewhere ys = (λ h. there_of (same-pick times) (same-pick ys) h, λ h. there_of (sym (same-pick times)) (sym (same-pick ys)) h)
+  same_elsewhere : (ys : List ℕ) → Here (reordered f ys) ↔ There ys
+  same_elsewhere ys = (λ h. there_of (same_pick times) (same_pick ys) h, λ h. there_of (sym (same_pick times)) (sym (same_pick ys)) h)
     where
       there_of : {p q p₂ q₂ : Pick} → p ≡ p₂ → q ≡ q₂ → Apart p q → Apart p₂ q₂
       there_of {p} {q} {p₂} {q₂} a b h = subst (Apart p₂) b (subst (λ (p : Pick). Apart p q) a h)
@@ -44,23 +44,23 @@ module _ (bytes xs : List ℕ) (f : ℕ → ℕ) (shovels times : List ℕ) (s :
     permutes = subst (λ (n : ℕ). Permutes n f) allowed.paired s
 
     same : (ys : List ℕ) → length ys ≡ length times → Here (reordered f ys) ↔ There ys
-    same ys l = same-elsewhere ys
+    same ys l = same_elsewhere ys
 
-    tells-there : (c : Change) (n : Nearest) → c.place < length (reordered f times) → Tells bytes xs (reordered f shovels) (reordered f times) c n
+    tells_there : (c : Change) (n : Nearest) → c.place < length (reordered f times) → Tells bytes xs (reordered f shovels) (reordered f times) c n
         → Tells bytes xs shovels times (there f c) n
-    tells-there c n l t =
+    tells_there c n l t =
         let lc : c.place < length times = omega (arith, length-reordered f times) in
         record {
           seconds = t.seconds;
           shovel = t.shovel ∙ get_or-reordered f shovels c.place (omega (arith, allowed.paired));
           direction = t.direction;
-          changed_pick = sym (same-pick (changed times (there f c))) ∙ sym (ap (picking bytes xs (reordered f shovels)) (changed-reordered f times permutes c lc)) ∙ t.changed_pick;
+          changed_pick = sym (same_pick (changed times (there f c))) ∙ sym (ap (picking bytes xs (reordered f shovels)) (changed-reordered f times permutes c lc)) ∙ t.changed_pick;
         }
 
-    passed-there : (m : Margin) → Passed bytes xs (reordered f shovels) (reordered f times) m → Passed bytes xs shovels times m
-    passed-there (Refused r) h = (h.0, λ g k. let b = counts-back f times permutes There Here same g k in h.1 b.0 b.2)
-    passed-there (Least n) h =
-        (there f h.0, least-there f times permutes There Here same shovels allowed.paired h.0 h.1, tells-there h.0 n h.1.counts.listed h.2)
+    passed_there : (m : Margin) → Passed bytes xs (reordered f shovels) (reordered f times) m → Passed bytes xs shovels times m
+    passed_there (Refused r) h = (h.0, λ g k. let b = counts_back f times permutes There Here same g k in h.1 b.0 b.2)
+    passed_there (Least n) h =
+        (there f h.0, least_there f times permutes There Here same shovels allowed.paired h.0 h.1, tells_there h.0 n h.1.counts.listed h.2)
 
   same-refusal : pick_refusal bytes xs (reordered f shovels) (reordered f times) ≡ pick_refusal bytes xs shovels times
   same-refusal = refusal-reordered f shovels times s bytes xs
@@ -69,7 +69,7 @@ module _ (bytes xs : List ℕ) (f : ℕ → ℕ) (shovels times : List ℕ) (s :
   is_there m h = go (ℕ_discrete (pick_refusal bytes xs shovels times) 0)
     where
       go : Dec (pick_refusal bytes xs shovels times ≡ 0) → IsMargin bytes xs shovels times m
-      go (yes z) = (margin_passed bytes xs shovels times z m).1 (passed-there (pick-passed bytes xs shovels times z).1 m ((margin_passed bytes xs (reordered f shovels) (reordered f times) (same-refusal ∙ z) m).0 h))
+      go (yes z) = (margin_passed bytes xs shovels times z m).1 (passed_there (pick_passed bytes xs shovels times z).1 m ((margin_passed bytes xs (reordered f shovels) (reordered f times) (same-refusal ∙ z) m).0 h))
       go (no n) =
           let refused = (margin_refused bytes xs (reordered f shovels) (reordered f times) (λ z. n (sym same-refusal ∙ z)) m).0 h in
           (margin_refused bytes xs shovels times n m).1 (refused ∙ ap Refused same-refusal)

@@ -11,7 +11,7 @@ use Rattle.changes.specs.Change.{changed, Counts, LeastChange}
 use Rattle.changes.proofs.Listing.{least-one}
 use Rattle.picks.specs.declared.Pick.{Pick}
 use Rattle.picks.specs.Picks.{pick_refusal, words_taken}
-use Rattle.picks.proofs.Picking.{shovel_of, ties_of, pick-passed, picking-refused, picking-chosen}
+use Rattle.picks.proofs.Picking.{shovel_of, ties_of, pick_passed, picking-refused, picking-chosen}
 use Rattle.margins.specs.declared.Nearest.{Nearest}
 use Rattle.margins.specs.declared.Margin.{Margin}
 use Rattle.margins.specs.declared.Margin.TheVariants.{Least, Refused}
@@ -40,23 +40,23 @@ module _ (bytes xs shovels times : List ℕ) where
   Passed (Least n) = (c : Change) × LeastChange shovels times (Elsewhere bytes xs shovels times) c × Tells bytes xs shovels times c n
 
   -- the answer by another pick
-  by-pick : (m : Margin) {p q : Pick} → p ≡ q → Answer bytes xs shovels times p m → Answer bytes xs shovels times q m
-  by-pick m e = subst (λ (p : Pick). Answer bytes xs shovels times p m) e
+  by_pick : (m : Margin) {p q : Pick} → p ≡ q → Answer bytes xs shovels times p m → Answer bytes xs shovels times q m
+  by_pick m e = subst (λ (p : Pick). Answer bytes xs shovels times p m) e
 
   pub margin_passed : pick_refusal bytes xs shovels times ≡ 0 → (m : Margin) → IsMargin bytes xs shovels times m ↔ Passed m
   unfolding IsMargin
-  margin_passed z (Refused r) = let e = (picking-chosen bytes xs shovels times z).0 in (by-pick (Refused r) (sym e), by-pick (Refused r) e)
-  margin_passed z (Least n) = let e = (picking-chosen bytes xs shovels times z).0 in (by-pick (Least n) (sym e), by-pick (Least n) e)
+  margin_passed z (Refused r) = let e = (picking-chosen bytes xs shovels times z).0 in (by_pick (Refused r) (sym e), by_pick (Refused r) e)
+  margin_passed z (Least n) = let e = (picking-chosen bytes xs shovels times z).0 in (by_pick (Least n) (sym e), by_pick (Least n) e)
 
   pub margin_refused : pick_refusal bytes xs shovels times ≢ 0 → (m : Margin) → IsMargin bytes xs shovels times m ↔ (m ≡ Refused (pick_refusal bytes xs shovels times))
   unfolding IsMargin
-  margin_refused n m = let e = (picking-refused bytes xs shovels times _ n refl).0 in (by-pick m (sym e), by-pick m e)
+  margin_refused n m = let e = (picking-refused bytes xs shovels times _ n refl).0 in (by_pick m (sym e), by_pick m e)
 
   -- ---- where the pick is not refused
 
   module _ (none : pick_refusal bytes xs shovels times ≡ 0) where
     allowed : Allowed shovels times
-    allowed = (pick-passed bytes xs shovels times none).1
+    allowed = (pick_passed bytes xs shovels times none).1
 
     passed-one : (m m₂ : Margin) → Passed m → Passed m₂ → m ≡ m₂
     passed-one (Refused r) (Refused r₂) a b = ap Refused (a.0 ∙ sym b.0)

@@ -21,13 +21,13 @@ use Rattle.changes.proofs.Listing.{length-changed}
 use Rattle.picks.specs.declared.Pick.{Pick}
 use Rattle.picks.specs.declared.Pick.TheVariants as pick
 use Rattle.picks.specs.Picks.{pick_refusal, picking}
-use Rattle.picks.proofs.Picking.{pick-passed, picking-refused}
+use Rattle.picks.proofs.Picking.{pick_passed, picking-refused}
 use Rattle.picks.proofs.Choice.{drawn-rank_lt, pick_chooses}
 use Rattle.margins.specs.declared.Nearest.{Nearest}
 use Rattle.margins.specs.declared.Margin.{Margin}
 use Rattle.margins.specs.declared.Margin.TheVariants.{Least, Refused}
 use Rattle.margins.specs.Margins.{Apart, Elsewhere, Tells, IsMargin}
-use Rattle.margins.proofs.Changed.{rank-at, elsewhere_test}
+use Rattle.margins.proofs.Changed.{rank_at, elsewhere_test}
 use Rattle.margins.proofs.Answers.{Passed, margin_passed, margin_pick}
 
 -- a pick that is refused sends the truck nowhere
@@ -50,15 +50,15 @@ module _ (bytes xs shovels times : List ℕ) where
   told : (n : Nearest) → IsMargin bytes xs shovels times (Least n) → Passed bytes xs shovels times (Least n)
   told n h = (margin_passed bytes xs shovels times (margin_pick bytes xs shovels times n h) (Least n)).0 h
 
-  pub told-counts : (n : Nearest) → IsMargin bytes xs shovels times (Least n)
+  pub told_counts : (n : Nearest) → IsMargin bytes xs shovels times (Least n)
       → (c : Change) × Counts times (Elsewhere bytes xs shovels times) c × Tells bytes xs shovels times c n
-  told-counts n h = let t = told n h in (t.0, t.1.counts, t.2)
+  told_counts n h = let t = told n h in (t.0, t.1.counts, t.2)
 
-  pub told-least : (n : Nearest) → IsMargin bytes xs shovels times (Least n) → (e : Change) → Counts times (Elsewhere bytes xs shovels times) e
+  pub told_least : (n : Nearest) → IsMargin bytes xs shovels times (Least n) → (e : Change) → Counts times (Elsewhere bytes xs shovels times) e
       → let number = get_or shovels e.place 0 in
       (n.seconds ≤ e.seconds) × (n.seconds ≡ e.seconds → n.changed ≤ number)
       × (n.seconds ≡ e.seconds → n.changed ≡ number → n.raised ≡ true → e.raised ≡ true)
-  told-least n h e k =
+  told_least n h e k =
       let t = told n h in
       let l = t.1.least e k in
       let d = t.2 in (
@@ -84,10 +84,10 @@ module _ (bytes xs shovels times : List ℕ) where
         let card = card_of bytes in
         let ys : List ℕ = changed times c in
         let size : length ys ≡ length times = length-changed times c in
-        let ok = (pick-passed bytes xs shovels times none).1 in
+        let ok = (pick_passed bytes xs shovels times none).1 in
         let p = pick_chooses bytes xs shovels times none in
         let r : ℕ = drawn_rank card xs (ties ys) in
         let j = tie_of_rank shovels ys ok.once (ok.paired ∙ sym size) r (drawn-rank_lt card xs (ties ys) (ties-some ys (omega (arith, size)))) in
         let here : j.0 ≡ p.0 = omega (arith, size, j.1.listed, p.1.listed) in
         let t = (elsewhere_test bytes xs shovels times none p.0 p.1 ys size).0 k.wanted in
-        true≢false (sym (subst (λ (i : ℕ). has_rank shovels ys r i ≡ true) here (rank-at shovels ys r j.0 j.1)) ∙ not-true (has_rank shovels ys r p.0) ((and-eq-true_iff (leb (ties ys) (2 ^ card.width)) (not (has_rank shovels ys r p.0))).0 t).1)
+        true≢false (sym (subst (λ (i : ℕ). has_rank shovels ys r i ≡ true) here (rank_at shovels ys r j.0 j.1)) ∙ not-true (has_rank shovels ys r p.0) ((and-eq-true_iff (leb (ties ys) (2 ^ card.width)) (not (has_rank shovels ys r p.0))).0 t).1)

@@ -1,7 +1,7 @@
 // What margin answers, on the definitions. What that means is in specs/, and what holds of it in proofs/.
 
 // The least change of one shovel's time that sends the truck elsewhere, and the changed pick.
-#[derive(Drop)]
+#[derive(Clone, Copy)]
 pub struct Nearest {
     pub seconds: u32,
     pub changed: u16,
@@ -12,7 +12,7 @@ pub struct Nearest {
 }
 
 // What margin answers: that, or the refusal.
-#[derive(Drop)]
+#[derive(Clone, Copy)]
 pub enum Margin {
     Least(Nearest),
     Refused(u8),

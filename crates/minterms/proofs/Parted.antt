@@ -17,7 +17,7 @@ use Rattle.tsc.specs.Columns.{column}
 use Rattle.tsc.proofs.LowWords.{bit-column}
 use Rattle.words.specs.Masks.{HasBits}
 use Rattle.words.proofs.Masks.{cond_ap}
-use Rattle.words.proofs.Words.{words_from, words-next}
+use Rattle.words.proofs.Words.{words_from, words_next}
 use Rattle.columns.specs.Replace.{HasColumns, image_of}
 
 -- ---- the mask of an entry, from the last word to the first
@@ -41,11 +41,11 @@ same-column b d c l = go (ℕ_discrete d (c / 2)) (ℕ_discrete b (c % 2))
     go (yes e) (no ne) = simp (eq-eqb d (c / 2) e, ne_eqb (b + 2 * d) c (λ q. ne (omega arith))) (omega arith)
 
 -- one word more, for a loop that has come down to k: y has bit k - 1 of c in place i, and word k - 1 is to have the same there
-pub holds-next : (w m low c t y k : ℕ) (ws : List ℕ) → 0 < k → k ≤ m → m ≤ length ws → y < 2 ^ w → (i : ℕ) → i < w
+pub holds_next : (w m low c t y k : ℕ) (ws : List ℕ) → 0 < k → k ≤ m → m ≤ length ws → y < 2 ^ w → (i : ℕ) → i < w
     → bit i t ≡ holds low (c / 2 ^ k) (words_from k m ws) i → bit i y ≡ bit (k - 1) c
     → bit i (bit_and t (bit_xor (get_or ws (k - 1) 0) ((2 ^ w - 1) - y))) ≡ holds low (c / 2 ^ (k - 1)) (words_from (k - 1) m ws) i
 unfolding column
-holds-next w m low c t y k ws pos lk lm ly i l h b =
+holds_next w m low c t y k ws pos lk lm ly i l h b =
     let x : ℕ = get_or ws (k - 1) 0 in
     let d : ℕ = c / 2 ^ (k - 1) in
     let rest : ℕ = column i (words_from k m ws) in
@@ -56,13 +56,13 @@ holds-next w m low c t y k ws pos lk lm ly i l h b =
     (bit-bit_xor i x ((2 ^ w - 1) - y) ∙ ap (λ (a : ℕ). (bit i x + a) % 2) (bit_not w i y ly l ∙ ap (λ (a : ℕ). 1 - a) b))
     ∙ mul_assoc (bit i low) (one (eqb rest (d / 2))) ((bit i x + (1 - bit (k - 1) c)) % 2)
     ∙ ap (λ (a : ℕ). bit i low * a) (same-column (bit i x) rest d (bit_lt i x))
-    ∙ ap (λ (xs : List ℕ). holds low d xs i) (sym (words-next k m ws pos lk lm))
+    ∙ ap (λ (xs : List ℕ). holds low d xs i) (sym (words_next k m ws pos lk lm))
 
 -- ---- an entry's image put in, word after word
 
 -- y has the image's bit k in place i
-pub bit-put : (k t y image : ℕ) (ws : List ℕ) (i : ℕ) → bit i y ≡ bit k image → bit i (bit_or (get_or ws k 0) (bit_and t y)) ≡ bit k (bit_or (column i ws) (bit i t * image))
-bit-put k t y image ws i h =
+pub bit_put : (k t y image : ℕ) (ws : List ℕ) (i : ℕ) → bit i y ≡ bit k image → bit i (bit_or (get_or ws k 0) (bit_and t y)) ≡ bit k (bit_or (column i ws) (bit i t * image))
+bit_put k t y image ws i h =
     bit-bit_or i (get_or ws k 0) (bit_and t y)
     ∙ ap₂ max (sym (bit-column i ws k)) (bit-bit_and i t y ∙ ap (λ (a : ℕ). bit i t * a) h ∙ sym (bit-times k (bit i t) image (bit_lt i t)))
     ∙ sym (bit-bit_or k (column i ws) (bit i t * image))

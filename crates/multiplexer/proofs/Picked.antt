@@ -16,7 +16,7 @@ use Rattle.tsc.specs.Constants.{widest_width}
 use Rattle.tsc.specs.Columns.{column}
 use Rattle.tsc.proofs.Columns.{column_lt}
 use Rattle.words.specs.Masks.{HasBits}
-use Rattle.words.proofs.Words.{words_from, words-none, words-next, Below, below_next}
+use Rattle.words.proofs.Words.{words_from, words-none, words_next, Below, below_next}
 use Rattle.columns.specs.Few.{few_words}
 use Rattle.columns.specs.Replace.{image_of}
 use Rattle.multiplexer.specs.Leaves.{leaf_count, HasImages, HasLeaves, PickedAt, HasPicked}
@@ -106,7 +106,7 @@ module _ (m : ℕ) (ws t : List ℕ) where
       let even : size ≡ 2 * (size / 2) = omega arith in
       let row : HasPicked (2 * (size / 2)) t (upper k) r = subst (λ (n : ℕ). HasPicked n t (upper k) r) even a.1 in (
         omega arith,
-        subst (λ (xs : List ℕ). HasPicked (size / 2) t (λ i. column i xs) s) (sym (words-next k m ws p l h)) (λ j lj i li.
+        subst (λ (xs : List ℕ). HasPicked (size / 2) t (λ i. column i xs) s) (sym (words_next k m ws p l h)) (λ j lj i li.
             b j lj i li ∙ picked-half (size / 2) j (get_or ws (k - 1) 0) t r (upper k) lj row i li),
       )
 
@@ -123,9 +123,9 @@ pub kept_and : (n : ℕ) (t : List ℕ) (f : ℕ → ℕ) (low j v : ℕ) → Pi
 kept_and n t f low j v h i l = bit-bit_and i low v ∙ ap (λ (a : ℕ). bit i low * a) (h i l)
 
 -- the row that the selector x and the columns pick is that of the columns' images
-pub kept-all : (odd even t ws r : List ℕ) (x low k v : ℕ) → HasLeaves odd even t → few_words ≤ length ws → HasPicked (2 * few_words) t (λ i. column i (take few_words ws)) r
+pub kept_all : (odd even t ws r : List ℕ) (x low k v : ℕ) → HasLeaves odd even t → few_words ≤ length ws → HasPicked (2 * few_words) t (λ i. column i (take few_words ws)) r
     → k < few_words → KeptAt few_words r (λ i. bit i x) low k v → HasBits v (λ i. bit k (bit i low * image_of odd even (bit i x) (column i (take few_words ws))))
-kept-all odd even t ws r x low k v leaves e picked lk h i l =
+kept_all odd even t ws r x low k v leaves e picked lk h i l =
     let c : ℕ → ℕ = λ i. column i (take few_words ws) in
     let few : c i < 2 ^ few_words = subst (λ (n : ℕ). c i < 2 ^ n) (length-take-le few_words ws e) (column_lt i (take few_words ws)) in
     let image = picked-half few_words k x t r c lk picked i l ∙ leaves (bit i x) (c i) k (bit_lt i x) few lk i l in

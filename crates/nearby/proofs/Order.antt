@@ -23,25 +23,25 @@ module _ (f : ℕ → ℕ) (shovels distances : List ℕ) (limit : ℕ) (s : Per
   distance_at : (i : ℕ) → i < length distances → get_or distances₂ i 0 ≡ get_or distances (f i) 0
   distance_at = get_or-reordered f distances
 
-  within-at : (i : ℕ) → i < length distances → is_within distances₂ limit i ≡ is_within distances limit (f i)
-  within-at i l = ap (λ (d : ℕ). leb d limit) (distance_at i l)
+  within_at : (i : ℕ) → i < length distances → is_within distances₂ limit i ≡ is_within distances limit (f i)
+  within_at i l = ap (λ (d : ℕ). leb d limit) (distance_at i l)
 
-  number-at : (i : ℕ) → i < length distances → get_or shovels₂ i 0 ≡ get_or shovels (f i) 0
-  number-at i l = get_or-reordered f shovels i (omega arith)
+  number_at_lem : (i : ℕ) → i < length distances → get_or shovels₂ i 0 ≡ get_or shovels (f i) 0
+  number_at_lem i l = get_or-reordered f shovels i (omega arith)
 
   before_at : (j i : ℕ) → j < length distances → i < length distances → is_before shovels₂ distances₂ j i ≡ is_before shovels distances (f j) (f i)
-  before_at j i lj li = rw (distance_at j lj, distance_at i li, number-at j lj, number-at i li) refl
+  before_at j i lj li = rw (distance_at j lj, distance_at i li, number_at_lem j lj, number_at_lem i li) refl
 
   pub count-reordered : within_count distances₂ limit ≡ within_count distances limit
   unfolding within_count
-  count-reordered = rw (length-reordered f distances) (count_permute (length distances) f (is_within distances₂ limit) (is_within distances limit) s within-at)
+  count-reordered = rw (length-reordered f distances) (count_permute (length distances) f (is_within distances₂ limit) (is_within distances limit) s within_at)
 
-  place-reordered : (i : ℕ) → i < length distances → place_of shovels₂ distances₂ limit i ≡ place_of shovels distances limit (f i)
+  place_reordered : (i : ℕ) → i < length distances → place_of shovels₂ distances₂ limit i ≡ place_of shovels distances limit (f i)
   unfolding place_of
-  place-reordered i l =
+  place_reordered i l =
       rw (length-reordered f distances)
       (count_permute (length distances) f (λ j. is_within distances₂ limit j && is_before shovels₂ distances₂ j i) (λ j. is_within distances limit j && is_before shovels distances j (f i)) s
-      (λ j lj. ap₂ (λ (a b : Bool). a && b) (within-at j lj) (before_at j i lj l)))
+      (λ j lj. ap₂ (λ (a b : Bool). a && b) (within_at j lj) (before_at j i lj l)))
 
   once₂ : twice shovels₂ ≡ false
   once₂ = twice-reordered f shovels (subst (λ (n : ℕ). Permutes n f) (sym paired) s) ∙ once
@@ -59,9 +59,9 @@ module _ (f : ℕ → ℕ) (shovels distances : List ℕ) (limit : ℕ) (s : Per
           let i : ℕ = o.0 in
           let li : i < length distances = o.1 in
           let here : f i ≡ a.0 = o.2 in
-          let near = within-at i li ∙ ap (is_within distances limit) here ∙ a.2 in
-          let place = place-reordered i li ∙ ap (place_of shovels distances limit) here ∙ a.3 in
+          let near = within_at i li ∙ ap (is_within distances limit) here ∙ a.2 in
+          let place = place_reordered i li ∙ ap (place_of shovels distances limit) here ∙ a.3 in
           number_is shovels₂ distances₂ limit once₂ paired₂ p i (omega (arith, length-reordered f distances)) near place
-          ∙ number-at i li ∙ ap (λ (k : ℕ). get_or shovels k 0) here ∙ sym (number_is shovels distances limit once paired p a.0 a.1 a.2 a.3)
+          ∙ number_at_lem i li ∙ ap (λ (k : ℕ). get_or shovels k 0) here ∙ sym (number_is shovels distances limit once paired p a.0 a.1 a.2 a.3)
       go (no l) =
           number_past shovels₂ distances₂ limit once₂ paired₂ p (omega (arith, count-reordered)) ∙ sym (number_past shovels distances limit once paired p (omega arith))

@@ -12,13 +12,13 @@ use Rattle.cycle.proofs.Count.{count_ext}
 use Rattle.ties.specs.Ties.{is_tie, ties, rank, has_rank}
 use Rattle.ties.proofs.Least.{ties-some, ties_le}
 use Rattle.tries.specs.Tries.{ranked}
-use Rattle.changes.proofs.After.{LeastOther, tie_after, tie-after, count-after}
+use Rattle.changes.proofs.After.{LeastOther, tie_after, tie_after_lem, count_after}
 use Rattle.outcomes.specs.declared.Known.{Known}
 use Rattle.tie_others.specs.declared.others.Others.{Others}
 use Rattle.outcomes.specs.declared.outcome.Outcome.{Outcome}
 use Rattle.tie_others.specs.Others.{IsOthers}
 use Rattle.outcomes.specs.Elsewhere.{IsOutcome, elsewhere}
-use Rattle.tie_others.proofs.Joined.{having-all, others-least}
+use Rattle.tie_others.proofs.Joined.{having_all, others-least}
 
 module _ (shovels times : List ℕ) (i p v : ℕ) (li : i < length times) (lp : p < length times) (two : 1 < length times) (o : Others)
     (h : IsOthers shovels times i (get_or shovels p 0) (length times) o) where
@@ -37,15 +37,15 @@ module _ (shovels times : List ℕ) (i p v : ℕ) (li : i < length times) (lp : 
   ties-after : ties ys ≡ cond (ltb v x) 1 (o.ties + cond (eqb v x) 1 0)
   unfolding ties
   ties-after =
-      count_ext (length ys) _ _ (λ j l. sym (and-true (is_tie ys j))) ∙ count-after times i x li least v (λ j. true)
-      ∙ ap (λ (c : ℕ). cond (ltb v x) 1 (c + cond (eqb v x) 1 0)) (having-all times i (length times) x ∙ sym h.ties)
+      count_ext (length ys) _ _ (λ j l. sym (and-true (is_tie ys j))) ∙ count_after times i x li least v (λ j. true)
+      ∙ ap (λ (c : ℕ). cond (ltb v x) 1 (c + cond (eqb v x) 1 0)) (having_all times i (length times) x ∙ sym h.ties)
 
   rank-after : rank shovels ys (get_or shovels p 0) ≡ cond (ltb v x) (one (lower i)) (o.lower + cond (eqb v x) (one (lower i)) 0)
   unfolding rank
-  rank-after = count-after times i x li least v lower ∙ ap (λ (c : ℕ). cond (ltb v x) (one (lower i)) (c + cond (eqb v x) (one (lower i)) 0)) (sym h.lower)
+  rank-after = count_after times i x li least v lower ∙ ap (λ (c : ℕ). cond (ltb v x) (one (lower i)) (c + cond (eqb v x) (one (lower i)) 0)) (sym h.lower)
 
   tie-now : is_tie ys p ≡ tie_after times i x v p
-  tie-now = tie-after times i x li least v p lp
+  tie-now = tie_after_lem times i x li least v p lp
 
   pub outcome-below : v < x → IsOutcome shovels ys p (record { ties = 1; tie = eqb p i; rank = one (lower i) })
   outcome-below l =

@@ -13,7 +13,7 @@ use tie_others::others::Others;
 use tries::row;
 
 // The ties of a list: how many, whether the chosen shovel is one of them, and how many have a lower number than it.
-#[derive(Drop)]
+#[derive(Clone, Copy)]
 pub struct Outcome {
     pub ties: usize,
     pub tie: bool,

@@ -12,7 +12,7 @@ use stepping::step;
 use tsc::{State, TABLE_SIZE};
 
 // The state that a step comes to, and its word.
-#[derive(Drop)]
+#[derive(Clone, Copy)]
 pub struct Output {
     pub state: State,
     pub word: u32,

@@ -15,7 +15,7 @@ use lib.Dec.{eqb}
 use lib.Pow.{pow_pos}
 use Rattle.cycle.specs.Notation.{sum, every, tabulate, iterate}
 use Rattle.cycle.specs.Period.{LeastPeriod}
-use Rattle.cycle.proofs.Every.{every-at}
+use Rattle.cycle.proofs.Every.{every_at}
 use Rattle.cycle.proofs.Iterate.{iterate-below}
 use Rattle.tsc.specs.declared.Card.{Card}
 use Rattle.tsc.specs.Constants.{most_words}
@@ -26,7 +26,7 @@ use Rattle.tsc.specs.Coverage.{states}
 use Rattle.tsc.specs.Opposite.{opposite, Differs}
 use Rattle.tsc.proofs.Columns.{column-from_columns}
 use Rattle.tsc.proofs.Number.{state_of, state_of_in_range}
-use Rattle.tsc.proofs.ColumnPeriod.{half-moves, moves, opposite-by}
+use Rattle.tsc.proofs.ColumnPeriod.{half_moves, moves, opposite_by}
 use Rattle.tsc.proofs.WordPeriod.{word-period}
 use Rattle.card_format.specs.Verdict.{Accepted}
 
@@ -50,9 +50,9 @@ plain n second =
       sum_term = 0;
     }
 
-word-plain : (card : Card) (xs : List ℕ) → word card xs ≡ word (plain card.width (eqb card.filter 2)) xs
+word_plain : (card : Card) (xs : List ℕ) → word card xs ≡ word (plain card.width (eqb card.filter 2)) xs
 unfolding word plain
-word-plain card xs = rw (same (eqb card.filter 2)) refl
+word_plain card xs = rw (same (eqb card.filter 2)) refl
   where
     same : (b : Bool) → eqb (cond b 2 1) 2 ≡ b
     same true = refl
@@ -67,13 +67,13 @@ computed : every (suc most_words) (λ m. differing 32 true m && differing 32 fal
 unfolding sum every tabulate from_columns ◌⊞◌ ◌⋘◌ filter1 filter2 further word state_of top_only plain differing
 computed = refl
 
-words-differ : (m : ℕ) → m < suc most_words → (second : Bool) (c : ℕ) → c < 2 ^ m → c ≢ 0 → word (plain 32 second) (state_of m 32 0) ≢ word (plain 32 second) (top_only m 32 c)
+words_differ : (m : ℕ) → m < suc most_words → (second : Bool) (c : ℕ) → c < 2 ^ m → c ≢ 0 → word (plain 32 second) (state_of m 32 0) ≢ word (plain 32 second) (top_only m 32 c)
 unfolding differing
-words-differ m l second c lc ne =
-    let both = (and-eq-true_iff (differing 32 true m) (differing 32 false m)).0 (every-at (suc most_words) _ computed m l) in
+words_differ m l second c lc ne =
+    let both = (and-eq-true_iff (differing 32 true m) (differing 32 false m)).0 (every_at (suc most_words) _ computed m l) in
     let e : suc (c - 1) ≡ c = omega (arith, ne) in
     subst (λ (c : ℕ). word (plain 32 second) (state_of m 32 0) ≢ word (plain 32 second) (top_only m 32 c)) e
-    (eqb-false _ _ (not-true _ (every-at (2 ^ m - 1) _ (go second both.0 both.1) (c - 1) (omega (arith, ne)))))
+    (eqb-false _ _ (not-true _ (every_at (2 ^ m - 1) _ (go second both.0 both.1) (c - 1) (omega (arith, ne)))))
   where
     go : (b : Bool) → differing 32 true m ≡ true → differing 32 false m ≡ true → differing 32 b m ≡ true
     go true y n = y
@@ -109,7 +109,7 @@ module _ (card : Card) (a : Accepted card) where
   opposite_of_zeros : opposite card zeros ≡ top_only m n moved
   unfolding top_only moved iterate
   opposite_of_zeros =
-      opposite-by card a.formed a.period zeros (state_of_in_range m n 0) (λ i. cond (eqb (suc i) n) moved 0) (λ i l.
+      opposite_by card a.formed a.period zeros (state_of_in_range m n 0) (λ i. cond (eqb (suc i) n) moved 0) (λ i l.
       ap (iterate (entry card) (moves card i)) (column-zeros i l) ∙ go (eqb (suc i) n))
     where
       go : (b : Bool) → iterate (entry card) (cond b (2 ^ (m - 1)) 0) 0 ≡ cond b moved 0
@@ -120,8 +120,8 @@ module _ (card : Card) (a : Accepted card) where
   unfolding moved
   zeros_differ wide e =
       subst (λ (n : ℕ). word (plain n second) (state_of m n 0) ≢ word (plain n second) (top_only m n moved)) (sym wide)
-      (words-differ m (omega (arith, a.few)) second moved moved-below (half-moves card a.formed a.period 0 (pow_pos m)))
-      (sym (word-plain card zeros) ∙ e ∙ ap (word card) opposite_of_zeros ∙ word-plain card (top_only m n moved))
+      (words_differ m (omega (arith, a.few)) second moved moved-below (half_moves card a.formed a.period 0 (pow_pos m)))
+      (sym (word_plain card zeros) ∙ e ∙ ap (word card) opposite_of_zeros ∙ word_plain card (top_only m n moved))
     where
       second : Bool
       second = eqb card.filter 2

@@ -20,7 +20,7 @@ use Rattle.sample.specs.declared.draw.Sample.{Sample}
 use Rattle.sample.specs.Drawn.{sample}
 use Rattle.picks.specs.declared.Pick.TheVariants.{Shovel}
 use Rattle.picks.specs.Picks.{pick_refusal, picking, picked}
-use Rattle.picks.proofs.Picking.{pick-passed, picking-chosen, ties-few}
+use Rattle.picks.proofs.Picking.{pick_passed, picking-chosen, ties-few}
 use Rattle.pick.specs.declared.listing.Listing.{Listing}
 
 -- what a call goes on with once nothing is refused: the values, the list and its least time, and the ties
@@ -36,7 +36,7 @@ pub free : (bytes xs shovels times : List ℕ) (card : Card) (l : Listing) → C
     → (l.refusal ≡ 0 → LeastOf times (length times) l.least × (l.ties ≡ ties times)) → l.refusal ≡ 0 → Free bytes xs shovels times card l
 free bytes xs shovels times card l clear told found z =
     let none = sym told ∙ z in
-    let allowed = (pick-passed bytes xs shovels times none).1 in
+    let allowed = (pick_passed bytes xs shovels times none).1 in
     let t = found z in
     let number = rw (sym t.1) at (ties-few allowed) in
     record {
@@ -61,16 +61,16 @@ made {bytes} {xs} {shovels} {times} f er et ey es =
     ((λ i. Shovel (number i) (f.tied i) (words i)) ∙ answer.0, left ∙ answer.1)
 
 -- for one alone nothing is drawn
-pub made-alone : {bytes xs shovels times : List ℕ} {given : Card} {l : Listing} {s : ℕ} → Free bytes xs shovels times given l → l.ties ≡ 1 → s ≡ chosen shovels times 0
+pub made_alone : {bytes xs shovels times : List ℕ} {given : Card} {l : Listing} {s : ℕ} → Free bytes xs shovels times given l → l.ties ≡ 1 → s ≡ chosen shovels times 0
     → (Shovel s l.ties 0 ≡ picking bytes xs shovels times) × (xs ≡ picked bytes xs shovels times)
-made-alone {xs} {given} {l} f one es =
+made_alone {xs} {given} {l} f one es =
     let h = alone given xs l.ties one in
     made f (sym h.0) (sym (taken_none given xs l.ties one)) (sym h.1) es
 
 -- a rank drawn by value: the state held the words xs, and as many are stored
-pub rank-made : (card : Card) (xs : List ℕ) (k : ℕ) → IsState card xs → {lent : State} {d : Sample} {ys : List ℕ} → lent ≡ holding xs
+pub rank_made : (card : Card) (xs : List ℕ) (k : ℕ) → IsState card xs → {lent : State} {d : Sample} {ys : List ℕ} → lent ≡ holding xs
     → d ≡ sample card (used card lent) k → ys ≡ take (length xs) d.state.words
     → (d ≡ sample card xs k) × (ys ≡ drawn_state card xs k)
-rank-made card xs k sx el ed ey =
+rank_made card xs k sx el ed ey =
     let e : _ ≡ sample card xs k = ed ∙ ap (λ (s : State). sample card (used card s) k) el ∙ ap (λ (ws : List ℕ). sample card ws k) (held card xs sx) in
     (e, ey ∙ stored card (length xs) (drawn_state card xs k) _ sx.0 (orbit_in_range card xs sx _) (ap (λ (d : Sample). d.state) e))

@@ -12,7 +12,7 @@ use tie_list::check;
 use tie_time::time;
 
 // The first refusal of 12 to 15 and 18 that applies; or 0, the least time and how many shovels have it.
-#[derive(Drop)]
+#[derive(Clone, Copy)]
 pub struct Listing {
     pub refusal: u8,
     pub least: u32,

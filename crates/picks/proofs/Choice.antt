@@ -18,11 +18,11 @@ use Rattle.ties.proofs.Rank.{tie_of_rank, chosen_is}
 use Rattle.ties.proofs.Order.{length-reordered, ties-reordered, chosen-reordered, twice-reordered}
 use Rattle.ties.proofs.Alike.{same_count, same_chosen}
 use Rattle.tie_list.specs.Checks.{list_checks}
-use Rattle.tie_list.proofs.Allowed.{Allowed, list-allowed}
+use Rattle.tie_list.proofs.Allowed.{Allowed, list_allowed}
 use Rattle.samples.specs.Samples.{taken, drawn_rank, drawn_state, tie_checks}
 use Rattle.picks.specs.declared.Pick.TheVariants.{Shovel}
 use Rattle.picks.specs.Picks.{pick_refusal, picking, picked}
-use Rattle.picks.proofs.Picking.{pick-passed, picking-refused, picking-chosen, ties-few}
+use Rattle.picks.proofs.Picking.{pick_passed, picking-refused, picking-chosen, ties-few}
 
 -- ---- the choice
 
@@ -32,11 +32,11 @@ drawn-rank_lt card xs k = mod-lt (word card (drawn_state card xs k))
 
 module _ (bytes xs shovels times : List ℕ) (none : pick_refusal bytes xs shovels times ≡ 0) where
   allowed : Allowed shovels times
-  allowed = (pick-passed bytes xs shovels times none).1
+  allowed = (pick_passed bytes xs shovels times none).1
 
   -- k is from 1 to 64
-  pub ties-from-one : (0 < ties times) × (ties times ≤ most_shovels)
-  ties-from-one = ties-few allowed
+  pub ties_from_one : (0 < ties times) × (ties times ≤ most_shovels)
+  ties_from_one = ties-few allowed
 
   -- the chosen shovel is one of the ties, and has as many ties below it as the rank drawn says
   pub pick_chooses : let card = card_of bytes in
@@ -46,7 +46,7 @@ module _ (bytes xs shovels times : List ℕ) (none : pick_refusal bytes xs shove
       let card = card_of bytes in
       let k : ℕ = ties times in
       let r : ℕ = drawn_rank card xs k in
-      let t = tie_of_rank shovels times allowed.once allowed.paired r (drawn-rank_lt card xs k ties-from-one.0) in (
+      let t = tie_of_rank shovels times allowed.once allowed.paired r (drawn-rank_lt card xs k ties_from_one.0) in (
         t.0,
         t.1,
         sym (picking-chosen bytes xs shovels times none).0 ∙ ap (λ (s : ℕ). Shovel s k (taken card xs k)) (chosen_is shovels times r t.0 t.1),
@@ -74,18 +74,18 @@ module _ (f : ℕ → ℕ) (shovels times : List ℕ) (s : Permutes (length shov
         go : Dec (first_of (list_checks shovels times) ≡ 0)
             → first_of (list_checks shovels times ++ many (reordered f times)) ≡ first_of (list_checks shovels times ++ many times)
         go (yes z) =
-            ap (λ (k : ℕ). first_of (list_checks shovels times ++ tie_checks (card_of bytes).width k)) (ties-reordered f times (permutes-times (list-allowed shovels times z)))
+            ap (λ (k : ℕ). first_of (list_checks shovels times ++ tie_checks (card_of bytes).width k)) (ties-reordered f times (permutes-times (list_allowed shovels times z)))
         go (no n) = first-left (list_checks shovels times) _ n ∙ sym (first-left (list_checks shovels times) _ n)
 
-    pick-reordered : (picking bytes xs (reordered f shovels) (reordered f times) ≡ picking bytes xs shovels times)
+    pick_reordered : (picking bytes xs (reordered f shovels) (reordered f times) ≡ picking bytes xs shovels times)
         × (picked bytes xs (reordered f shovels) (reordered f times) ≡ picked bytes xs shovels times)
-    pick-reordered = go (ℕ_discrete (pick_refusal bytes xs shovels times) 0)
+    pick_reordered = go (ℕ_discrete (pick_refusal bytes xs shovels times) 0)
       where
         go : Dec (pick_refusal bytes xs shovels times ≡ 0)
             → (picking bytes xs (reordered f shovels) (reordered f times) ≡ picking bytes xs shovels times)
             × (picked bytes xs (reordered f shovels) (reordered f times) ≡ picked bytes xs shovels times)
         go (yes z) =
-            let ok = (pick-passed bytes xs shovels times z).1 in
+            let ok = (pick_passed bytes xs shovels times z).1 in
             let p = permutes-times ok in
             let card = card_of bytes in
             let k : ℕ = ties times in
@@ -103,14 +103,14 @@ module _ (f : ℕ → ℕ) (shovels times : List ℕ) (s : Permutes (length shov
             (sym a.0 ∙ b.0, sym a.1 ∙ b.1)
 
 -- THE ORDER MAKES NO DIFFERENCE: the same shovels with the same times in any order, the same answer and the same state, refusals included
-pub pick-order : (bytes xs shovels times shovels₂ times₂ : List ℕ) → SameShovels shovels times shovels₂ times₂
+pub pick_order : (bytes xs shovels times shovels₂ times₂ : List ℕ) → SameShovels shovels times shovels₂ times₂
     → (picking bytes xs shovels₂ times₂ ≡ picking bytes xs shovels times) × (picked bytes xs shovels₂ times₂ ≡ picked bytes xs shovels times)
-pick-order bytes xs shovels times shovels₂ times₂ h = rw (h.numbers, h.durations) (pick-reordered h.order shovels times h.permutes bytes xs)
+pick_order bytes xs shovels times shovels₂ times₂ h = rw (h.numbers, h.durations) (pick_reordered h.order shovels times h.permutes bytes xs)
 
 -- nothing of the times matters but which shovels tie
-pub pick-alike : (bytes xs shovels times times₂ : List ℕ) → SameTies times times₂
+pub pick_alike : (bytes xs shovels times times₂ : List ℕ) → SameTies times times₂
     → (picking bytes xs shovels times ≡ picking bytes xs shovels times₂) × (picked bytes xs shovels times ≡ picked bytes xs shovels times₂)
 unfolding pick_refusal picking picked list_checks
-pick-alike bytes xs shovels times times₂ s =
+pick_alike bytes xs shovels times times₂ s =
     let k = same_count times times₂ s in
     (rw (s.size, k, same_chosen times times₂ s shovels (drawn_rank (card_of bytes) xs (ties times₂))) refl, rw (s.size, k) refl)

@@ -13,10 +13,10 @@ use Rattle.tsc.specs.declared.Card.{Card}
 use Rattle.tsc.specs.Step.{orbit}
 use Rattle.tsc.specs.Coverage.{states}
 use Rattle.card_format.specs.Reading.{card_of}
-use Rattle.card_format.proofs.Verdict.{accepted-card}
+use Rattle.card_format.proofs.Verdict.{accepted_card}
 use Rattle.draws.specs.Calls.{refusal_for}
 use Rattle.draws.proofs.Opening.{passed}
-use Rattle.draws.proofs.Draws.{never-refused, orbit-lists}
+use Rattle.draws.proofs.Draws.{never_refused, orbit_lists}
 use Rattle.ties.specs.Ties.{is_tie, ties, rank, TieAt, chosen}
 use Rattle.ties.proofs.Rank.{rank_lt, tie_of_rank, chosen_is}
 use Rattle.tie_list.proofs.Allowed.{Allowed}
@@ -24,7 +24,7 @@ use Rattle.samples.specs.Samples.{limit, taken, drawn_rank}
 use Rattle.samples.proofs.Fair.{first-words_fair}
 use Rattle.picks.specs.Picks.{pick_refusal, picking}
 use Rattle.picks.specs.Fair.{sent_by_first}
-use Rattle.picks.proofs.Picking.{refusal-later, pick-passed, picking-chosen, ties-few}
+use Rattle.picks.proofs.Picking.{refusal_later, pick_passed, picking-chosen, ties-few}
 use Rattle.picks.proofs.Choice.{drawn-rank_lt}
 
 -- a rank below k chooses shovel i exactly where it is that shovel's
@@ -46,10 +46,10 @@ module _ (bytes xs shovels times : List ℕ) (none : pick_refusal bytes xs shove
   k = ties times
 
   call : refusal_for bytes xs ≡ 0
-  call = (pick-passed bytes xs shovels times none).0
+  call = (pick_passed bytes xs shovels times none).0
 
   allowed : Allowed shovels times
-  allowed = (pick-passed bytes xs shovels times none).1
+  allowed = (pick_passed bytes xs shovels times none).1
 
   -- the pick from a state of the orbit
   module _ (t : ℕ) where
@@ -57,7 +57,7 @@ module _ (bytes xs shovels times : List ℕ) (none : pick_refusal bytes xs shove
     ys = orbit card xs t
 
     clear : pick_refusal bytes ys shovels times ≡ 0
-    clear = sym (refusal-later bytes ys shovels times (never-refused bytes xs call t)) ∙ refusal-later bytes xs shovels times call ∙ none
+    clear = sym (refusal_later bytes ys shovels times (never_refused bytes xs call t)) ∙ refusal_later bytes xs shovels times call ∙ none
 
     sent : (i : ℕ) → i < length times → is_tie times i ≡ true → let number = get_or shovels i 0 in
         sent_by_first number (picking bytes ys shovels times) ≡ (eqb (taken card ys k) 1 && eqb (drawn_rank card ys k) (rank shovels times number))
@@ -71,6 +71,6 @@ module _ (bytes xs shovels times : List ℕ) (none : pick_refusal bytes xs shove
       → count (states (card_of bytes)) (λ t. sent_by_first (get_or shovels i 0) (picking bytes (orbit (card_of bytes) xs t) shovels times))
       ≡ limit (card_of bytes) (ties times) / ties times * 2 ^ (((card_of bytes).words - 1) * (card_of bytes).width)
   picks_fair n i l e =
-      let ok = accepted-card bytes (passed bytes xs call).0 in
+      let ok = accepted_card bytes (passed bytes xs call).0 in
       count_ext (states card) _ _ (λ t lt. sent t i l e)
-      ∙ first-words_fair card ok.formed ok.formed.words ok.period (orbit card xs) (orbit-lists bytes xs call) k _ n (rank_lt shovels times i l e)
+      ∙ first-words_fair card ok.formed ok.formed.words ok.period (orbit card xs) (orbit_lists bytes xs call) k _ n (rank_lt shovels times i l e)

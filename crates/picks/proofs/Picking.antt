@@ -8,13 +8,13 @@ use borrow.Author.Tests.{ne_eqb}
 use Rattle.tsc.specs.declared.Card.{Card}
 use Rattle.refusals.specs.Refusals.{Check, first_of}
 use Rattle.card_format.specs.Reading.{card_of}
-use Rattle.refusals.proofs.Refusals.{first-left, first_right, first-both}
+use Rattle.refusals.proofs.Refusals.{first-left, first_right, first_both}
 use Rattle.draws.specs.Calls.{call_checks, refusal_for}
 use Rattle.draws.proofs.Opening.{Clear}
 use Rattle.ties.specs.Ties.{most_shovels, ties, chosen}
 use Rattle.ties.proofs.Least.{ties-some, ties_le}
 use Rattle.tie_list.specs.Checks.{list_checks}
-use Rattle.tie_list.proofs.Allowed.{Allowed, list-allowed}
+use Rattle.tie_list.proofs.Allowed.{Allowed, list_allowed}
 use Rattle.samples.specs.Samples.{taken, drawn_rank, drawn_state, tie_checks}
 use Rattle.samples.proofs.Many.{ties-within}
 use Rattle.picks.specs.declared.Pick.{Pick}
@@ -39,28 +39,28 @@ module _ (bytes xs shovels times : List ℕ) where
   later = list_checks shovels times ++ many_checks
 
   -- the card or the state is refused, or else the list, or else the count of ties
-  pub told-call : (r : ℕ) → r ≡ refusal_for bytes xs → r ≢ 0 → r ≡ pick_refusal bytes xs shovels times
+  pub told_call : (r : ℕ) → r ≡ refusal_for bytes xs → r ≢ 0 → r ≡ pick_refusal bytes xs shovels times
   unfolding refusal_for pick_refusal
-  told-call r e ne = e ∙ sym (first-left (call_checks bytes xs) later (λ z. ne (e ∙ z)))
+  told_call r e ne = e ∙ sym (first-left (call_checks bytes xs) later (λ z. ne (e ∙ z)))
 
-  pub refusal-later : refusal_for bytes xs ≡ 0 → first_of later ≡ pick_refusal bytes xs shovels times
+  pub refusal_later : refusal_for bytes xs ≡ 0 → first_of later ≡ pick_refusal bytes xs shovels times
   unfolding refusal_for pick_refusal
-  refusal-later z = sym (first_right (call_checks bytes xs) later z)
+  refusal_later z = sym (first_right (call_checks bytes xs) later z)
 
   -- as it is looked at
-  pub told-later : {card : Card} → Clear bytes xs card → {n r : ℕ} → n ≡ card.width → r ≡ first_of (list_checks shovels times ++ tie_checks n (ties times))
+  pub told_later : {card : Card} → Clear bytes xs card → {n r : ℕ} → n ≡ card.width → r ≡ first_of (list_checks shovels times ++ tie_checks n (ties times))
       → r ≡ pick_refusal bytes xs shovels times
-  told-later c en er =
+  told_later c en er =
       let width = en ∙ ap (λ (card : Card). card.width) c.card_is in
-      er ∙ ap (λ (n : ℕ). first_of (list_checks shovels times ++ tie_checks n (ties times))) width ∙ refusal-later c.none
+      er ∙ ap (λ (n : ℕ). first_of (list_checks shovels times ++ tie_checks n (ties times))) width ∙ refusal_later c.none
 
   -- no refusal: all of them are passed
-  pub pick-passed : pick_refusal bytes xs shovels times ≡ 0 → (refusal_for bytes xs ≡ 0) × Allowed shovels times × (ties times ≤ 2 ^ (card_of bytes).width)
+  pub pick_passed : pick_refusal bytes xs shovels times ≡ 0 → (refusal_for bytes xs ≡ 0) × Allowed shovels times × (ties times ≤ 2 ^ (card_of bytes).width)
   unfolding refusal_for pick_refusal
-  pick-passed z =
-      let b = first-both (call_checks bytes xs) later z in
-      let l = first-both (list_checks shovels times) many_checks b.1 in
-      (b.0, list-allowed shovels times l.0, ties-within (card_of bytes).width (ties times) l.1)
+  pick_passed z =
+      let b = first_both (call_checks bytes xs) later z in
+      let l = first_both (list_checks shovels times) many_checks b.1 in
+      (b.0, list_allowed shovels times l.0, ties-within (card_of bytes).width (ties times) l.1)
 
   pub picking-refused : (r : ℕ) → r ≢ 0 → r ≡ pick_refusal bytes xs shovels times
       → (Refused r ≡ picking bytes xs shovels times) × (xs ≡ picked bytes xs shovels times)

@@ -24,7 +24,7 @@ map-reordered f cs cs₂ p r =
 
 module _ (q q₂ : Places) (s : SamePlaces q q₂) where
   pub paired_alike : paired q₂.shovels q₂.xs q₂.ys ≡ paired q.shovels q.xs q.ys
-  paired_alike = rw (s.numbers, length-reordered s.order q.shovels, s.xs-alike.many, s.ys-alike.many) refl
+  paired_alike = rw (s.numbers, length-reordered s.order q.shovels, s.xs_alike.many, s.ys_alike.many) refl
 
   module _ (even : paired q.shovels q.xs q.ys ≡ true) where
     permutes_for : (cs : List ℤ) → length q.shovels ≡ length cs → Permutes (length cs) s.order
@@ -36,8 +36,8 @@ module _ (q q₂ : Places) (s : SamePlaces q q₂) where
         rw (
           s.truck.0,
           s.truck.1,
-          map-reordered s.order q.xs q₂.xs (permutes_for q.xs e.0) s.xs-alike,
-          map-reordered s.order q.ys q₂.ys (permutes_for q.ys e.1) s.ys-alike,
+          map-reordered s.order q.xs q₂.xs (permutes_for q.xs e.0) s.xs_alike,
+          map-reordered s.order q.ys q₂.ys (permutes_for q.ys e.1) s.ys_alike,
         ) refl
 
     pub distances-reordered : SameShovels q.shovels (distances_of q) q₂.shovels (distances_of q₂)
@@ -50,18 +50,18 @@ module _ (q q₂ : Places) (s : SamePlaces q q₂) where
           permutes = s.permutes;
           numbers = s.numbers;
           durations =
-              rw (s.xs-alike.many, length-distances q.x q.y q.xs q.ys)
+              rw (s.xs_alike.many, length-distances q.x q.y q.xs q.ys)
               (tabulate_ext (length q.xs) _ _
               (λ i l.
-              rw (s.truck.0, s.truck.1, s.xs-alike.entries i l, s.ys-alike.entries i (omega (arith, e.0, e.1)))
+              rw (s.truck.0, s.truck.1, s.xs_alike.entries i l, s.ys_alike.entries i (omega (arith, e.0, e.1)))
               (sym (distance_is q.x q.y q.xs q.ys (s.order i) (below i l)))));
         }
 
   -- whatever is asked beside the map
-  pub refusal-alike : (ask : Bool → Bool) → first_of (place_checks q₂.shovels q₂.xs q₂.ys (ask (on_map q₂.x q₂.y q₂.xs q₂.ys)))
+  pub refusal_alike : (ask : Bool → Bool) → first_of (place_checks q₂.shovels q₂.xs q₂.ys (ask (on_map q₂.x q₂.y q₂.xs q₂.ys)))
       ≡ first_of (place_checks q.shovels q.xs q.ys (ask (on_map q.x q.y q.xs q.ys)))
   unfolding place_checks first_of
-  refusal-alike ask = go (paired q.shovels q.xs q.ys) refl
+  refusal_alike ask = go (paired q.shovels q.xs q.ys) refl
     where
       go : (b : Bool) → paired q.shovels q.xs q.ys ≡ b → first_of (place_checks q₂.shovels q₂.xs q₂.ys (ask (on_map q₂.x q₂.y q₂.xs q₂.ys)))
           ≡ first_of (place_checks q.shovels q.xs q.ys (ask (on_map q.x q.y q.xs q.ys)))

@@ -12,7 +12,7 @@ use lib.ListN.{length, get_or}
 use lib.Signed.{lt_z, le_z}
 use mir.Syntax.{w32}
 use mir.Val.{SFits}
-use Rattle.cycle.proofs.Every.{every-at}
+use Rattle.cycle.proofs.Every.{every_at}
 use Rattle.refusals.specs.Refusals.{first_of, NoneApplies}
 use Rattle.refusals.proofs.Refusals.{none_first}
 use Rattle.ties.specs.Ties.{most_shovels, twice}
@@ -27,9 +27,9 @@ pub too_low : (c : ℤ) → lt_z c (negsuc 999999) ≡ true → is_on_map c ≡ 
 too_low (pos n) e = absurd (true≢false (sym e))
 too_low (negsuc n) e = let h : 999999 < n = ltb-true 999999 n e in lt-leb (suc n) most_coordinate (omega arith)
 
-pub low-enough : (c : ℤ) → lt_z c (negsuc 999999) ≡ false → le_z c (pos most_coordinate) ≡ is_on_map c
-low-enough (pos n) e = refl
-low-enough (negsuc n) e = let h : n ≤ 999999 = ltb-false 999999 n e in sym (le-leb (suc n) most_coordinate (omega arith))
+pub low_enough : (c : ℤ) → lt_z c (negsuc 999999) ≡ false → le_z c (pos most_coordinate) ≡ is_on_map c
+low_enough (pos n) e = refl
+low_enough (negsuc n) e = let h : n ≤ 999999 = ltb-false 999999 n e in sym (le-leb (suc n) most_coordinate (omega arith))
 
 pub negative : (r : ℤ) → lt_z r (pos 0) ≡ true → is_radius r ≡ false
 negative (pos n) e = let h : n < 0 = ltb-true n 0 e in absurd (omega arith)
@@ -58,7 +58,7 @@ module _ (x y : ℤ) (xs ys : List ℤ) (h : on_map x y xs ys ≡ true) where
 
   pub shovel-mapped : (i : ℕ) → i < length xs → i < length ys → (is_on_map (get_or xs i (pos 0)) ≡ true) × (is_on_map (get_or ys i (pos 0)) ≡ true)
   unfolding all_on_map
-  shovel-mapped i lx ly = (every-at (length xs) (λ i. is_on_map (get_or xs i (pos 0))) parts.2 i lx, every-at (length ys) (λ i. is_on_map (get_or ys i (pos 0))) parts.3 i ly)
+  shovel-mapped i lx ly = (every_at (length xs) (λ i. is_on_map (get_or xs i (pos 0))) parts.2 i lx, every_at (length ys) (λ i. is_on_map (get_or ys i (pos 0))) parts.3 i ly)
 
 -- no squared distance is larger
 pub distance_le : {x y : ℤ} {xs ys : List ℤ} → Measurable x y xs ys → (i : ℕ) → i < length xs → get_or (distances x y xs ys) i 0 ≤ most_squared
@@ -79,25 +79,25 @@ pub record Passed (shovels : List ℕ) (xs ys : List ℤ) (allowed : Bool) : Typ
   pub some : 0 < length shovels
   pub few : length shovels ≤ most_shovels
   pub once : twice shovels ≡ false
-  pub all-allowed : allowed ≡ true
+  pub all_allowed : allowed ≡ true
 
-pub places-passed : (shovels : List ℕ) (xs ys : List ℤ) (allowed : Bool) → first_of (place_checks shovels xs ys allowed) ≡ 0 → Passed shovels xs ys allowed
+pub places_passed : (shovels : List ℕ) (xs ys : List ℤ) (allowed : Bool) → first_of (place_checks shovels xs ys allowed) ≡ 0 → Passed shovels xs ys allowed
 unfolding place_checks NoneApplies
-places-passed shovels xs ys allowed z =
+places_passed shovels xs ys allowed z =
     let h = none_first (place_checks shovels xs ys allowed) z in
     record {
       is_paired = not-false _ h.0;
       some = omega (arith, eqb-false (length shovels) 0 h.1.0);
       few = ltb-false most_shovels (length shovels) h.1.1.0;
       once = h.1.1.1.0;
-      all-allowed = not-false allowed h.1.1.1.1.0;
+      all_allowed = not-false allowed h.1.1.1.1.0;
     }
 
 -- ---- coordinates as the machine reads them back
 
-pub measured-read : {x y : ℤ} {xs ys : List ℤ} → SFits w32 x → SFits w32 y → Measurable x y xs ys → Measurable (read x) (read y) xs ys
-measured-read {x} {y} {xs} {ys} fx fy m = subst (λ (z : ℤ). Measurable (read x) z xs ys) (sym (read_back fy)) (subst (λ (z : ℤ). Measurable z y xs ys) (sym (read_back fx)) m)
+pub measured_read : {x y : ℤ} {xs ys : List ℤ} → SFits w32 x → SFits w32 y → Measurable x y xs ys → Measurable (read x) (read y) xs ys
+measured_read {x} {y} {xs} {ys} fx fy m = subst (λ (z : ℤ). Measurable (read x) z xs ys) (sym (read_back fy)) (subst (λ (z : ℤ). Measurable z y xs ys) (sym (read_back fx)) m)
 
 module _ (x y : ℤ) (xs ys : List ℤ) (fx : SFits w32 x) (fy : SFits w32 y) where
-  pub distances-read : distances (read x) (read y) xs ys ≡ distances x y xs ys
-  distances-read = rw (read_back fx, read_back fy)
+  pub distances_read : distances (read x) (read y) xs ys ≡ distances x y xs ys
+  distances_read = rw (read_back fx, read_back fy)

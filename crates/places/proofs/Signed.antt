@@ -42,9 +42,9 @@ nonneg (negsuc n) e = absurd (subst T e tt)
 
 -- ---- what a machine integer of 32 bits reads back
 
-pub small-fits : (z : ℤ) → nat_abs z ≤ most_apart → SFits w32 z
-small-fits (pos n) h = record { sfits = lt_of_le_of_lt h (lit< tt) }
-small-fits (negsuc n) h = let k : n ≤ most_apart = omega arith in record { sfits = lt_of_le_of_lt k (lit< tt) }
+pub small_fits : (z : ℤ) → nat_abs z ≤ most_apart → SFits w32 z
+small_fits (pos n) h = record { sfits = lt_of_le_of_lt h (lit< tt) }
+small_fits (negsuc n) h = let k : n ≤ most_apart = omega arith in record { sfits = lt_of_le_of_lt k (lit< tt) }
 
 -- as it is told of an entry of a slice
 abbrev pub given : {z : ℤ} → mag z < 2 ^ hbits w32 → SFits w32 z
@@ -60,4 +60,4 @@ module _ {z : ℤ} (fits : SFits w32 z) where
   pub turned : (r : ℤ) → nat_abs z ≤ most_apart → lt_z (read z) (pos 0) ≡ true → r ≡ pos 0 -ℤ read z → read r ≡ pos (nat_abs z)
   turned r h t e =
       let same : r ≡ pos (nat_abs z) = e ∙ ap (λ (y : ℤ). pos 0 -ℤ y) read_back ∙ opposite z (rw (read_back) at t) in
-      ap read same ∙ to_z-of_z (small-fits (pos (nat_abs z)) h)
+      ap read same ∙ to_z-of_z (small_fits (pos (nat_abs z)) h)

@@ -13,5 +13,5 @@ pub record SamePlaces (q q₂ : Places) : Type 0 where
   pub order : ℕ → ℕ
   pub permutes : Permutes (length q.shovels) order
   pub numbers : q₂.shovels ≡ reordered order q.shovels
-  pub xs-alike : ReorderedBy order q.xs q₂.xs
-  pub ys-alike : ReorderedBy order q.ys q₂.ys
+  pub xs_alike : ReorderedBy order q.xs q₂.xs
+  pub ys_alike : ReorderedBy order q.ys q₂.ys

@@ -10,7 +10,7 @@ use Rattle.card_format.specs.Reading.{present}
 use Rattle.records.specs.declared.Optional.{Optional}
 use Rattle.records.specs.Fields.{word_field}
 use Rattle.records.specs.Reading.{Whole, optional, held_state, record_of, reading_record}
-use Rattle.records.proofs.Reading.{reading-whole}
+use Rattle.records.proofs.Reading.{reading_whole}
 use Rattle.record_form.proofs.Places.{taken_at, state_at, known, truck-bytes, shovel-bytes, ties-byte, taken-byte, words-byte, words-bytes}
 
 module _ (b : List ℕ) (w : Whole b) where
@@ -32,4 +32,4 @@ module _ (b : List ℕ) (w : Whole b) where
       let words = em ∙ ap (byte_at 4) ea ∙ ap optional (sym (words-byte b k.low)) in
       let state = ex ∙ ap (λ (i : ℕ). held_state (numbers (word_field (get_or b i 0)) (drop (i + 1) b))) ea ∙ ap held_state (sym (words-bytes b k)) in
       (λ i. record { refusal = 0; values = record { truck = truck i; shovel = shovel i; ties = ties i; taken = taken i; words = words i; state = state i } })
-      ∙ sym (reading-whole b w)
+      ∙ sym (reading_whole b w)

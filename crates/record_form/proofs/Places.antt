@@ -18,7 +18,7 @@ use Rattle.card_format.specs.Reading.{present}
 use Rattle.card_format.proofs.Fields.{low_first, numbers-one, allowed_at}
 use Rattle.records.specs.Fields.{word_field, record_fields, record_field, record_field_count, bit_of, start_of, numbers_at, word_count_of, record_numbers}
 use Rattle.records.specs.Reading.{is_whole, Whole}
-use Rattle.records.proofs.Fields.{start_suc, Form, whole-form, always}
+use Rattle.records.proofs.Fields.{start_suc, Form, whole_form, always}
 
 -- ---- numbers by their bytes
 
@@ -79,9 +79,9 @@ module _ (bytes : List ℕ) where
     unfolding record_field record_fields
     start-words o = start_suc c bytes 4 ∙ ap₂ (λ (x y : ℕ). x + y) start-state (ap (λ (d : ℕ). cond (eqb d 1) 1 0) o)
 
-    end-state : bit 4 map ≡ 1 → start_of c bytes record_field_count ≡ state_at + 1 + 4 * c
+    end_state_lem : bit 4 map ≡ 1 → start_of c bytes record_field_count ≡ state_at + 1 + 4 * c
     unfolding start_of sum record_field record_fields
-    end-state o = rw ((always bytes low).0, (always bytes low).1, ap (λ (d : ℕ). eqb d 1) o) (omega (arith, flag_at 2 1, flag_at 3 1))
+    end_state_lem o = rw ((always bytes low).0, (always bytes low).1, ap (λ (d : ℕ). eqb d 1) o) (omega (arith, flag_at 2 1, flag_at 3 1))
 
   -- ---- fields by their bytes: of one byte, of two, and the state's words
 
@@ -145,31 +145,31 @@ module _ (bytes : List ℕ) where
       go false b d = refl
 
   module _ (low : map % 4 ≡ 3) (high : map < 32) where
-    pub whole-none : bit 4 map ≡ 0 → is_whole bytes ≡ eqb (length bytes) state_at
+    pub whole_none : bit 4 map ≡ 0 → is_whole bytes ≡ eqb (length bytes) state_at
     unfolding is_whole numbers_at allowed
-    whole-none z = rw (eq-eqb _ 3 low, lt-ltb map 32 high, end_none low (word_count_of bytes) z, ap (λ (d : ℕ). eqb d 1) z) refl
+    whole_none z = rw (eq-eqb _ 3 low, lt-ltb map 32 high, end_none low (word_count_of bytes) z, ap (λ (d : ℕ). eqb d 1) z) refl
 
     -- with a state it is as long as its count says, where that is allowed
     module _ (o : bit 4 map ≡ 1) where
       abbrev c : ℕ
       c = get_or bytes state_at 0
 
-      whole-state : is_whole bytes ≡ (leb fewest_words c && leb c most_words && true && eqb (length bytes) (state_at + 1 + 4 * c))
+      whole_state : is_whole bytes ≡ (leb fewest_words c && leb c most_words && true && eqb (length bytes) (state_at + 1 + 4 * c))
       unfolding is_whole allowed record_field record_fields
-      whole-state = rw (eq-eqb _ 3 low, lt-ltb map 32 high, end-state low (word_count_of bytes) o, words-byte low, ap (λ (d : ℕ). eqb d 1) o, word_count low o) refl
+      whole_state = rw (eq-eqb _ 3 low, lt-ltb map 32 high, end_state_lem low (word_count_of bytes) o, words-byte low, ap (λ (d : ℕ). eqb d 1) o, word_count low o) refl
 
       pub too_few : c < fewest_words → is_whole bytes ≡ false
-      too_few l = whole-state ∙ rw (lt-leb fewest_words c l) refl
+      too_few l = whole_state ∙ rw (lt-leb fewest_words c l) refl
 
       pub too_many : most_words < c → is_whole bytes ≡ false
-      too_many l = whole-state ∙ rw (lt-leb c most_words l) (go (leb fewest_words c))
+      too_many l = whole_state ∙ rw (lt-leb c most_words l) (go (leb fewest_words c))
         where
           go : (a : Bool) → (((a && false) && true) && eqb (length bytes) (state_at + 1 + 4 * c)) ≡ false
           go true = refl
           go false = refl
 
-      pub whole-counted : fewest_words ≤ c → c ≤ most_words → is_whole bytes ≡ eqb (length bytes) (state_at + 1 + 4 * c)
-      whole-counted l h = whole-state ∙ rw (le-leb fewest_words c l, le-leb c most_words h) refl
+      pub whole_counted : fewest_words ≤ c → c ≤ most_words → is_whole bytes ≡ eqb (length bytes) (state_at + 1 + 4 * c)
+      whole_counted l h = whole_state ∙ rw (le-leb fewest_words c l, le-leb c most_words h) refl
 
   -- ---- a whole record
 
@@ -183,7 +183,7 @@ module _ (bytes : List ℕ) where
   pub known : Whole bytes → Known
   unfolding allowed record_field record_fields
   known w =
-      go (whole-form bytes w) (bit 4 map) refl (bit_lt 4 map)
+      go (whole_form bytes w) (bit 4 map) refl (bit_lt 4 map)
     where
       go : Form bytes → (d : ℕ) → bit 4 map ≡ d → d < 2 → Known
       go f zero z l =
@@ -196,7 +196,7 @@ module _ (bytes : List ℕ) where
             none = λ z. sym e;
           }
       go f (suc zero) o l =
-          let e = f.ends ∙ end-state f.low (word_count_of bytes) o ∙ ap (λ (c : ℕ). state_at + 1 + 4 * c) (word_count f.low o) in
+          let e = f.ends ∙ end_state_lem f.low (word_count_of bytes) o ∙ ap (λ (c : ℕ). state_at + 1 + 4 * c) (word_count f.low o) in
           record {
             low = f.low;
             long = omega arith;

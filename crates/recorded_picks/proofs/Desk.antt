@@ -13,23 +13,23 @@ use lib.Pow.{pow_mono}
 use lib.Seq.{take_at, drop_at}
 use Rattle.tsc.specs.Constants.{fewest_words, most_words}
 use Rattle.card_format.specs.Reading.{card_of}
-use Rattle.card_format.proofs.Verdict.{accepted-card}
+use Rattle.card_format.proofs.Verdict.{accepted_card}
 use Rattle.draws.proofs.Opening.{passed}
 use Rattle.ties.specs.Ties.{ties}
 use Rattle.samples.proofs.Tried.{taken-few}
 use Rattle.picks.specs.declared.Pick.{Pick}
 use Rattle.picks.specs.declared.Pick.TheVariants.{Shovel, Refused}
 use Rattle.picks.specs.Picks.{pick_refusal, picking, words_taken, picked}
-use Rattle.picks.proofs.Picking.{shovel_of, ties_of, pick-passed, ties-few}
+use Rattle.picks.proofs.Picking.{shovel_of, ties_of, pick_passed, ties-few}
 use Rattle.picks.proofs.Choice.{pick_chooses}
 use Rattle.records.specs.Fields.{record_bytes}
 use Rattle.records.specs.declared.Record.{Record}
 use Rattle.records.specs.declared.RecordReading.{RecordReading}
 use Rattle.records.specs.Reading.{Whole, record_of, reading_record}
 use Rattle.records.specs.Writing.{state_of, encoded, Fits, full_record, recorded_on}
-use Rattle.records.proofs.Full.{state-full, length-full, full-fits}
-use Rattle.records.proofs.Reading.{reading-whole}
-use Rattle.records.proofs.Writing.{encoded-whole, encoded-back}
+use Rattle.records.proofs.Full.{state_full, length_full, full_fits}
+use Rattle.records.proofs.Reading.{reading_whole}
+use Rattle.records.proofs.Writing.{encoded_whole, encoded_back}
 use Rattle.recorded_picks.specs.Recorded.{Halves, recorded_refusal, recorded_picking, recorded_state, record_left, recorded_page}
 use Rattle.recorded_picks.proofs.Recorded.{not_refused, word_size, recorded_passed, recorded_refused}
 
@@ -58,7 +58,7 @@ module _ (bytes xs shovels times : List ℕ) (room s k t : ℕ) (answer : record
   fields_fit h =
       let c = pick_chooses bytes xs shovels times unrefused in
       let e = sym c.2 ∙ as_picked.0 in
-      let ok = (pick-passed bytes xs shovels times unrefused).1 in (
+      let ok = (pick_passed bytes xs shovels times unrefused).1 in (
         subst (λ (x : ℕ). x < 65536) (ap shovel_of e) (h c.0 (omega (arith, c.1.listed, ok.paired))),
         omega (arith, ap ties_of e, (ties-few ok).1),
         omega (arith, ap words_taken e, taken-few (card_of bytes) xs (ties times)),
@@ -67,8 +67,8 @@ module _ (bytes xs shovels times : List ℕ) (room s k t : ℕ) (answer : record
   -- and so does the state
   state-fits : (fewest_words ≤ length xs) × (length xs ≤ most_words) × ((i : ℕ) → i < length xs → get_or xs i 0 < 2 ^ 32)
   state-fits =
-      let call = passed bytes xs (pick-passed bytes xs shovels times unrefused).0 in
-      let ok = accepted-card bytes call.0 in
+      let call = passed bytes xs (pick_passed bytes xs shovels times unrefused).0 in
+      let ok = accepted_card bytes call.0 in
       let size = call.1.0 in (
         omega (arith, size, ok.formed.words),
         omega (arith, size, ok.few),
@@ -87,22 +87,22 @@ module _ (bytes xs shovels times : List ℕ) (room s k t : ℕ) (answer : record
     fits =
         let f = fields_fit h in
         let z = state-fits in
-        full-fits truck s k t xs lt f.0 f.1 f.2 (omega (arith, z.1)) z.0 z.1 z.2
+        full_fits truck s k t xs lt f.0 f.1 f.2 (omega (arith, z.1)) z.0 z.1 z.2
 
     record_whole : Whole left
-    record_whole = rw left_is (encoded-whole _ fits)
+    record_whole = rw left_is (encoded_whole _ fits)
 
     record_back : record_of left ≡ full_record truck s k t xs
-    record_back = ap record_of left_is ∙ encoded-back _ fits
+    record_back = ap record_of left_is ∙ encoded_back _ fits
 
     record_length : length left ≡ record_bytes (card_of bytes).words
     record_length =
         let f = fields_fit h in
         let z = state-fits in
-        ap length left_is ∙ length-full truck s k t xs lt f.0 f.1 f.2 (omega (arith, z.1)) ∙ ap record_bytes (word_size bytes xs shovels times unrefused)
+        ap length left_is ∙ length_full truck s k t xs lt f.0 f.1 f.2 (omega (arith, z.1)) ∙ ap record_bytes (word_size bytes xs shovels times unrefused)
 
     pub record_read : Whole left × (reading_record left ≡ record { refusal = 0; values = full_record truck s k t xs })
-    record_read = (record_whole, reading-whole left record_whole ∙ ap {B = RecordReading} (λ (r : Record). record { refusal = 0; values = r }) record_back)
+    record_read = (record_whole, reading_whole left record_whole ∙ ap {B = RecordReading} (λ (r : Record). record { refusal = 0; values = r }) record_back)
 
     -- it stands at the front of the page
     pub page-left : (page : List ℕ) → length page ≡ room → let n = record_bytes (card_of bytes).words in let after = recorded_page bytes xs shovels times truck page in
@@ -113,7 +113,7 @@ module _ (bytes xs shovels times : List ℕ) (room s k t : ℕ) (answer : record
     -- a pick from the state that is read
     pub record_replayed : (r : RecordReading) → r ≡ record { refusal = 0; values = full_record truck s k t xs } → let ys = state_of r.values in
         (picking bytes ys shovels times ≡ Shovel s k t) × (picked bytes ys shovels times ≡ recorded_state bytes xs shovels times room)
-    record_replayed r e = rw (ap (λ (r : RecordReading). state_of r.values) e ∙ state-full truck s k t xs) (as_picked.0, sym as_picked.1)
+    record_replayed r e = rw (ap (λ (r : RecordReading). state_of r.values) e ∙ state_full truck s k t xs) (as_picked.0, sym as_picked.1)
 
 -- without a tie the page is as it was
 pub page-kept : (bytes xs shovels times : List ℕ) (truck : ℕ) (page : List ℕ) (s t : ℕ) → recorded_picking bytes xs shovels times (length page) ≡ Shovel s 1 t

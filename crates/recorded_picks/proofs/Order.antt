@@ -14,35 +14,35 @@ use Rattle.records.specs.Fields.{record_bytes}
 use Rattle.picks.specs.declared.Pick.{Pick}
 use Rattle.picks.specs.declared.Pick.TheVariants.{Refused}
 use Rattle.picks.specs.Picks.{pick_refusal}
-use Rattle.picks.proofs.Choice.{refusal-reordered, pick-order}
+use Rattle.picks.proofs.Choice.{refusal-reordered, pick_order}
 use Rattle.records.specs.Writing.{recorded_on}
 use Rattle.recorded_picks.specs.Recorded.{recorded_refusal, recorded_picking, recorded_state, record_left, recorded_page}
 use Rattle.recorded_picks.specs.Shift.{Dispatch, pages_lent, Outcome, answer_to, state_left, page_left, outcome, outcomes, end_state, pages_after, SameDispatch, AlikeDispatches}
-use Rattle.recorded_picks.proofs.Recorded.{told-pick, told-room}
+use Rattle.recorded_picks.proofs.Recorded.{told_pick, told_room}
 
 -- a recorded pick's refusal, by the pick's and the room
-refusal-by-pick : (bytes xs shovels times : List ℕ) (room : ℕ) → let r = pick_refusal bytes xs shovels times in
+refusal_by_pick : (bytes xs shovels times : List ℕ) (room : ℕ) → let r = pick_refusal bytes xs shovels times in
     recorded_refusal bytes xs shovels times room ≡ cond (eqb r 0) (cond (ltb room (record_bytes (card_of bytes).words)) 16 0) r
-refusal-by-pick bytes xs shovels times room = go (ℕ_discrete (pick_refusal bytes xs shovels times) 0)
+refusal_by_pick bytes xs shovels times room = go (ℕ_discrete (pick_refusal bytes xs shovels times) 0)
   where
     go : Dec (pick_refusal bytes xs shovels times ≡ 0) → let r = pick_refusal bytes xs shovels times in
         recorded_refusal bytes xs shovels times room ≡ cond (eqb r 0) (cond (ltb room (record_bytes (card_of bytes).words)) 16 0) r
-    go (yes z) = told-room bytes xs shovels times room z ∙ rw (eq-eqb (pick_refusal bytes xs shovels times) 0 z) refl
-    go (no ne) = told-pick bytes xs shovels times room ne ∙ rw (ne_eqb (pick_refusal bytes xs shovels times) 0 ne) refl
+    go (yes z) = told_room bytes xs shovels times room z ∙ rw (eq-eqb (pick_refusal bytes xs shovels times) 0 z) refl
+    go (no ne) = told_pick bytes xs shovels times room ne ∙ rw (ne_eqb (pick_refusal bytes xs shovels times) 0 ne) refl
 
 module _ (bytes xs shovels times shovels₂ times₂ : List ℕ) (h : SameShovels shovels times shovels₂ times₂) where
   same-refusal : (room : ℕ) → recorded_refusal bytes xs shovels₂ times₂ room ≡ recorded_refusal bytes xs shovels times room
   same-refusal room =
       let e : pick_refusal bytes xs shovels₂ times₂ ≡ pick_refusal bytes xs shovels times =
       rw (h.numbers, h.durations) (refusal-reordered h.order shovels times h.permutes bytes xs) in
-      refusal-by-pick bytes xs shovels₂ times₂ room ∙ ap (λ (r : ℕ). cond (eqb r 0) (cond (ltb room (record_bytes (card_of bytes).words)) 16 0) r) e
-      ∙ sym (refusal-by-pick bytes xs shovels times room)
+      refusal_by_pick bytes xs shovels₂ times₂ room ∙ ap (λ (r : ℕ). cond (eqb r 0) (cond (ltb room (record_bytes (card_of bytes).words)) 16 0) r) e
+      ∙ sym (refusal_by_pick bytes xs shovels times room)
 
   pub recorded_order : (room : ℕ) → (recorded_picking bytes xs shovels₂ times₂ room ≡ recorded_picking bytes xs shovels times room)
       × (recorded_state bytes xs shovels₂ times₂ room ≡ recorded_state bytes xs shovels times room)
   unfolding recorded_picking recorded_state
   recorded_order room =
-      let o = pick-order bytes xs shovels times shovels₂ times₂ h in
+      let o = pick_order bytes xs shovels times shovels₂ times₂ h in
       let e = same-refusal room in
       (λ i. cond (eqb (e i) 0) (o.0 i) (Refused (e i)), λ i. cond (eqb (e i) 0) (o.1 i) xs)
 

@@ -13,12 +13,12 @@ use Rattle.refusals.specs.Refusals.{first_of}
 use Rattle.refusals.proofs.Refusals.{first-left, first_right}
 use Rattle.tsc.specs.Constants.{most_words}
 use Rattle.card_format.specs.Reading.{card_of}
-use Rattle.card_format.proofs.Verdict.{accepted-card}
+use Rattle.card_format.proofs.Verdict.{accepted_card}
 use Rattle.draws.proofs.Opening.{passed}
 use Rattle.picks.specs.declared.Pick.{Pick}
 use Rattle.picks.specs.declared.Pick.TheVariants.{Refused}
 use Rattle.picks.specs.Picks.{pick_checks, pick_refusal, picking, picked}
-use Rattle.picks.proofs.Picking.{pick-passed, picking-refused}
+use Rattle.picks.proofs.Picking.{pick_passed, picking-refused}
 use Rattle.records.specs.Fields.{record_bytes, lacks_room}
 use Rattle.records.specs.Writing.{recorded_on}
 use Rattle.recorded_picks.specs.Recorded.{recorded_refusal, recorded_picking, recorded_state, record_left, recorded_page}
@@ -40,23 +40,23 @@ no_room m room few e = ltb-true room (record_bytes m) (sym (ap (λ (b : Bool). b
 -- a state of a pick that is not refused has the card's size
 module _ (bytes xs shovels times : List ℕ) where
   pub word_size : pick_refusal bytes xs shovels times ≡ 0 → length xs ≡ (card_of bytes).words
-  word_size z = (passed bytes xs (pick-passed bytes xs shovels times z).0).1.0
+  word_size z = (passed bytes xs (pick_passed bytes xs shovels times z).0).1.0
 
   pub word-few : pick_refusal bytes xs shovels times ≡ 0 → length xs ≤ most_words
   word-few z =
-      let ok = accepted-card bytes (passed bytes xs (pick-passed bytes xs shovels times z).0).0 in
+      let ok = accepted_card bytes (passed bytes xs (pick_passed bytes xs shovels times z).0).0 in
       omega (arith, word_size z, ok.few)
 
 module _ (bytes xs shovels times : List ℕ) (room : ℕ) where
   -- what the pick refuses is told first; then the room decides
-  pub told-pick : pick_refusal bytes xs shovels times ≢ 0 → recorded_refusal bytes xs shovels times room ≡ pick_refusal bytes xs shovels times
+  pub told_pick : pick_refusal bytes xs shovels times ≢ 0 → recorded_refusal bytes xs shovels times room ≡ pick_refusal bytes xs shovels times
   unfolding recorded_refusal pick_refusal
-  told-pick ne = first-left (pick_checks bytes xs shovels times) _ ne
+  told_pick ne = first-left (pick_checks bytes xs shovels times) _ ne
 
-  pub told-room : pick_refusal bytes xs shovels times ≡ 0
+  pub told_room : pick_refusal bytes xs shovels times ≡ 0
       → recorded_refusal bytes xs shovels times room ≡ cond (ltb room (record_bytes (card_of bytes).words)) 16 0
   unfolding recorded_refusal pick_refusal first_of
-  told-room z = first_right (pick_checks bytes xs shovels times) _ z
+  told_room z = first_right (pick_checks bytes xs shovels times) _ z
 
   -- no refusal: the pick is not refused
   pub not_refused : recorded_refusal bytes xs shovels times room ≡ 0 → pick_refusal bytes xs shovels times ≡ 0
@@ -64,11 +64,11 @@ module _ (bytes xs shovels times : List ℕ) (room : ℕ) where
     where
       go : Dec (pick_refusal bytes xs shovels times ≡ 0) → pick_refusal bytes xs shovels times ≡ 0
       go (yes e) = e
-      go (no ne) = absurd (ne (sym (told-pick ne) ∙ z))
+      go (no ne) = absurd (ne (sym (told_pick ne) ∙ z))
 
   -- 16, for a page without room
-  pub told-small : pick_refusal bytes xs shovels times ≡ 0 → room < record_bytes (length xs) → recorded_refusal bytes xs shovels times room ≡ 16
-  told-small z l = told-room z ∙ ap (λ (b : Bool). cond b 16 0) (lt-ltb room _ (rw (word_size bytes xs shovels times z) at l))
+  pub told_small : pick_refusal bytes xs shovels times ≡ 0 → room < record_bytes (length xs) → recorded_refusal bytes xs shovels times room ≡ 16
+  told_small z l = told_room z ∙ ap (λ (b : Bool). cond b 16 0) (lt-ltb room _ (rw (word_size bytes xs shovels times z) at l))
 
   pub recorded_passed : recorded_refusal bytes xs shovels times room ≡ 0
       → (recorded_picking bytes xs shovels times room ≡ picking bytes xs shovels times) × (recorded_state bytes xs shovels times room ≡ picked bytes xs shovels times)
@@ -87,45 +87,45 @@ module _ (bytes xs shovels times : List ℕ) (room : ℕ) where
     where
       go : Dec (pick_refusal bytes xs shovels times ≡ 0)
           → (recorded_picking bytes xs shovels times room ≡ picking bytes xs shovels times) × (recorded_state bytes xs shovels times room ≡ picked bytes xs shovels times)
-      go (yes z) = recorded_passed (told-room z ∙ ap (λ (b : Bool). cond b 16 0) (le-ltb room _ (rw (word_size bytes xs shovels times z) at l)))
+      go (yes z) = recorded_passed (told_room z ∙ ap (λ (b : Bool). cond b 16 0) (le-ltb room _ (rw (word_size bytes xs shovels times z) at l)))
       go (no ne) =
-          let a = recorded_refused _ ne (told-pick ne) in
+          let a = recorded_refused _ ne (told_pick ne) in
           let b = picking-refused bytes xs shovels times _ ne refl in
           (a.0 ∙ b.0, a.1 ∙ b.1)
 
 -- ---- as the call ends
 
 -- refused: what is lent is left
-pub call-refused : (bytes xs shovels times : List ℕ) (truck : ℕ) (page : List ℕ) (r : ℕ) → r ≢ 0
+pub call_refused : (bytes xs shovels times : List ℕ) (truck : ℕ) (page : List ℕ) (r : ℕ) → r ≢ 0
     → recorded_refusal bytes xs shovels times (length page) ≡ r
     → (Refused r ≡ recorded_picking bytes xs shovels times (length page)) × ((xs ≡ recorded_state bytes xs shovels times (length page))
     × (page ≡ recorded_page bytes xs shovels times truck page))
 unfolding recorded_page
-call-refused bytes xs shovels times truck page r ne e =
+call_refused bytes xs shovels times truck page r ne e =
     let a = recorded_refused bytes xs shovels times (length page) r ne e in
     (sym a.0, (sym a.1, sym (ap (λ (p : Pick). recorded_on (record_left truck xs p) page) a.0)))
 
 -- by what the pick refuses, r; or, where that is 0, by 16
 module _ (bytes xs shovels times : List ℕ) (truck : ℕ) (page : List ℕ) {r : ℕ} (e : r ≡ pick_refusal bytes xs shovels times) where
-  pub call-told : r ≢ 0 → (Refused r ≡ recorded_picking bytes xs shovels times (length page)) × ((xs ≡ recorded_state bytes xs shovels times (length page))
+  pub call_told : r ≢ 0 → (Refused r ≡ recorded_picking bytes xs shovels times (length page)) × ((xs ≡ recorded_state bytes xs shovels times (length page))
       × (page ≡ recorded_page bytes xs shovels times truck page))
-  call-told ne = call-refused bytes xs shovels times truck page r ne (told-pick bytes xs shovels times (length page) (λ z. ne (e ∙ z)) ∙ sym e)
+  call_told ne = call_refused bytes xs shovels times truck page r ne (told_pick bytes xs shovels times (length page) (λ z. ne (e ∙ z)) ∙ sym e)
 
-  pub call-small : r ≡ 0 → {b : Bool} → b ≡ lacks_room (length xs) (length page) → b ≡ true
+  pub call_small : r ≡ 0 → {b : Bool} → b ≡ lacks_room (length xs) (length page) → b ≡ true
       → (Refused 16 ≡ recorded_picking bytes xs shovels times (length page)) × ((xs ≡ recorded_state bytes xs shovels times (length page))
       × (page ≡ recorded_page bytes xs shovels times truck page))
-  call-small z eb t =
+  call_small z eb t =
       let none = sym e ∙ z in
       let small = no_room (length xs) (length page) (word-few bytes xs shovels times none) (sym eb ∙ t) in
-      call-refused bytes xs shovels times truck page 16 (λ e. absurd (omega arith)) (told-small bytes xs shovels times (length page) none small)
+      call_refused bytes xs shovels times truck page 16 (λ e. absurd (omega arith)) (told_small bytes xs shovels times (length page) none small)
 
 -- made: the pick answers p and leaves ys, and its record is put on the page
-pub call-made : (bytes xs shovels times : List ℕ) (truck : ℕ) (page : List ℕ) {p : Pick} {ys left : List ℕ} → record_bytes (length xs) ≤ length page
+pub call_made : (bytes xs shovels times : List ℕ) (truck : ℕ) (page : List ℕ) {p : Pick} {ys left : List ℕ} → record_bytes (length xs) ≤ length page
     → p ≡ picking bytes xs shovels times → ys ≡ picked bytes xs shovels times → left ≡ recorded_on (record_left truck xs p) page
     → (p ≡ recorded_picking bytes xs shovels times (length page)) × ((ys ≡ recorded_state bytes xs shovels times (length page))
     × (left ≡ recorded_page bytes xs shovels times truck page))
 unfolding recorded_page
-call-made bytes xs shovels times truck page l ep ey el =
+call_made bytes xs shovels times truck page l ep ey el =
     let a = recorded_as_pick bytes xs shovels times (length page) l in
     let told = ep ∙ sym a.0 in
     (told, (ey ∙ sym a.1, el ∙ ap (λ (p : Pick). recorded_on (record_left truck xs p) page) told))

@@ -9,7 +9,7 @@ use borrow.Author.Tests.{eqb-true, ltb-true, eq-eqb, lt-ltb}
 use lib.Dec.{lit<}
 use lib.ListN.{length, get_or}
 use Rattle.cycle.specs.Notation.{sum, bit}
-use Rattle.cycle.proofs.Sum.{sum-split}
+use Rattle.cycle.proofs.Sum.{sum_split}
 use Rattle.cycle.proofs.Digits.{length-tabulate}
 use Rattle.card_format.specs.Fields.{numbers, allowed}
 use Rattle.card_format.specs.Reading.{present}
@@ -18,17 +18,17 @@ use Rattle.records.specs.Fields.{record_fields, record_field, record_field_count
 use Rattle.records.specs.Reading.{is_whole, Whole}
 
 -- what holds of the six
-pub each-field : (P : ℕ → Type 0) → P 0 → P 1 → P 2 → P 3 → P 4 → P 5 → (k : ℕ) → k < record_field_count → P k
-each-field P p0 p1 p2 p3 p4 p5 zero l = p0
-each-field P p0 p1 p2 p3 p4 p5 (suc zero) l = p1
-each-field P p0 p1 p2 p3 p4 p5 (suc (suc zero)) l = p2
-each-field P p0 p1 p2 p3 p4 p5 (suc (suc (suc zero))) l = p3
-each-field P p0 p1 p2 p3 p4 p5 (suc (suc (suc (suc zero)))) l = p4
-each-field P p0 p1 p2 p3 p4 p5 (suc (suc (suc (suc (suc zero))))) l = p5
-each-field P p0 p1 p2 p3 p4 p5 (suc (suc (suc (suc (suc (suc k)))))) l = absurd (omega arith)
+pub each_field : (P : ℕ → Type 0) → P 0 → P 1 → P 2 → P 3 → P 4 → P 5 → (k : ℕ) → k < record_field_count → P k
+each_field P p0 p1 p2 p3 p4 p5 zero l = p0
+each_field P p0 p1 p2 p3 p4 p5 (suc zero) l = p1
+each_field P p0 p1 p2 p3 p4 p5 (suc (suc zero)) l = p2
+each_field P p0 p1 p2 p3 p4 p5 (suc (suc (suc zero))) l = p3
+each_field P p0 p1 p2 p3 p4 p5 (suc (suc (suc (suc zero)))) l = p4
+each_field P p0 p1 p2 p3 p4 p5 (suc (suc (suc (suc (suc zero))))) l = p5
+each_field P p0 p1 p2 p3 p4 p5 (suc (suc (suc (suc (suc (suc k)))))) l = absurd (omega arith)
 
 pub bit_below : (k : ℕ) → k < record_field_count → bit_of k < bit_count
-bit_below = each-field (λ k. bit_of k < bit_count) (lit< tt) (lit< tt) (lit< tt) (lit< tt) (lit< tt) (lit< tt)
+bit_below = each_field (λ k. bit_of k < bit_count) (lit< tt) (lit< tt) (lit< tt) (lit< tt) (lit< tt) (lit< tt)
 
 -- ---- places
 
@@ -41,7 +41,7 @@ module _ (c : ℕ) (bytes : List ℕ) where
   unfolding start_of
   start-before k n h =
       let e : k + (n - k) ≡ n = omega arith in
-      omega (arith, ap (λ (m : ℕ). sum m (extent_at c bytes)) e, sum-split k (n - k) (extent_at c bytes))
+      omega (arith, ap (λ (m : ℕ). sum m (extent_at c bytes)) e, sum_split k (n - k) (extent_at c bytes))
 
   -- how many numbers a field holds
   pub length-numbers_at : (k : ℕ) → length (numbers_at c bytes k) ≡ cond (present bytes (bit_of k)) (record_field c k).count 0
@@ -58,17 +58,17 @@ pub record Form (bytes : List ℕ) : Type 0 where
   pub counted : allowed (record_field (word_count_of bytes) 4) (record_numbers bytes 4) ≡ true
   pub ends : length bytes ≡ start_of (word_count_of bytes) bytes record_field_count
 
-pub whole-form : (bytes : List ℕ) → Whole bytes → Form bytes
+pub whole_form : (bytes : List ℕ) → Whole bytes → Form bytes
 unfolding is_whole
-whole-form bytes w =
+whole_form bytes w =
     let a = (and-eq-true_iff _ _).0 w in
     let b = (and-eq-true_iff _ _).0 a.0 in
     let d = (and-eq-true_iff _ _).0 b.0 in
     record { low = eqb-true _ _ d.0; high = ltb-true _ _ d.1; counted = b.1; ends = eqb-true _ _ a.1 }
 
-pub form-whole : (bytes : List ℕ) → Form bytes → Whole bytes
+pub form_whole : (bytes : List ℕ) → Form bytes → Whole bytes
 unfolding is_whole
-form-whole bytes f = rw (f.low, lt-ltb _ _ f.high, f.counted, eq-eqb _ _ f.ends) refl
+form_whole bytes f = rw (f.low, lt-ltb _ _ f.high, f.counted, eq-eqb _ _ f.ends) refl
 
 -- the fields that always stand
 pub always : (bytes : List ℕ) → get_or bytes 0 0 % 4 ≡ 3 → (present bytes 0 ≡ true) × (present bytes 1 ≡ true)

@@ -17,7 +17,7 @@ use Rattle.card_format.proofs.Bytes.{length-bytes_of}
 use Rattle.records.specs.Fields.{word_field, record_fields, record_field, record_field_count, start_of, numbers_at, word_count_of, record_bytes}
 use Rattle.records.specs.Reading.{is_whole, Whole, held_state}
 use Rattle.records.specs.Writing.{state_of, numbers_of, field_bytes, encoded_to, encoded, Fits, full_record}
-use Rattle.records.proofs.Fields.{each-field}
+use Rattle.records.proofs.Fields.{each_field}
 
 -- a number of a field
 one : (f : Field) (x : ℕ) → f.least ≤ x → x ≤ f.most → allowed f (x ∷ []) ≡ true
@@ -26,12 +26,12 @@ one f x least most = rw (le-leb _ _ least, le-leb _ _ most) refl
 
 module _ (truck shovel ties taken : ℕ) (xs : List ℕ) where
   -- the words held are those given
-  pub state-full : state_of (full_record truck shovel ties taken xs) ≡ xs
-  state-full = take-filled most_words (length xs) xs refl
+  pub state_full : state_of (full_record truck shovel ties taken xs) ≡ xs
+  state_full = take-filled most_words (length xs) xs refl
 
-  words-full : field_bytes (full_record truck shovel ties taken xs) 5 ≡ bytes_of (word_field (length xs)) xs
+  words_full : field_bytes (full_record truck shovel ties taken xs) 5 ≡ bytes_of (word_field (length xs)) xs
   unfolding field_bytes numbers_of record_field record_fields same
-  words-full = ap (bytes_of (word_field (length xs))) state-full
+  words_full = ap (bytes_of (word_field (length xs))) state_full
 
   module _ (lt : truck < 65536) (ls : shovel < 65536) (lk : ties < 256) (lw : taken < 256) (lm : length xs < 256) where
     -- the map and the fields but the words
@@ -48,26 +48,26 @@ module _ (truck shovel ties taken : ℕ) (xs : List ℕ) where
         let m : length xs / 256 ^ 0 % 256 ≡ length xs = omega arith in
         λ i. 31 ∷ t0 i ∷ t1 i ∷ s0 i ∷ s1 i ∷ k i ∷ w i ∷ m i ∷ []
 
-    pub encoded-full : encoded (full_record truck shovel ties taken xs)
+    pub encoded_full : encoded (full_record truck shovel ties taken xs)
         ≡ (31 ∷ truck % 256 ∷ truck / 256 ∷ shovel % 256 ∷ shovel / 256 ∷ ties ∷ taken ∷ length xs ∷ []) ++ bytes_of (word_field (length xs)) xs
     unfolding encoded_to
-    encoded-full = ap₂ (λ (a b : List ℕ). a ++ b) head_full words-full
+    encoded_full = ap₂ (λ (a b : List ℕ). a ++ b) head_full words_full
 
-    pub length-full : length (encoded (full_record truck shovel ties taken xs)) ≡ record_bytes (length xs)
-    length-full =
-        ap length encoded-full ∙ length-append (31 ∷ truck % 256 ∷ truck / 256 ∷ shovel % 256 ∷ shovel / 256 ∷ ties ∷ taken ∷ length xs ∷ []) (bytes_of (word_field (length xs)) xs)
+    pub length_full : length (encoded (full_record truck shovel ties taken xs)) ≡ record_bytes (length xs)
+    length_full =
+        ap length encoded_full ∙ length-append (31 ∷ truck % 256 ∷ truck / 256 ∷ shovel % 256 ∷ shovel / 256 ∷ ties ∷ taken ∷ length xs ∷ []) (bytes_of (word_field (length xs)) xs)
         ∙ ap (λ (n : ℕ). 8 + n) (length-bytes_of (word_field (length xs)) xs ∙ mul_comm (length xs) 4)
 
     -- they fit where the state has as many words as a card may ask for, each of 32 bits
-    pub full-fits : fewest_words ≤ length xs → length xs ≤ most_words → ((i : ℕ) → i < length xs → get_or xs i 0 < 2 ^ 32)
+    pub full_fits : fewest_words ≤ length xs → length xs ≤ most_words → ((i : ℕ) → i < length xs → get_or xs i 0 < 2 ^ 32)
         → Fits (full_record truck shovel ties taken xs)
     unfolding numbers_of record_field record_fields
-    full-fits few many narrow = record {
+    full_fits few many narrow = record {
       room = every_of record_field_count _
-          (each-field (λ k. allowed (record_field (length xs) k) (numbers_of (full_record truck shovel ties taken xs) k) ≡ true) (one _ truck (omega arith) (omega arith))
+          (each_field (λ k. allowed (record_field (length xs) k) (numbers_of (full_record truck shovel ties taken xs) k) ≡ true) (one _ truck (omega arith) (omega arith))
           (one _ shovel (omega arith) (omega arith)) (one _ ties (omega arith) (omega arith)) (one _ taken (omega arith) (omega arith)) (one _ (length xs) few many)
-          (rw state-full (allowed_all (word_field (length xs)) xs (λ i l. (omega arith, omega (arith, narrow i l))))));
-      state = ap held_state (sym state-full);
+          (rw state_full (allowed_all (word_field (length xs)) xs (λ i l. (omega arith, omega (arith, narrow i l))))));
+      state = ap held_state (sym state_full);
     }
 
 -- the longest record: eight words

@@ -32,8 +32,8 @@ order_torn cab bytes t = order-heard cab bytes ∙ rw t refl
 pub order_other : (cab : ℕ) (bytes : List ℕ) → Whole bytes → cab ≢ (record_of bytes).truck → order_for cab bytes ≡ Refused 21
 order_other cab bytes w ne = order-heard cab bytes ∙ rw (w, ne_eqb cab _ ne) refl
 
-pub order-own : (cab : ℕ) (bytes : List ℕ) → Whole bytes → cab ≡ (record_of bytes).truck → order_for cab bytes ≡ Shovel (record_of bytes).shovel
-order-own cab bytes w e = order-heard cab bytes ∙ rw (w, eq-eqb cab _ e) refl
+pub order_own : (cab : ℕ) (bytes : List ℕ) → Whole bytes → cab ≡ (record_of bytes).truck → order_for cab bytes ≡ Shovel (record_of bytes).shovel
+order_own cab bytes w e = order-heard cab bytes ∙ rw (w, eq-eqb cab _ e) refl
 
 -- two whole records with the same truck and shovel: every cab hears the same
 pub cabs_alike : (a b : List ℕ) → SameOrder a b → (cab : ℕ) → order_for cab a ≡ order_for cab b
@@ -56,9 +56,9 @@ is_order (Refused r) = false
 own : (truck shovel : ℕ) → heard truck true truck shovel ≡ Shovel shovel
 own truck shovel = rw (eq-eqb truck truck refl) refl
 
-heard-back : (cab : ℕ) (w : Bool) (t s s₂ : ℕ) → heard cab w t s ≡ Shovel s₂ → (w ≡ true) × (cab ≡ t) × (s₂ ≡ s)
-heard-back cab false t s s₂ e = absurd (true≢false (sym (ap is_order e)))
-heard-back cab true t s s₂ e = go (eqb cab t) refl e
+heard_back : (cab : ℕ) (w : Bool) (t s s₂ : ℕ) → heard cab w t s ≡ Shovel s₂ → (w ≡ true) × (cab ≡ t) × (s₂ ≡ s)
+heard_back cab false t s s₂ e = absurd (true≢false (sym (ap is_order e)))
+heard_back cab true t s s₂ e = go (eqb cab t) refl e
   where
     go : (b : Bool) → eqb cab t ≡ b → cond b (Shovel s) (Refused truck_mismatch.number) ≡ Shovel s₂ → (true ≡ true) × (cab ≡ t) × (s₂ ≡ s)
     go true q e = (refl, eqb-true cab t q, sym (ap shovel_in e))
@@ -69,5 +69,5 @@ pub cab_tells : (a b : List ℕ) → Whole a → order_for (record_of a).truck a
 cab_tells a b w e =
     let t = (record_of a).truck in
     let told = sym (ap (λ (w : Bool). heard t w t (record_of a).shovel) w ∙ own t (record_of a).shovel) in
-    let h = heard-back t (is_whole b) (record_of b).truck (record_of b).shovel (record_of a).shovel (sym (order-heard t b) ∙ sym e ∙ order-heard t a ∙ sym told) in
+    let h = heard_back t (is_whole b) (record_of b).truck (record_of b).shovel (record_of a).shovel (sym (order-heard t b) ∙ sym e ∙ order-heard t a ∙ sym told) in
     record { whole_a = w; whole_b = h.0; truck = h.1; shovel = h.2 }

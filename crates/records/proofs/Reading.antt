@@ -22,7 +22,7 @@ use Rattle.records.specs.declared.Optional.TheVariants.{Absent, Value}
 use Rattle.records.specs.Fields.{record_fields, record_field, record_field_count, bit_count, bit_of, extent_at, start_of, numbers_at, word_count_of, record_numbers, record_bytes}
 use Rattle.records.specs.Reading.{is_whole, Whole, optional, record_of, no_record, reading_record}
 use Rattle.records.specs.Writing.{given, word_count, numbers_of, is_given, field_bytes, encoded_to, encoded}
-use Rattle.records.proofs.Fields.{each-field, bit_below, start_suc, start-before, length-numbers_at, Form, whole-form, always, count-number}
+use Rattle.records.proofs.Fields.{each_field, bit_below, start_suc, start-before, length-numbers_at, Form, whole_form, always, count-number}
 
 -- a number that may lack
 given-optional : (xs : List ℕ) → length xs ≤ 1 → given (optional xs) ≡ xs
@@ -69,7 +69,7 @@ module _ (bytes : List ℕ) (f : Form bytes) where
   numbers-same : (k : ℕ) → k < record_field_count → numbers_of (record_of bytes) k ≡ record_numbers bytes k
   unfolding numbers_of record_of record_field record_fields
   numbers-same =
-      each-field (λ k. numbers_of (record_of bytes) k ≡ record_numbers bytes k) (single 0 refl (always bytes f.low).0) (single 1 refl (always bytes f.low).1) (maybe 2 refl)
+      each_field (λ k. numbers_of (record_of bytes) k ≡ record_numbers bytes k) (single 0 refl (always bytes f.low).0) (single 1 refl (always bytes f.low).1) (maybe 2 refl)
       (maybe 3 refl) words-given (ap (λ (n : ℕ). take n (zero_filled most_words (record_numbers bytes 5))) count-given ∙ take-filled most_words c (record_numbers bytes 5) length-words)
 
   -- a field is given where its bit stands
@@ -77,7 +77,7 @@ module _ (bytes : List ℕ) (f : Form bytes) where
   unfolding record_field record_fields
   given-same b l =
       ap (λ (xs : List ℕ). not (same xs [])) (numbers-same b (omega arith))
-      ∙ each-field (λ b. b < bit_count → not (same (record_numbers bytes b) []) ≡ present bytes b) (λ l. one 0 refl) (λ l. one 1 refl) (λ l. one 2 refl)
+      ∙ each_field (λ b. b < bit_count → not (same (record_numbers bytes b) []) ≡ present bytes b) (λ l. one 0 refl) (λ l. one 1 refl) (λ l. one 2 refl)
       (λ l. one 3 refl) (λ l. one 4 refl) (λ l. absurd (omega arith)) b (omega arith) l
     where
       one : (k : ℕ) → (record_field c k).count ≡ 1 → not (same (record_numbers bytes k) []) ≡ present bytes (bit_of k)
@@ -114,23 +114,23 @@ module _ (bytes : List ℕ) (f : Form bytes) where
       ∙ sym (ap (λ (n : ℕ). take n bytes) (start_suc c bytes k) ∙ take-add (start_of c bytes k) _ bytes)
 
 -- a whole record, written, is the same bytes
-pub whole-encoded : (bytes : List ℕ) → Bytes bytes → Whole bytes → encoded (record_of bytes) ≡ bytes
-whole-encoded bytes b w =
-    let f = whole-form bytes w in
+pub whole_encoded : (bytes : List ℕ) → Bytes bytes → Whole bytes → encoded (record_of bytes) ≡ bytes
+whole_encoded bytes b w =
+    let f = whole_form bytes w in
     encoded_to-same bytes f b record_field_count (le_refl _) ∙ take_all (start_of (word_count_of bytes) bytes record_field_count) bytes (le_of_eq f.ends)
 
 -- two whole records with the same fields, given and lacking, are the same bytes
 pub whole_unique : (a b : List ℕ) → Bytes a → Bytes b → Whole a → Whole b → record_of a ≡ record_of b → a ≡ b
-whole_unique a b ha hb wa wb e = sym (whole-encoded a ha wa) ∙ ap encoded e ∙ whole-encoded b hb wb
+whole_unique a b ha hb wa wb e = sym (whole_encoded a ha wa) ∙ ap encoded e ∙ whole_encoded b hb wb
 
 -- what the desk is answered
 pub reading_torn : (bytes : List ℕ) → is_whole bytes ≡ false → reading_record bytes ≡ record { refusal = 20; values = no_record }
 unfolding reading_record first_of
 reading_torn bytes t = rw t refl
 
-pub reading-whole : (bytes : List ℕ) → Whole bytes → reading_record bytes ≡ record { refusal = 0; values = record_of bytes }
+pub reading_whole : (bytes : List ℕ) → Whole bytes → reading_record bytes ≡ record { refusal = 0; values = record_of bytes }
 unfolding reading_record first_of
-reading-whole bytes w = rw w refl
+reading_whole bytes w = rw w refl
 
 -- ---- no whole record is longer than a full one of most words
 
@@ -142,10 +142,10 @@ count-few bytes f = rw (sym (count-number bytes)) (go (record_numbers bytes 4) f
     go [] h = omega arith
     go (x ∷ xs) h = (allowed_at (record_field (word_count_of bytes) 4) (x ∷ xs) h 0 (omega arith)).1
 
-pub whole-short : (bytes : List ℕ) → Whole bytes → length bytes ≤ record_bytes most_words
+pub whole_short : (bytes : List ℕ) → Whole bytes → length bytes ≤ record_bytes most_words
 unfolding start_of sum record_field record_fields
-whole-short bytes w =
-    let f = whole-form bytes w in
+whole_short bytes w =
+    let f = whole_form bytes w in
     let c = word_count_of bytes in
     let longest = sum_mono record_field_count (extent_at c bytes) (λ j. extent (record_field c j)) (λ j l. cond_le (present bytes (bit_of j)) (extent (record_field c j))) in
     omega (arith, f.ends, longest, count-few bytes f)
@@ -162,12 +162,12 @@ absent-exactly true (x ∷ xs) e = (λ q. absurd (true≢false (ap is_value q)),
 absent-exactly false [] e = (λ q. refl, λ q. refl)
 absent-exactly false (x ∷ xs) e = absurd (omega arith)
 
-pub read-absent : (bytes : List ℕ) → Whole bytes → let r = (reading_record bytes).values in
+pub read_absent : (bytes : List ℕ) → Whole bytes → let r = (reading_record bytes).values in
     ((r.ties ≡ Absent) ↔ (present bytes 2 ≡ false)) × ((r.taken ≡ Absent) ↔ (present bytes 3 ≡ false)) × ((r.words ≡ Absent) ↔ (present bytes 4 ≡ false))
 unfolding record_of record_field record_fields
-read-absent bytes w =
+read_absent bytes w =
     let c = word_count_of bytes in
-    rw (reading-whole bytes w) (
+    rw (reading_whole bytes w) (
       absent-exactly (present bytes 2) (record_numbers bytes 2) (length-numbers_at c bytes 2),
       absent-exactly (present bytes 3) (record_numbers bytes 3) (length-numbers_at c bytes 3),
       absent-exactly (present bytes 4) (record_numbers bytes 4) (length-numbers_at c bytes 4),

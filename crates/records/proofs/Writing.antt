@@ -11,7 +11,7 @@ use lib.ListN.{length, get_or, take, drop, length-append, length-take, length-re
 use lib.Seq.{length-take-le, drop_at}
 use Rattle.cycle.specs.Notation.{sum}
 use Rattle.cycle.proofs.Sum.{sum_ext}
-use Rattle.cycle.proofs.Every.{every-at}
+use Rattle.cycle.proofs.Every.{every_at}
 use Rattle.tsc.specs.declared.State.{State}
 use Rattle.tsc.specs.Constants.{most_words}
 use Rattle.card_format.specs.Fields.{Field, extent, numbers, bytes_of, allowed, same}
@@ -24,7 +24,7 @@ use Rattle.records.specs.declared.Record.{Record}
 use Rattle.records.specs.Fields.{record_fields, record_field, record_field_count, bit_count, bit_of, start_of, numbers_at, word_count_of, record_numbers}
 use Rattle.records.specs.Reading.{Whole, optional, held_state, record_of}
 use Rattle.records.specs.Writing.{given, word_count, state_of, numbers_of, is_given, field_bytes, encoded_to, encoded, Fits}
-use Rattle.records.proofs.Fields.{each-field, bit_below, Form, form-whole}
+use Rattle.records.proofs.Fields.{each_field, bit_below, Form, form_whole}
 
 optional-given : (o : Optional) → optional (given o) ≡ o
 optional-given Absent = refl
@@ -69,7 +69,7 @@ module _ (r : Record) where
 
   module _ (fits : Fits r) where
     allow : (k : ℕ) → k < record_field_count → allowed (record_field (word_count r) k) (numbers_of r k) ≡ true
-    allow k l = every-at record_field_count _ fits.room k l
+    allow k l = every_at record_field_count _ fits.room k l
 
     -- the state has no more words than an array
     few : word_count r ≤ most_words
@@ -92,7 +92,7 @@ module _ (r : Record) where
     counted : (k : ℕ) → k < record_field_count → is_given r (bit_of k) ≡ true → length (numbers_of r k) ≡ (record_field (word_count r) k).count
     unfolding numbers_of record_field record_fields same
     counted =
-        each-field (λ k. is_given r (bit_of k) ≡ true → length (numbers_of r k) ≡ (record_field (word_count r) k).count) (λ t. refl) (λ t. refl) (one r.ties)
+        each_field (λ k. is_given r (bit_of k) ≡ true → length (numbers_of r k) ≡ (record_field (word_count r) k).count) (λ t. refl) (λ t. refl) (one r.ties)
         (one r.taken) (one r.words) (λ t. length-state)
       where
         one : (o : Optional) → not (same (given o) []) ≡ true → length (given o) ≡ 1
@@ -103,7 +103,7 @@ module _ (r : Record) where
     lacking : (k : ℕ) → k < record_field_count → is_given r (bit_of k) ≡ false → numbers_of r k ≡ []
     unfolding numbers_of
     lacking =
-        each-field (λ k. is_given r (bit_of k) ≡ false → numbers_of r k ≡ []) none none none none none
+        each_field (λ k. is_given r (bit_of k) ≡ false → numbers_of r k ≡ []) none none none none none
         (λ t. ap (λ (xs : List ℕ). take (get_or xs 0 0) r.state.words) (none t))
       where
         none : {xs : List ℕ} → not (same xs []) ≡ false → xs ≡ []
@@ -113,7 +113,7 @@ module _ (r : Record) where
     sized : (k : ℕ) → k < record_field_count → let f = record_field (word_count r) k in f.most < 256 ^ f.size
     unfolding record_field record_fields
     sized =
-        each-field (λ k. let f = record_field (word_count r) k in f.most < 256 ^ f.size) (lit< tt) (lit< tt) (lit< tt) (lit< tt) (lit< tt) (lit< tt)
+        each_field (λ k. let f = record_field (word_count r) k in f.most < 256 ^ f.size) (lit< tt) (lit< tt) (lit< tt) (lit< tt) (lit< tt) (lit< tt)
 
     -- field k reads back
     module _ (k : ℕ) (l : k < record_field_count) where
@@ -144,8 +144,8 @@ module _ (r : Record) where
     unfolding word_count_of numbers_at start_of sum record_field record_fields numbers_of
     words_back = ap (λ (xs : List ℕ). get_or xs 0 0) (read_back 4 (lit< tt))
 
-    numbers-back : (k : ℕ) → k < record_field_count → record_numbers bytes k ≡ numbers_of r k
-    numbers-back k l = rw words_back (read_back k l)
+    numbers_back : (k : ℕ) → k < record_field_count → record_numbers bytes k ≡ numbers_of r k
+    numbers_back k l = rw words_back (read_back k l)
 
     -- bits 0 and 1 stand
     low : get_or bytes 0 0 % 4 ≡ 3
@@ -158,23 +158,23 @@ module _ (r : Record) where
     form = record {
       low = low;
       high = high;
-      counted = rw (numbers-back 4 (lit< tt), words_back) (allow 4 (lit< tt));
+      counted = rw (numbers_back 4 (lit< tt), words_back) (allow 4 (lit< tt));
       ends = rw words_back (sym (start-encoded record_field_count (le_refl _)));
     }
       where
         high : get_or bytes 0 0 < 32
         high = map_lt bit_count (is_given r)
 
-    pub encoded-whole : Whole (encoded r)
-    encoded-whole = form-whole bytes form
+    pub encoded_whole : Whole (encoded r)
+    encoded_whole = form_whole bytes form
 
-    pub encoded-back : record_of (encoded r) ≡ r
+    pub encoded_back : record_of (encoded r) ≡ r
     unfolding record_of numbers_of
-    encoded-back i = record {
-      truck = get_or (numbers-back 0 (lit< tt) i) 0 0;
-      shovel = get_or (numbers-back 1 (lit< tt) i) 0 0;
-      ties = (ap optional (numbers-back 2 (lit< tt)) ∙ optional-given r.ties) i;
-      taken = (ap optional (numbers-back 3 (lit< tt)) ∙ optional-given r.taken) i;
-      words = (ap optional (numbers-back 4 (lit< tt)) ∙ optional-given r.words) i;
-      state = (ap held_state (numbers-back 5 (lit< tt)) ∙ sym fits.state) i;
+    encoded_back i = record {
+      truck = get_or (numbers_back 0 (lit< tt) i) 0 0;
+      shovel = get_or (numbers_back 1 (lit< tt) i) 0 0;
+      ties = (ap optional (numbers_back 2 (lit< tt)) ∙ optional-given r.ties) i;
+      taken = (ap optional (numbers_back 3 (lit< tt)) ∙ optional-given r.taken) i;
+      words = (ap optional (numbers_back 4 (lit< tt)) ∙ optional-given r.words) i;
+      state = (ap held_state (numbers_back 5 (lit< tt)) ∙ sym fits.state) i;
     }

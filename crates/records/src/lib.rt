@@ -3,14 +3,14 @@
 use tsc::State;
 
 // A field that a record may lack: never told as 0 then.
-#[derive(Drop)]
+#[derive(Clone, Copy)]
 pub enum Optional {
     Absent,
     Value(u8),
 }
 
 // The fields of a record.
-#[derive(Drop)]
+#[derive(Clone, Copy)]
 pub struct Record {
     pub truck: u16,
     pub shovel: u16,
@@ -23,14 +23,14 @@ pub struct Record {
 }
 
 // What the desk is answered: 0 and every field, or the refusal. An enum can't hold the state's array.
-#[derive(Drop)]
+#[derive(Clone, Copy)]
 pub struct RecordReading {
     pub refusal: u8,
     pub values: Record,
 }
 
 // What a cab is answered: the shovel alone, or the refusal.
-#[derive(Drop)]
+#[derive(Clone, Copy)]
 pub enum Order {
     Shovel(u16),
     Refused(u8),

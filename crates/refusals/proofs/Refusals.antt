@@ -57,8 +57,8 @@ none_right (c ∷ cs) ds h = none_right cs ds h.1
 pub first_right : (cs ds : List Check) → first_of cs ≡ 0 → first_of (cs ++ ds) ≡ first_of ds
 first_right cs ds z = first-append cs ds (none_first cs z)
 
-pub first-both : (cs ds : List Check) → first_of (cs ++ ds) ≡ 0 → (first_of cs ≡ 0) × (first_of ds ≡ 0)
-first-both cs ds z = let n = none_first (cs ++ ds) z in (first-none cs (none_left cs ds n), first-none ds (none_right cs ds n))
+pub first_both : (cs ds : List Check) → first_of (cs ++ ds) ≡ 0 → (first_of cs ≡ 0) × (first_of ds ≡ 0)
+first_both cs ds z = let n = none_first (cs ++ ds) z in (first-none cs (none_left cs ds n), first-none ds (none_right cs ds n))
 
 pub none-append : (cs ds : List Check) → NoneApplies cs → NoneApplies ds → NoneApplies (cs ++ ds)
 none-append cs ds h t = none_first (cs ++ ds) (first-append cs ds h ∙ first-none ds t)

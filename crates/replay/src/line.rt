@@ -9,7 +9,7 @@ use case_states::{Ask, Move, states};
 use case_strips::strips;
 
 // The calls that take the bytes of a card or a record.
-#[derive(Drop)]
+#[derive(Clone, Copy)]
 enum Call {
     Check,
     Read,

@@ -18,7 +18,7 @@ use Rattle.stepping.proofs.Holding.{held, holds}
 use Rattle.outputs.specs.declared.next.Output.{Output}
 use Rattle.outputs.specs.Output.{output}
 use Rattle.samples.specs.Samples.{most_taken, limit}
-use Rattle.samples.proofs.Tried.{Over, over_none, over-next, kept, taken_next}
+use Rattle.samples.proofs.Tried.{Over, over_none, over_next, kept, taken_next}
 use Rattle.sample.specs.declared.draw.Sample.{Sample}
 use Rattle.sample.specs.Drawn.{sample}
 
@@ -49,17 +49,17 @@ module _ (card : Card) (xs : List ℕ) (k : ℕ) where
       unfolding iterate
       next = e ∙ ap (λ (s : State). output card (used card s)) h.state ∙ ap (output card) (held card (orbit card xs t) (orbit_in_range card xs sx t))
 
-      next-number : o ≡ number (t + 1)
-      next-number = next ∙ ap number (sym (add-one t))
+      next_number : o ≡ number (t + 1)
+      next_number = next ∙ ap number (sym (add-one t))
 
       same : deciding ≡ (eqb (t + 1) most_taken || kept card xs k t)
       same = ap (λ (o : Output). eqb (t + 1) most_taken || ltb o.word (limit card k)) next
 
-      pub passed-next : deciding ≡ false → Passed card xs k (t + 1) o.state
-      passed-next d = record { over = over-next _ t h.over (sym same ∙ d); state = ap (λ (o : Output). o.state) next-number }
+      pub passed_next : deciding ≡ false → Passed card xs k (t + 1) o.state
+      passed_next d = record { over = over_next _ t h.over (sym same ∙ d); state = ap (λ (o : Output). o.state) next_number }
 
-      pub passed-all : k ≢ 1 → deciding ≡ true → record { state = o.state; rank = o.word % k; taken = t + 1 } ≡ sample card xs k
-      passed-all several d =
+      pub passed_all : k ≢ 1 → deciding ≡ true → record { state = o.state; rank = o.word % k; taken = t + 1 } ≡ sample card xs k
+      passed_all several d =
           let n = taken_next card xs k several t h.over (sym same ∙ d) in
           let made : Output → ℕ → Sample = λ o t. record { state = o.state; rank = o.word % k; taken = t } in
-          ap (λ (o : Output). made o (t + 1)) next-number ∙ ap (λ (t : ℕ). made (number t) t) (sym n)
+          ap (λ (o : Output). made o (t + 1)) next_number ∙ ap (λ (t : ℕ). made (number t) t) (sym n)

@@ -18,7 +18,7 @@ use tsc::{Card, State};
 pub const MOST_TAKEN: u8 = 16;
 
 // What is drawn: the state then, the rank, and how many words were taken.
-#[derive(Drop)]
+#[derive(Clone, Copy)]
 pub struct Sample {
     pub state: State,
     pub rank: u32,

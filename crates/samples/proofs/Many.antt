@@ -24,8 +24,8 @@ module _ (n k : ℕ) where
       go (yes l) = absurd (omega (arith, z, ties-over l))
       go (no n) = omega arith
 
-  pub ties-told : first_of (tie_checks n k) ≢ 0 → 2 ^ n < k
-  ties-told ne = go (dec_lt (2 ^ n) k)
+  pub ties_told : first_of (tie_checks n k) ≢ 0 → 2 ^ n < k
+  ties_told ne = go (dec_lt (2 ^ n) k)
     where
       go : Dec (2 ^ n < k) → 2 ^ n < k
       go (yes l) = l

@@ -13,7 +13,7 @@ use lib.Dec.{eqb, ltb}
 use Rattle.cycle.specs.Notation.{iterate, first}
 use Rattle.cycle.proofs.Count.{neither}
 use Rattle.cycle.proofs.Every.{extend}
-use Rattle.cycle.proofs.First.{first_le, first-at, before-first, first_is, first-none}
+use Rattle.cycle.proofs.First.{first_le, first_at, before-first, first_is, first-none}
 use Rattle.tsc.specs.declared.Card.{Card}
 use Rattle.tsc.specs.Step.{orbit}
 use Rattle.tsc.specs.Word.{word, word_at}
@@ -30,13 +30,13 @@ module _ (p : ℕ → Bool) where
 
   module _ (t : ℕ) (h : Over p t) where
     -- the next does not decide, or it does
-    pub over-next : (eqb (t + 1) most_taken || p t) ≡ false → Over p (t + 1)
-    over-next d =
+    pub over_next : (eqb (t + 1) most_taken || p t) ≡ false → Over p (t + 1)
+    over_next d =
         let b = neither _ _ d in
         record { few = let n = eqb-false (t + 1) most_taken b.0 in omega (arith, h.few); each = extend (λ (j : ℕ). p j ≡ false) t h.each b.1 }
 
-    pub over-all : (eqb (t + 1) most_taken || p t) ≡ true → first (most_taken - 1) p ≡ t
-    over-all d = go (ℕ_discrete (t + 1) most_taken)
+    pub over_all : (eqb (t + 1) most_taken || p t) ≡ true → first (most_taken - 1) p ≡ t
+    over_all d = go (ℕ_discrete (t + 1) most_taken)
       where
         go : Dec (t + 1 ≡ most_taken) → first (most_taken - 1) p ≡ t
         go (yes e) = first-none (most_taken - 1) p (λ j l. h.each j (omega arith)) ∙ omega arith
@@ -64,7 +64,7 @@ module _ (card : Card) (xs : List ℕ) (k : ℕ) where
   -- and that one is below L, or the sixteenth
   decided : tried card xs k < most_taken → word card (orbit card xs (tried card xs k)) < limit card k
   unfolding tried
-  decided l = ltb-true (word card (orbit card xs (tried card xs k))) (limit card k) (first-at (most_taken - 1) kept (omega arith))
+  decided l = ltb-true (word card (orbit card xs (tried card xs k))) (limit card k) (first_at (most_taken - 1) kept (omega arith))
 
   -- ---- taken
 
@@ -79,7 +79,7 @@ module _ (card : Card) (xs : List ℕ) (k : ℕ) where
   -- as they are tried: t are passed over, and the next decides
   pub taken_next : k ≢ 1 → (t : ℕ) → Over kept t → (eqb (t + 1) most_taken || kept t) ≡ true → taken card xs k ≡ t + 1
   unfolding tried
-  taken_next n t h d = taken-tried n ∙ ap suc (over-all kept t h d) ∙ sym (add-one t)
+  taken_next n t h d = taken-tried n ∙ ap suc (over_all kept t h d) ∙ sym (add-one t)
 
   -- one tie alone has rank 0, and the state stays as it is
   pub alone : k ≡ 1 → (drawn_rank card xs k ≡ 0) × (drawn_state card xs k ≡ xs)

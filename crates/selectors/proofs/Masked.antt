@@ -5,11 +5,11 @@ use native.Mathlib.Decide.{dec_lt}
 use lib.Bits.{bit_and, bit_or, and_mask, and_comm, and_zero_r, or_zero_r, or_add_and}
 use lib.Pow.{ones_lt}
 use Rattle.cycle.specs.Notation.{bit}
-use Rattle.cycle.proofs.Bits.{bit_past, bit-ones, mod-pow-mod}
+use Rattle.cycle.proofs.Bits.{bit_past, bit_ones, mod_pow_mod}
 use Rattle.tsc.specs.Constants.{widest_width}
 use Rattle.tsc.specs.Selector.{and_words, sum_words}
 use Rattle.words.proofs.Masks.{spread_is}
-use Rattle.words.proofs.Words.{words_from, words-past, words-next}
+use Rattle.words.proofs.Words.{words_from, words-past, words_next}
 
 -- numbers of w bits under a mask of ones
 and_ones : (w x : ℕ) → x < 2 ^ w → bit_and x (2 ^ w - 1) ≡ x
@@ -25,7 +25,7 @@ module _ (w m : ℕ) (ws : List ℕ) (few : m ≤ length ws) (k : ℕ) (pos : 0 
   next P there absent = rw mask (go (dec_lt (k - 1) m))
     where
       go : Dec (k - 1 < m) → P (words_from (k - 1) m ws) (cond (ltb (k - 1) m) 0 (2 ^ w - 1)) (words_from k m ws)
-      go (yes l) = simp (lt-ltb (k - 1) m l) (rw (words-next k m ws pos (omega arith) few) (there (words_from k m ws)))
+      go (yes l) = simp (lt-ltb (k - 1) m l) (rw (words_next k m ws pos (omega arith) few) (there (words_from k m ws)))
       go (no g) = simp (le-ltb (k - 1) m (omega arith)) (rw (words-past (k - 1) m ws (omega arith) few, words-past k m ws (omega arith) few) absent)
 
   pub and_next : (n : ℕ) → n ≤ w → bit_and (bit_or (get_or ws (k - 1) 0) a) (and_words n (words_from k m ws)) ≡ and_words n (words_from (k - 1) m ws)
@@ -35,9 +35,9 @@ module _ (w m : ℕ) (ws : List ℕ) (few : m ≤ length ws) (k : ℕ) (pos : 0 
       (λ xs. ap (λ (x : ℕ). bit_and x (and_words n xs)) (or_zero_r (get_or ws (k - 1) 0)))
       (ap (λ (x : ℕ). bit_and x (2 ^ n - 1)) (or_ones w (get_or ws (k - 1) 0) fits) ∙ and_comm (2 ^ w - 1) (2 ^ n - 1) ∙ and_ones w (2 ^ n - 1) (omega (arith, ones_lt n, pow_mono {i = n} {j = w} narrow)))
 
-  pub sum-next : (bit_and (get_or ws (k - 1) 0) ((2 ^ w - 1) - a) + sum_words (words_from k m ws) % 2 ^ w) % 2 ^ w ≡ sum_words (words_from (k - 1) m ws) % 2 ^ w
+  pub sum_next : (bit_and (get_or ws (k - 1) 0) ((2 ^ w - 1) - a) + sum_words (words_from k m ws) % 2 ^ w) % 2 ^ w ≡ sum_words (words_from (k - 1) m ws) % 2 ^ w
   unfolding sum_words
-  sum-next =
+  sum_next =
       next (λ now a before. (bit_and (get_or ws (k - 1) 0) ((2 ^ w - 1) - a) + sum_words before % 2 ^ w) % 2 ^ w ≡ sum_words now % 2 ^ w)
       (λ xs. ap (λ (x : ℕ). (x + sum_words xs % 2 ^ w) % 2 ^ w) (ap (bit_and (get_or ws (k - 1) 0)) (sub-zero (2 ^ w - 1)) ∙ and_ones w (get_or ws (k - 1) 0) fits) ∙ add-mod-mod (get_or ws (k - 1) 0) (sum_words xs) (2 ^ w))
       (ap (λ (x : ℕ). (x + 0 % 2 ^ w) % 2 ^ w) (ap (bit_and (get_or ws (k - 1) 0)) (sub_self (2 ^ w - 1)) ∙ and_zero_r (get_or ws (k - 1) 0)) ∙ add-mod-mod 0 0 (2 ^ w))
@@ -56,7 +56,7 @@ absent_mask w m k r l h = go (dec_lt k m)
     spread b lb e = spread_is w b r lb l (λ i li. h i li ∙ e)
 
     go : Dec (k < m) → (2 ^ w - 1) - r ≡ cond (ltb k m) 0 (2 ^ w - 1)
-    go (yes lk) = simp (lt-ltb k m lk) (omega (arith, spread 1 (omega arith) (bit-ones m k lk)))
+    go (yes lk) = simp (lt-ltb k m lk) (omega (arith, spread 1 (omega arith) (bit_ones m k lk)))
     go (no g) = simp (le-ltb k m (omega arith)) (omega (arith, spread 0 (omega arith) (bit_past m k (2 ^ m - 1) (ones_lt m) (omega arith))))
 
 -- ---- the term 2s
@@ -65,6 +65,6 @@ absent_mask w m k r l h = go (dec_lt k m)
 pub doubled-sum : (w n s : ℕ) (b : Bool) → n ≤ w → bit_and ((s % 2 ^ w + s % 2 ^ w) % 2 ^ w) (cond b (2 ^ n - 1) 0) ≡ cond b (2 * (s % 2 ^ n) % 2 ^ n) 0
 doubled-sum w n s true l =
     let x = s % 2 ^ w in
-    and_mask ((x + x) % 2 ^ w) n ∙ mod-pow-mod w n (x + x) l ∙ add-mod x x (2 ^ n) ∙ ap (λ (y : ℕ). (y + y) % 2 ^ n) (mod-pow-mod w n s l)
+    and_mask ((x + x) % 2 ^ w) n ∙ mod_pow_mod w n (x + x) l ∙ add-mod x x (2 ^ n) ∙ ap (λ (y : ℕ). (y + y) % 2 ^ n) (mod_pow_mod w n s l)
     ∙ ap (λ (y : ℕ). y % 2 ^ n) (sym (two-mul (s % 2 ^ n)))
 doubled-sum w n s false l = and_zero_r ((s % 2 ^ w + s % 2 ^ w) % 2 ^ w)

@@ -13,7 +13,7 @@ use words::arithmetic::Width;
 use words::{arithmetic, mask};
 
 // What the selector needs of a card, worked out once for all the steps of a call.
-#[derive(Drop)]
+#[derive(Clone, Copy)]
 pub struct Terms {
     // m
     pub words: u32,

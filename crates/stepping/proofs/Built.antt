@@ -18,7 +18,7 @@ use Rattle.tsc.specs.Columns.{InRange, column}
 use Rattle.tsc.specs.Selector.{selector}
 use Rattle.tsc.specs.Step.{entry, power, step}
 use Rattle.tsc.specs.Coverage.{IsState, step_back}
-use Rattle.tsc.proofs.LowWords.{low_words, length_low_words, get_or_low_words, take_low_words, low_words_none, low_words_all, column_low_words, column-front}
+use Rattle.tsc.proofs.LowWords.{low_words, length_low_words, get_or_low_words, take_low_words, low_words_none, low_words_all, column_low_words, column_front}
 use Rattle.tsc.proofs.Columns.{column_lt}
 use Rattle.tsc.proofs.Number.{columns}
 use Rattle.tsc.proofs.Selector.{selector-lower}
@@ -28,7 +28,7 @@ use Rattle.card_format.specs.Verdict.{Accepted}
 use Rattle.cycle.proofs.Lists.{take-filled}
 use Rattle.columns.specs.Replace.{with_column, image_of}
 use Rattle.columns.proofs.Placed.{with_column-low}
-use Rattle.columns.proofs.Powers.{image-power}
+use Rattle.columns.proofs.Powers.{image_power}
 use Rattle.selectors.specs.declared.selector.Terms.{Terms}
 use Rattle.stepping.specs.State.{used, Holds, holding, undone, Steps, Undoes}
 use Rattle.stepping.proofs.Holding.{length-holding, column-holding, holding_lt, holding-past}
@@ -61,7 +61,7 @@ module _ (card : Card) (terms : Terms) (odd even : List ℕ) (s : State) (count 
   column-used held =
       let xs : List ℕ = used card s in
       ap (λ (t : State). column i (take count t.words)) held.1
-      ∙ column-front count i (holding xs).words (λ k lk. holding-past xs k (omega (arith, held.0.0))) ∙ column-holding i xs
+      ∙ column_front count i (holding xs).words (λ k lk. holding-past xs k (omega (arith, held.0.0))) ∙ column-holding i xs
 
   column-few : (ys : List ℕ) → IsState card ys → column i ys < 2 ^ card.words
   column-few ys sy = columns card.words ys sy.0 card.width i l
@@ -72,13 +72,13 @@ module _ (card : Card) (terms : Terms) (odd even : List ℕ) (s : State) (count 
   step-column st e =
       let xs : List ℕ = used card s in
       ap₂ (λ (z c : ℕ). image_of odd even (bit i z) c) e (column-used st.holds)
-      ∙ image-power card odd even card.odd_power card.even_power (bit i (selector card xs)) (column i xs) st.first st.second (column-few xs st.holds.0)
+      ∙ image_power card odd even card.odd_power card.even_power (bit i (selector card xs)) (column i xs) st.first st.second (column-few xs st.holds.0)
       ∙ sym (column-step card st.accepted.formed xs st.holds.0.0 i l)
 
   -- column i of the step back, once the columns below it are found: they are all that the selector bit depends on
-  pub back-column : Undoes card terms odd even s → {z : ℕ} (found : State) → z ≡ selector card (used card found) → Built (step_back card (used card s)) i found
+  pub back_column : Undoes card terms odd even s → {z : ℕ} (found : State) → z ≡ selector card (used card found) → Built (step_back card (used card s)) i found
       → image_of odd even (bit i z) (column i (take count s.words)) ≡ column i (step_back card (used card s))
-  back-column u found e b =
+  back_column u found e b =
       let m : ℕ = card.words in
       let ok : Accepted card = u.accepted in
       let held : Holds card s = u.holds in
@@ -94,7 +94,7 @@ module _ (card : Card) (terms : Terms) (odd even : List ℕ) (s : State) (count 
       let moved : column i xs ≡ iterate (entry card) (power card z) (column i ys) =
       ap (column i) (sym (step_of_back_lem card ok.formed ok.period xs held.0)) ∙ column-step card ok.formed ys sy.0 i l in
       ap₂ (image_of odd even) (ap (bit i) e ∙ same) (column-used held)
-      ∙ image-power card odd even (undone m card.odd_power) (undone m card.even_power) z (column i xs) u.first u.second (column-few xs held.0)
+      ∙ image_power card odd even (undone m card.odd_power) (undone m card.even_power) z (column i xs) u.first u.second (column-few xs held.0)
       ∙ ap (iterate (entry card) (cond (eqb z 1) (undone m card.odd_power) (undone m card.even_power))) moved
       ∙ back (eqb z 1) (column i ys) (column-few ys sy)
     where
@@ -119,10 +119,10 @@ module _ (card : Card) (terms : Terms) (odd even : List ℕ) (s : State) (u : Un
   pub back_none : (found : State) → found.words ≡ replicate most_words 0 → Built (step_back card (used card s)) 0 found
   back_none found e = built_none earlier fits found e
 
-  pub back-next : (count i z : ℕ) (found next : State) → card.words ≤ count → i < card.width → z ≡ selector card (used card found) → Built (step_back card (used card s)) i found
+  pub back_next : (count i z : ℕ) (found next : State) → card.words ≤ count → i < card.width → z ≡ selector card (used card found) → Built (step_back card (used card s)) i found
       → next.words ≡ with_column count i (image_of odd even (bit i z) (column i (take count s.words))) found.words → Built (step_back card (used card s)) (i + 1) next
-  back-next count i z found next few l ez b e =
-      built_next earlier fits count i _ found next (omega (arith, in_range.0)) b e (back-column card terms odd even s count i few l u found ez b)
+  back_next count i z found next few l ez b e =
+      built_next earlier fits count i _ found next (omega (arith, in_range.0)) b e (back_column card terms odd even s count i few l u found ez b)
 
-  pub back-all : (i : ℕ) (found : State) → i ≡ card.width → Built (step_back card (used card s)) i found → found ≡ holding (step_back card (used card s))
-  back-all i found e b = built_all card.words card.width i earlier found in_range e b
+  pub back_all : (i : ℕ) (found : State) → i ≡ card.width → Built (step_back card (used card s)) i found → found ≡ holding (step_back card (used card s))
+  back_all i found e b = built_all card.words card.width i earlier found in_range e b

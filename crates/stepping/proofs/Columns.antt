@@ -10,7 +10,7 @@ use lib.ListN.{length, get_or, take}
 use lib.Pow.{pow_mono, ones_lt}
 use lib.Seq.{ext_get_or}
 use Rattle.cycle.specs.Notation.{bit}
-use Rattle.cycle.proofs.Bits.{bit_zero, bit_past, bit-ones, bits_ext}
+use Rattle.cycle.proofs.Bits.{bit_zero, bit_past, bit_ones, bits_ext}
 use Rattle.tsc.specs.declared.Card.{Card}
 use Rattle.tsc.specs.declared.State.{State}
 use Rattle.tsc.specs.Constants.{most_words, widest_width}
@@ -37,7 +37,7 @@ module _ (m n : ℕ) (xs : List ℕ) (r : InRange m n xs) (few : m ≤ most_word
   -- bit i of word k
   in_place : (f : ℕ → ℕ) → ((i : ℕ) → i < n → f i ≡ column i xs) → (k i : ℕ) → Dec (i < n) → bit k (bit i (2 ^ n - 1) * f i) ≡ bit i (get_or (holding xs).words k 0)
   in_place f h k i (yes l) =
-      ap (bit k) (ap₂ (λ (a b : ℕ). a * b) (bit-ones n i l) (h i l ∙ sym (column-holding i xs)) ∙ one-mul (column i (holding xs).words))
+      ap (bit k) (ap₂ (λ (a b : ℕ). a * b) (bit_ones n i l) (h i l ∙ sym (column-holding i xs)) ∙ one-mul (column i (holding xs).words))
       ∙ bit-column i (holding xs).words k
   in_place f h k i (no g) =
       ap (λ (a : ℕ). bit k (a * f i)) (bit_past n i (2 ^ n - 1) (ones_lt n) (omega arith)) ∙ ap (bit k) (zero-mul (f i)) ∙ bit_zero k
@@ -65,10 +65,10 @@ pub terms_width : (card : Card) (terms : Terms) → Accepted card → IsTerms ca
 terms_width card terms ok t = width_is _ _ (sized card ok).0 (sized card ok).1 t.width
 
 -- the step, where every column in `low` was put through the power that its bit of z picks
-pub step-made : (card : Card) (terms : Terms) (odd even : List ℕ) (s : State) → Steps card terms odd even s → (count z low : ℕ) (r : State) → card.words ≤ count
+pub step_made : (card : Card) (terms : Terms) (odd even : List ℕ) (s : State) → Steps card terms odd even s → (count z low : ℕ) (r : State) → card.words ≤ count
     → z ≡ selector card (used card s) → low ≡ 2 ^ card.width - 1 → length r.words ≡ most_words → ((k : ℕ) → get_or r.words k 0 < 2 ^ widest_width)
     → Replaced count odd even s.words z low r.words → r ≡ holding (step card (used card s))
-step-made card terms odd even s st count z low r few ez el all fits made =
+step_made card terms odd even s st count z low r few ez el all fits made =
     let xs = used card s in
     holding-columns card.words card.width (step card xs) (step_in_range card xs) st.accepted.few st.accepted.narrow count r
     (λ i. image_of odd even (bit i z) (column i (take count s.words))) low few all fits el made.columns made.others

@@ -17,9 +17,9 @@ pub record Allowed (shovels times : List ℕ) : Type 0 where
   pub few : length times ≤ most_shovels
   pub once : twice shovels ≡ false
 
-pub list-allowed : (shovels times : List ℕ) → first_of (list_checks shovels times) ≡ 0 → Allowed shovels times
+pub list_allowed : (shovels times : List ℕ) → first_of (list_checks shovels times) ≡ 0 → Allowed shovels times
 unfolding list_checks NoneApplies
-list-allowed shovels times z =
+list_allowed shovels times z =
     let h = none_first (list_checks shovels times) z in
     let e = eqb-true (length shovels) (length times) (not-false _ h.0) in
     record {
@@ -29,9 +29,9 @@ list-allowed shovels times z =
       once = h.1.1.1.0;
     }
 
-pub allowed-list : (shovels times : List ℕ) → Allowed shovels times → first_of (list_checks shovels times) ≡ 0
+pub allowed_list : (shovels times : List ℕ) → Allowed shovels times → first_of (list_checks shovels times) ≡ 0
 unfolding list_checks first_of
-allowed-list shovels times ok =
+allowed_list shovels times ok =
     rw (
       eq-eqb (length shovels) (length times) ok.paired,
       ne_eqb (length shovels) 0 (omega (arith, ok.paired, ok.some)),

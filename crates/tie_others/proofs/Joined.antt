@@ -11,7 +11,7 @@ use borrow.Author.Tests.{lt-ltb, le-ltb, eq-eqb, ne_eqb, eqb-true, eqb-false, no
 use lib.Dec.{eqb, ltb}
 use lib.ListN.{length, get_or}
 use Rattle.cycle.specs.Notation.{one, count}
-use Rattle.cycle.proofs.Count.{count_none, count_next, count_ext, count-never, count-some, count_le}
+use Rattle.cycle.proofs.Count.{count_none, count_next, count_ext, count_never, count-some, count_le}
 use Rattle.changes.specs.Change.{most_time}
 use Rattle.changes.specs.Others.{other_at}
 use Rattle.changes.proofs.After.{LeastOther}
@@ -23,8 +23,8 @@ module _ (times : List ℕ) (i : ℕ) where
   abbrev pub having : ℕ → ℕ → (ℕ → Bool) → ℕ
   having n x p = count n (λ j. other_at times i x j && p j)
 
-  pub having-all : (n x : ℕ) → having n x (λ j. true) ≡ count n (other_at times i x)
-  having-all n x = count_ext n _ _ (λ j l. and-true (other_at times i x j))
+  pub having_all : (n x : ℕ) → having n x (λ j. true) ≡ count n (other_at times i x)
+  having_all n x = count_ext n _ _ (λ j l. and-true (other_at times i x j))
 
   module _ (n : ℕ) (p : ℕ → Bool) where
     abbrev t : ℕ
@@ -33,7 +33,7 @@ module _ (times : List ℕ) (i : ℕ) where
     -- the next shovel is of an earlier time than all; of the same; of another, or left out
     first : (x : ℕ) → n ≢ i → t < x → ((j : ℕ) → j < n → j ≢ i → x ≤ get_or times j 0) → one (p n) ≡ having (suc n) t p
     first x m l h =
-        sym (count_next n _ ∙ rw (count-never n (λ j. other_at times i t j && p j) (λ j lj. none j lj (ℕ_discrete j i)), ne_eqb n i m, eq-eqb t t refl) (omega arith))
+        sym (count_next n _ ∙ rw (count_never n (λ j. other_at times i t j && p j) (λ j lj. none j lj (ℕ_discrete j i)), ne_eqb n i m, eq-eqb t t refl) (omega arith))
       where
         none : (j : ℕ) → j < n → Dec (j ≡ i) → (other_at times i t j && p j) ≡ false
         none j lj (yes e) = rw (eq-eqb j i e) refl
@@ -83,7 +83,7 @@ module _ (shovels times : List ℕ) (i y : ℕ) where
     kept later =
         record {
           least = below o.time (le_refl _) (λ m. omega (arith, later m));
-          ties = h.ties ∙ sym (having-all times i n o.time) ∙ without times i n (λ j. true) o.time other ∙ having-all times i (suc n) o.time;
+          ties = h.ties ∙ sym (having_all times i n o.time) ∙ without times i n (λ j. true) o.time other ∙ having_all times i (suc n) o.time;
           lower = h.lower ∙ without times i n lower o.time other;
           some = λ j l m. some j l m (ℕ_discrete j n);
           none = h.none;
@@ -100,9 +100,9 @@ module _ (shovels times : List ℕ) (i y : ℕ) where
             go (yes z) = absurd (omega (arith, h.none z, later (λ q. m (e ∙ q))))
             go (no z) = omega arith
 
-    pub others-next : IsOthers shovels times i y (suc n) (joined_by o (not (eqb n i)) now (lower n))
+    pub others_next : IsOthers shovels times i y (suc n) (joined_by o (not (eqb n i)) now (lower n))
     unfolding joined_by
-    others-next = go (ℕ_discrete n i) (dec_lt now o.time) (ℕ_discrete now o.time)
+    others_next = go (ℕ_discrete n i) (dec_lt now o.time) (ℕ_discrete now o.time)
       where
         go : Dec (n ≡ i) → Dec (now < o.time) → Dec (now ≡ o.time) → IsOthers shovels times i y (suc n) (joined_by o (not (eqb n i)) now (lower n))
         go (yes e) d f = rw (eq-eqb n i e) (kept (λ m. absurd (m e)))
@@ -110,7 +110,7 @@ module _ (shovels times : List ℕ) (i y : ℕ) where
             rw (ne_eqb n i m, lt-ltb now o.time l)
             (record {
               least = below now (omega arith) (λ k. le_refl _);
-              ties = first times i n (λ j. true) o.time m l h.least ∙ having-all times i (suc n) now;
+              ties = first times i n (λ j. true) o.time m l h.least ∙ having_all times i (suc n) now;
               lower = first times i n lower o.time m l h.least;
               some = λ j lj k. omega arith;
               none = λ z. absurd (omega arith);
@@ -119,8 +119,8 @@ module _ (shovels times : List ℕ) (i y : ℕ) where
             rw (ne_eqb n i m, le-ltb now o.time (omega arith), eq-eqb now o.time e)
             (record {
               least = below now (omega arith) (λ k. le_refl _);
-              ties = ap (λ (k : ℕ). k + 1) (h.ties ∙ sym (having-all times i n o.time)) ∙ further times i n (λ j. true) o.time m e
-                  ∙ having-all times i (suc n) o.time ∙ ap (λ (x : ℕ). count (suc n) (other_at times i x)) (sym e);
+              ties = ap (λ (k : ℕ). k + 1) (h.ties ∙ sym (having_all times i n o.time)) ∙ further times i n (λ j. true) o.time m e
+                  ∙ having_all times i (suc n) o.time ∙ ap (λ (x : ℕ). count (suc n) (other_at times i x)) (sym e);
               lower = ap (λ (k : ℕ). k + one (lower n)) h.lower ∙ further times i n lower o.time m e ∙ ap (λ (x : ℕ). having times i (suc n) x lower) (sym e);
               some = λ j lj k. omega arith;
               none = λ z. absurd (omega arith);

@@ -7,7 +7,7 @@ use super::bit;
 use changes::MOST_TIME;
 
 // With no shovel at all, the greatest time, and none.
-#[derive(Drop)]
+#[derive(Clone, Copy)]
 pub struct Others {
     pub time: u32,
     pub ties: usize,

@@ -57,8 +57,8 @@ module _ (times : List ℕ) (x : ℕ) (h : LeastOf times (length times) x) where
   is_zero true = refl
   is_zero false = refl
 
-  pub marks-alike : SameTies times (marks times x)
-  marks-alike =
+  pub marks_alike : SameTies times (marks times x)
+  marks_alike =
       let n = length-tabulate (length times) (λ i. one (not (eqb (get_or times i 0) x))) in
       record {
         size = sym n;

@@ -11,8 +11,8 @@ use borrow.Author.Tests.{eqb-true, eq-eqb, le-leb, leb-true, lt-ltb, le-ltb}
 use lib.Dec.{eqb, leb, ltb}
 use lib.ListN.{length, get_or}
 use Rattle.cycle.specs.Notation.{count}
-use Rattle.cycle.proofs.Every.{every-at, every_of, extend}
-use Rattle.cycle.proofs.Count.{same_test, count_ext, count_le, count-pos}
+use Rattle.cycle.proofs.Every.{every_at, every_of, extend}
+use Rattle.cycle.proofs.Count.{same_test, count_ext, count_le, count_pos}
 use Rattle.ties.specs.Ties.{is_tie, ties}
 use Rattle.ties.specs.Least.{LeastOf}
 
@@ -23,8 +23,8 @@ module _ (times : List ℕ) where
   least_first = record { stands = (0, le_refl 1, refl); least = λ j l. extend (λ (j : ℕ). get_or times 0 0 ≤ get_or times j 0) 0 (λ j l. absurd (omega arith)) (le_refl _) j (omega arith) }
 
   -- the least of the first i and of one more
-  pub least-next : (i x : ℕ) → LeastOf times i x → LeastOf times (i + 1) (cond (ltb (get_or times i 0) x) (get_or times i 0) x)
-  least-next i x h = go (dec_lt (get_or times i 0) x)
+  pub least_next : (i x : ℕ) → LeastOf times i x → LeastOf times (i + 1) (cond (ltb (get_or times i 0) x) (get_or times i 0) x)
+  least_next i x h = go (dec_lt (get_or times i 0) x)
     where
       go : Dec (get_or times i 0 < x) → LeastOf times (i + 1) (cond (ltb (get_or times i 0) x) (get_or times i 0) x)
       go (yes l) =
@@ -43,7 +43,7 @@ module _ (times : List ℕ) where
   least_exists (suc zero) l = (get_or times 0 0, least_first)
   least_exists (suc (suc n)) l =
       let r = least_exists (suc n) (omega arith) in
-      (cond (ltb (get_or times (suc n) 0) r.0) (get_or times (suc n) 0) r.0, rw (sym (add-one (suc n))) (least-next (suc n) r.0 r.1))
+      (cond (ltb (get_or times (suc n) 0) r.0) (get_or times (suc n) 0) r.0, rw (sym (add-one (suc n))) (least_next (suc n) r.0 r.1))
 
   -- ---- ties
 
@@ -53,7 +53,7 @@ module _ (times : List ℕ) where
 
   pub tie_le : (i : ℕ) → is_tie times i ≡ true → (j : ℕ) → j < length times → get_or times i 0 ≤ get_or times j 0
   unfolding is_tie
-  tie_le i h j l = leb-true (get_or times i 0) (get_or times j 0) (every-at (length times) (λ j. leb (get_or times i 0) (get_or times j 0)) h j l)
+  tie_le i h j l = leb-true (get_or times i 0) (get_or times j 0) (every_at (length times) (λ j. leb (get_or times i 0) (get_or times j 0)) h j l)
 
   module _ (x : ℕ) (h : LeastOf times (length times) x) where
     pub tie_least : (i : ℕ) → i < length times → is_tie times i ≡ eqb (get_or times i 0) x
@@ -63,16 +63,16 @@ module _ (times : List ℕ) where
         (λ t. eq-eqb (get_or times i 0) x (omega (arith, tie_le i t s.0 s.1, s.2, h.least i l)))
         (λ e. tie_of i (λ j lj. omega (arith, eqb-true (get_or times i 0) x e, h.least j lj)))
 
-    pub ties-counted : count (length times) (λ i. eqb (get_or times i 0) x) ≡ ties times
+    pub ties_counted : count (length times) (λ i. eqb (get_or times i 0) x) ≡ ties times
     unfolding ties
-    ties-counted = sym (count_ext (length times) (is_tie times) (λ i. eqb (get_or times i 0) x) tie_least)
+    ties_counted = sym (count_ext (length times) (is_tie times) (λ i. eqb (get_or times i 0) x) tie_least)
 
   pub ties-some : 0 < length times → 0 < ties times
   unfolding ties
   ties-some l =
       let r = least_exists (length times) l in
       let s = r.1.stands in
-      count-pos (length times) (is_tie times) s.0 s.1 (tie_least r.0 r.1 s.0 s.1 ∙ eq-eqb (get_or times s.0 0) r.0 s.2)
+      count_pos (length times) (is_tie times) s.0 s.1 (tie_least r.0 r.1 s.0 s.1 ∙ eq-eqb (get_or times s.0 0) r.0 s.2)
 
   pub ties_le : ties times ≤ length times
   unfolding ties

@@ -7,7 +7,7 @@ use native.Mathlib.Omega.{arith}
 use lib.Dec.{eqb, leb, ltb}
 use lib.ListN.{length, get_or}
 use Rattle.cycle.specs.Notation.{every, one, count}
-use Rattle.cycle.proofs.Every.{every-at, every_of}
+use Rattle.cycle.proofs.Every.{every_at, every_of}
 use Rattle.cycle.proofs.Count.{same_test, count_ext}
 use Rattle.cycle.proofs.Pigeonhole.{sum_permute}
 use Rattle.cycle.proofs.Digits.{length-tabulate, get_d_tabulate}
@@ -22,8 +22,8 @@ count_permute n f p q s h = count_ext n p (λ i. q (f i)) h ∙ sum_permute n f 
 pub every_permute : (n : ℕ) (f : ℕ → ℕ) (p q : ℕ → Bool) → Permutes n f → ((i : ℕ) → i < n → p i ≡ q (f i)) → every n p ≡ every n q
 every_permute n f p q s h =
     same_test (every n p) (every n q)
-    (λ e. every_of n q (λ j l. let r = s.onto j l in ap q (sym r.2) ∙ sym (h r.0 r.1) ∙ every-at n p e r.0 r.1))
-    (λ e. every_of n p (λ i l. h i l ∙ every-at n q e (f i) (s.below i l)))
+    (λ e. every_of n q (λ j l. let r = s.onto j l in ap q (sym r.2) ∙ sym (h r.0 r.1) ∙ every_at n p e r.0 r.1))
+    (λ e. every_of n p (λ i l. h i l ∙ every_at n q e (f i) (s.below i l)))
 
 pub length-reordered : (f : ℕ → ℕ) (xs : List ℕ) → length (reordered f xs) ≡ length xs
 length-reordered f xs = length-tabulate (length xs) (λ i. get_or xs (f i) 0)
@@ -56,8 +56,8 @@ module _ (f : ℕ → ℕ) (times : List ℕ) (s : Permutes (length times) f) wh
         (λ i l. ap₂ (λ (a : Bool) (y : ℕ). a && ltb y x) (tie-reordered i l) (number-reordered i l)))
 
     -- a tie of the list is one of the reordered list, of the same rank
-    tie-forth : (r i : ℕ) → i < length times → TieAt shovels times r (f i) → TieAt (reordered f shovels) (reordered f times) r i
-    tie-forth r i l a =
+    tie_forth : (r i : ℕ) → i < length times → TieAt shovels times r (f i) → TieAt (reordered f shovels) (reordered f times) r i
+    tie_forth r i l a =
         record {
           listed = omega (arith, length-reordered f times);
           tie = tie-reordered i l ∙ a.tie;
@@ -69,7 +69,7 @@ module _ (f : ℕ → ℕ) (times : List ℕ) (s : Permutes (length times) f) wh
         let a = tie_of_rank shovels times d e r l in
         let o = s.onto a.0 a.1.listed in
         let here : TieAt shovels times r (f o.0) = subst (TieAt shovels times r) (sym o.2) a.1 in
-        chosen_is (reordered f shovels) (reordered f times) r o.0 (tie-forth r o.0 o.1 here) ∙ number-reordered o.0 o.1
+        chosen_is (reordered f shovels) (reordered f times) r o.0 (tie_forth r o.0 o.1 here) ∙ number-reordered o.0 o.1
         ∙ sym (chosen_is shovels times r (f o.0) here)
 
 occurs-reordered : (f : ℕ → ℕ) (xs : List ℕ) → Permutes (length xs) f → (x : ℕ) → occurs (reordered f xs) x ≡ occurs xs x

@@ -11,7 +11,7 @@ use lib.Dec.{eqb}
 use lib.Pow.{pow-add, shl-shr, shr-shr}
 use Rattle.cycle.specs.Notation.{every, bit}
 use Rattle.cycle.proofs.Bits.{bit_lt, bit-bit_and, bit-bit_xor, bit_zero}
-use Rattle.cycle.proofs.Every.{every-at}
+use Rattle.cycle.proofs.Every.{every_at}
 use Rattle.cycle.proofs.Parity.{bits_cases}
 use Rattle.transposition.specs.Matrix.{IsTranspose, source}
 use Rattle.transposition.proofs.Filled.{bit_byte}
@@ -40,8 +40,8 @@ module _ (d mask x : ℕ) where
   abbrev pub differing : ℕ
   differing = bit_and (bit_xor x (x / 2 ^ d)) mask
 
-  bit-differing : (j : ℕ) → bit j differing ≡ (bit j x + bit (j + d) x) % 2 * bit j mask
-  bit-differing j =
+  bit_differing : (j : ℕ) → bit j differing ≡ (bit j x + bit (j + d) x) % 2 * bit j mask
+  bit_differing j =
       bit-bit_and j (bit_xor x (x / 2 ^ d)) mask ∙ ap (λ (a : ℕ). a * bit j mask) (bit-bit_xor j x (x / 2 ^ d) ∙ ap (λ (a : ℕ). (bit j x + a) % 2) (bit_right d j x))
 
   bit_shifted : (j : ℕ) → bit j (differing * 2 ^ d) ≡ (bit (j - d) x + bit j x) % 2 * bit j (mask * 2 ^ d)
@@ -52,14 +52,14 @@ module _ (d mask x : ℕ) where
           bit_below d j differing l ∙ sym (ap (λ (a : ℕ). (bit (j - d) x + bit j x) % 2 * a) (bit_below d j mask l) ∙ mul-zero ((bit (j - d) x + bit j x) % 2))
       go (no g) =
           let e : j - d + d ≡ j = omega arith in
-          bit-left d j differing (omega arith) ∙ bit-differing (j - d)
+          bit-left d j differing (omega arith) ∙ bit_differing (j - d)
           ∙ ap₂ (λ (i b : ℕ). (bit (j - d) x + bit i x) % 2 * b) e (sym (bit-left d j mask (omega arith)))
 
   pub bit_exchange : bit_and mask (mask * 2 ^ d) ≡ 0 → (j : ℕ) → bit j (bit_xor (bit_xor x differing) (differing * 2 ^ d)) ≡ bit (source d mask j) x
   unfolding source
   bit_exchange apart j =
       bit-bit_xor j (bit_xor x differing) (differing * 2 ^ d)
-      ∙ ap₂ (λ (a b : ℕ). (a + b) % 2) (bit-bit_xor j x differing ∙ ap (λ (a : ℕ). (bit j x + a) % 2) (bit-differing j)) (bit_shifted j)
+      ∙ ap₂ (λ (a b : ℕ). (a + b) % 2) (bit-bit_xor j x differing ∙ ap (λ (a : ℕ). (bit j x + a) % 2) (bit_differing j)) (bit_shifted j)
       ∙ bits_cases (λ m n. m * n ≡ 0
       → ((bit j x + (bit j x + bit (j + d) x) % 2 * m) % 2 + (bit (j - d) x + bit j x) % 2 * n) % 2 ≡ bit (cond (eqb m 1) (j + d) (cond (eqb n 1) (j - d) j)) x)
       (λ e. omega (arith, bit_lt j x)) (λ e. omega (arith, bit_lt j x, bit_lt (j - d) x)) (λ e. omega (arith, bit_lt j x, bit_lt (j + d) x)) (λ e. absurd (omega arith))
@@ -83,5 +83,5 @@ transposed x y z r hy hz hr k i lk li =
     let j : ℕ = 8 * k + i in
     let row : j / 8 ≡ k = omega arith in
     let place : j % 8 ≡ i = omega arith in
-    let e : from j ≡ 8 * (j % 8) + j / 8 = eqb-true _ _ (every-at 64 (λ j. eqb (from j) (8 * (j % 8) + j / 8)) all_from j (omega arith)) in
+    let e : from j ≡ 8 * (j % 8) + j / 8 = eqb-true _ _ (every_at 64 (λ j. eqb (from j) (8 * (j % 8) + j / 8)) all_from j (omega arith)) in
     bit_byte k i r li ∙ hr j ∙ hz _ ∙ hy _ ∙ ap (λ (a : ℕ). bit a x) (e ∙ ap₂ (λ (a b : ℕ). 8 * a + b) place row) ∙ sym (bit_byte i k x lk)

@@ -7,21 +7,21 @@ use native.Mathlib.Omega.{arith}
 use lib.Arith.{digits_div, digits_mod, digits_lt}
 use lib.Pow.{pow_mono, shr-shr, shl_exact}
 use Rattle.cycle.specs.Notation.{sum, bit}
-use Rattle.cycle.proofs.Bits.{bit-mod}
+use Rattle.cycle.proofs.Bits.{bit_mod}
 use Rattle.cycle.proofs.Digits.{pow_mul, from_digits, from_digits_of, digit_from_digits}
 use Rattle.cycle.proofs.Every.{extend}
 use Rattle.transposition.specs.Matrix.{byte, HasBytes}
 
 pub bit_byte : (k i x : ℕ) → i < 8 → bit i (byte k x) ≡ bit (8 * k + i) x
 bit_byte k i x l =
-    bit-mod 8 i (x / 256 ^ k) l ∙ ap (λ (a : ℕ). x / a / 2 ^ i % 2) (sym (pow_mul 2 8 k)) ∙ ap (λ (a : ℕ). a % 2) (shr-shr x (8 * k) i)
+    bit_mod 8 i (x / 256 ^ k) l ∙ ap (λ (a : ℕ). x / a / 2 ^ i % 2) (sym (pow_mul 2 8 k)) ∙ ap (λ (a : ℕ). a % 2) (shr-shr x (8 * k) i)
 
 pub byte_lt : (k x : ℕ) → byte k x < 256
 byte_lt k x = mod-lt (x / 256 ^ k) (omega arith)
 
 -- a byte below n survives a reduction to n bytes
-byte-mod : (n k x : ℕ) → k < n → byte k (x % 256 ^ n) ≡ byte k x
-byte-mod n k x l =
+byte_mod : (n k x : ℕ) → k < n → byte k (x % 256 ^ n) ≡ byte k x
+byte_mod n k x l =
     ap (byte k) (sym (from_digits_of 256 n x (omega arith))) ∙ digit_from_digits 256 n (λ i. byte i x) (omega arith) (λ i h. byte_lt i x) k l
 
 -- a byte shifted to place k of eight
@@ -45,7 +45,7 @@ filled_none f = (omega arith, λ k l. absurd (omega arith))
 pub filled_next : (n : ℕ) (f : ℕ → ℕ) (x b r : ℕ) → (r ≡ x + b * 256 ^ n) × (r < 256 ^ (n + 1)) → b ≡ f n → Filled n f x → Filled (n + 1) f r
 filled_next n f x b r (q, l) e h = (
   l,
-  extend (λ k. byte k r ≡ f k) n (λ k lk. sym (byte-mod n k r lk) ∙ ap (byte k) low ∙ h.1 k lk)
+  extend (λ k. byte k r ≡ f k) n (λ k lk. sym (byte_mod n k r lk) ∙ ap (byte k) low ∙ h.1 k lk)
       (mod-eq_of_lt ((div-lt_iff_lt-mul (one-le-pow n 256 (omega arith))).1 (rw (← pow-succ' 256 n, ← add-one n) l)) ∙ high ∙ e),
 )
   where
@@ -59,8 +59,8 @@ filled_next n f x b r (q, l) e h = (
     high = ap (λ (a : ℕ). a / 256 ^ n) turn ∙ digits_div b h.0
 
 -- the bits of a number so put together
-pub filled-bits : (n : ℕ) (f : ℕ → ℕ) (x i : ℕ) → Filled n f x → i < 8 * n → bit i x ≡ bit (i % 8) (f (i / 8))
-filled-bits n f x i h l =
+pub filled_bits : (n : ℕ) (f : ℕ → ℕ) (x i : ℕ) → Filled n f x → i < 8 * n → bit i x ≡ bit (i % 8) (f (i / 8))
+filled_bits n f x i h l =
     let e : i ≡ 8 * (i / 8) + i % 8 = omega arith in
     ap (λ (j : ℕ). bit j x) e ∙ sym (bit_byte (i / 8) (i % 8) x (omega arith)) ∙ ap (bit (i % 8)) (h.1 (i / 8) (omega arith))
 

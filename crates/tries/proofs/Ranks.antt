@@ -18,7 +18,7 @@ use Rattle.tsc.specs.Step.{orbit}
 use Rattle.tsc.specs.Word.{word, word_at, orbit_words}
 use Rattle.tsc.proofs.Word.{orbit_words_at}
 use Rattle.samples.specs.Samples.{most_taken, tried, taken, drawn_rank}
-use Rattle.samples.proofs.Tried.{Over, over-all, taken_none, taken-tried, alone}
+use Rattle.samples.proofs.Tried.{Over, over_all, taken_none, taken-tried, alone}
 use Rattle.tries.specs.declared.row.Ranked.{Ranked}
 use Rattle.tries.specs.Tries.{over, ranked}
 
@@ -35,16 +35,16 @@ module _ (n : ℕ) (row : List ℕ) (k : ℕ) where
   unfolding ranked
   ranked-alone e = simp (eq-eqb k 1 e)
 
-  ranked-several : k ≢ 1 → ranked_by (over n row k) ≡ ranked n row k
+  ranked_several : k ≢ 1 → ranked_by (over n row k) ≡ ranked n row k
   unfolding ranked
-  ranked-several ne = simp (ne_eqb k 1 ne)
+  ranked_several ne = simp (ne_eqb k 1 ne)
 
   -- as it is found: t words are passed over, and the next decides
-  pub ranked-next : k ≢ 1 → (t : ℕ) → Over kept_at t → (eqb (t + 1) most_taken || kept_at t) ≡ true → record { rank = get_or row t 0 % k; taken = t + 1 } ≡ ranked n row k
+  pub ranked_next : k ≢ 1 → (t : ℕ) → Over kept_at t → (eqb (t + 1) most_taken || kept_at t) ≡ true → record { rank = get_or row t 0 % k; taken = t + 1 } ≡ ranked n row k
   unfolding over
-  ranked-next ne t h d =
+  ranked_next ne t h d =
       let made : ℕ → Ranked = λ taken. record { rank = get_or row t 0 % k; taken = taken } in
-      ap made (add-one t) ∙ ap ranked_by (sym (over-all kept_at t h d)) ∙ ranked-several ne
+      ap made (add-one t) ∙ ap ranked_by (sym (over_all kept_at t h d)) ∙ ranked_several ne
 
 -- ---- the words of the next states as a row
 
@@ -76,5 +76,5 @@ module _ (card : Card) (xs : List ℕ) (k : ℕ) where
           let none = sym (taken_none card xs k e) in
           sym (ranked-alone card.width row k e) ∙ λ i. record { rank = rank i; taken = none i }
       go (no ne) =
-          sym (ranked-several card.width row k ne) ∙ ap (λ (w : ℕ). record { rank = w % k; taken = suc passed }) row_word
+          sym (ranked_several card.width row k ne) ∙ ap (λ (w : ℕ). record { rank = w % k; taken = suc passed }) row_word
           ∙ ap drawn (row-tried ∙ sym (taken-tried card xs k ne))

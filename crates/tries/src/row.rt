@@ -16,7 +16,7 @@ use tsc::{Card, State};
 pub const MOST_TRIED: usize = draw::MOST_TAKEN as usize;
 
 // What is drawn: the rank, and how many words were taken.
-#[derive(Drop)]
+#[derive(Clone, Copy)]
 pub struct Ranked {
     pub rank: u32,
     pub taken: u8,

@@ -16,16 +16,16 @@ use Rattle.cycle.specs.Fair.{largest_multiple, gives_rank}
 use Rattle.cycle.proofs.Bits.{bits_ext}
 use Rattle.cycle.proofs.Pigeonhole.{count_equal}
 use Rattle.cycle.proofs.Sum.{sum_ext}
-use Rattle.cycle.proofs.Remainder.{add-mod-injective, count-spread, ranks_fair}
+use Rattle.cycle.proofs.Remainder.{add_mod_injective, count_spread, ranks_fair}
 use Rattle.tsc.specs.declared.Card.{Card}
 use Rattle.tsc.specs.Constants.{filter_words}
 use Rattle.tsc.specs.Columns.{InRange}
 use Rattle.tsc.specs.Word.{◌⊞◌, ◌⋘◌, filter1, filter2, further, filtered, word}
 use Rattle.tsc.specs.Step.{step}
 use Rattle.tsc.specs.Coverage.{IsState, states, step_back, ListsStates, WellFormed, FullPeriod}
-use Rattle.tsc.proofs.Number.{number, number-below, number-injective, state_of, state_of_in_range, state_of_injective, numbers-list, count-listed}
+use Rattle.tsc.proofs.Number.{number, number-below, number_injective, state_of, state_of_in_range, state_of_injective, numbers_list, count-listed}
 use Rattle.tsc.proofs.Word.{rotate_lt, rotate_bit, filtered_lt, word_lt}
-use Rattle.tsc.proofs.StepBack.{step_back_in_range, step_of_back_lem, back-only}
+use Rattle.tsc.proofs.StepBack.{step_back_in_range, step_of_back_lem, back_only}
 
 -- ---- a filter, for fixed other words, is injective in x1
 
@@ -36,7 +36,7 @@ module _ (n : ℕ) where
 
   plus_injective : (c x y : ℕ) → x < 2 ^ n → y < 2 ^ n → ◌⊞◌ n x c ≡ ◌⊞◌ n y c → x ≡ y
   unfolding ◌⊞◌
-  plus_injective c x y lx ly e = add-mod-injective (2 ^ n) c x y lx ly (rw (add_comm c x, add_comm c y) e)
+  plus_injective c x y lx ly e = add_mod_injective (2 ^ n) c x y lx ly (rw (add_comm c x, add_comm c y) e)
 
   module _ (pos : 0 < n) where
     -- a rotation moves each bit to a place of its own
@@ -45,10 +45,10 @@ module _ (n : ℕ) where
         bits_ext n x y lx ly (λ i li. sym (rotate_bit n x k pos lx i li) ∙ ap (bit ((i + k) % n)) e ∙ rotate_bit n y k pos ly i li)
 
     -- x1 added to a first term, turned, and added to the rest
-    turned-injective : (c k d x y : ℕ) → x < 2 ^ n → y < 2 ^ n → ◌⊞◌ n (◌⋘◌ n (◌⊞◌ n c x) k) d ≡ ◌⊞◌ n (◌⋘◌ n (◌⊞◌ n c y) k) d → x ≡ y
+    turned_injective : (c k d x y : ℕ) → x < 2 ^ n → y < 2 ^ n → ◌⊞◌ n (◌⋘◌ n (◌⊞◌ n c x) k) d ≡ ◌⊞◌ n (◌⋘◌ n (◌⊞◌ n c y) k) d → x ≡ y
     unfolding ◌⊞◌
-    turned-injective c k d x y lx ly e =
-        add-mod-injective (2 ^ n) c x y lx ly
+    turned_injective c k d x y lx ly e =
+        add_mod_injective (2 ^ n) c x y lx ly
         (rotate_injective k (◌⊞◌ n c x) (◌⊞◌ n c y) (plus_lt c x) (plus_lt c y)
         (plus_injective d _ _ (rotate_lt n (◌⊞◌ n c x) k pos (plus_lt c x)) (rotate_lt n (◌⊞◌ n c y) k pos (plus_lt c y)) e))
 
@@ -59,12 +59,12 @@ module _ (card : Card) (two : 2 ≤ card.words) (pos : 0 < card.width) where
   abbrev n : ℕ
   n = card.width
 
-  word-injective : (x y z : ℕ) (xs : List ℕ) → y < 2 ^ n → z < 2 ^ n → word card (x ∷ y ∷ xs) ≡ word card (x ∷ z ∷ xs) → y ≡ z
+  word_injective : (x y z : ℕ) (xs : List ℕ) → y < 2 ^ n → z < 2 ^ n → word card (x ∷ y ∷ xs) ≡ word card (x ∷ z ∷ xs) → y ≡ z
   unfolding word filter1 filter2 further
-  word-injective x y z xs ly lz e =
+  word_injective x y z xs ly lz e =
       go (eqb card.filter 2)
       (plus_injective n (rest y) (filtered card (words y)) (filtered card (words z)) (filtered_lt card (words y)) (filtered_lt card (words z))
-      (e ∙ ap (◌⊞◌ n (filtered card (words z))) (sym rest-same)))
+      (e ∙ ap (◌⊞◌ n (filtered card (words z))) (sym rest_same)))
     where
       words : ℕ → ℕ → ℕ
       words y = λ k. get_or (x ∷ y ∷ xs) k 0
@@ -76,14 +76,14 @@ module _ (card : Card) (two : 2 ≤ card.words) (pos : 0 < card.width) where
       past : (j : ℕ) → filter_words + j ≡ suc (suc (2 + j))
       past j = omega arith
 
-      rest-same : rest y ≡ rest z
-      rest-same =
+      rest_same : rest y ≡ rest z
+      rest_same =
           sum_ext (length (x ∷ y ∷ xs) - filter_words) _ _ (λ j l.
           ap (λ (v : ℕ). ◌⋘◌ n v (filter_words + j)) (ap (words y) (past j) ∙ ap (words z) (sym (past j))))
 
       go : (b : Bool) → cond b (filter2 n (words y)) (filter1 n (words y)) ≡ cond b (filter2 n (words z)) (filter1 n (words z)) → y ≡ z
-      go false e = turned-injective n pos _ _ _ y z ly lz e
-      go true e = turned-injective n pos _ _ _ y z ly lz (plus_injective n _ _ _ (plus_lt n _ _) (plus_lt n _ _) e)
+      go false e = turned_injective n pos _ _ _ y z ly lz e
+      go true e = turned_injective n pos _ _ _ y z ly lz (plus_injective n _ _ _ (plus_lt n _ _) (plus_lt n _ _) e)
 
   -- ---- so the word and the other words determine the state
 
@@ -111,7 +111,7 @@ module _ (card : Card) (two : 2 ≤ card.words) (pos : 0 < card.width) where
   state_determined (x ∷ y ∷ xs) (u ∷ []) sx sy e o = absurd (omega arith)
   state_determined (x ∷ y ∷ xs) (u ∷ v ∷ ys) sx sy e o =
       let same : (u ∷ v ∷ ys) ≡ (x ∷ v ∷ xs) = cc in
-      let second : y ≡ v = word-injective x y v xs (sx.1 1 (omega arith)) (sy.1 1 (omega arith)) (e ∙ ap (word card) same) in
+      let second : y ≡ v = word_injective x y v xs (sx.1 1 (omega arith)) (sy.1 1 (omega arith)) (e ∙ ap (word card) same) in
       cc
 
   -- ---- and a test of the word holds of 2^((m - 1) n) states for each number of n bits that it holds of
@@ -124,14 +124,14 @@ module _ (card : Card) (two : 2 ≤ card.words) (pos : 0 < card.width) where
       let split : m * n ≡ (m - 1) * n + n = ap (λ (a : ℕ). a * n) (omega arith) ∙ suc-mul (m - 1) n in
       ap (λ (a : ℕ). 2 ^ a) split ∙ pow-add 2 ((m - 1) * n) n
 
-  numbers-spread : (p : ℕ → Bool) → count (states card) (λ z. p (word card (state_of m n z))) ≡ share * count (2 ^ n) p
-  numbers-spread p =
+  numbers_spread : (p : ℕ → Bool) → count (states card) (λ z. p (word card (state_of m n z))) ≡ share * count (2 ^ n) p
+  numbers_spread p =
       rw states_shared
-      (count-spread share (2 ^ n) (λ z. word card (state z)) (λ z. number (m - 1) n (others (state z)))
+      (count_spread share (2 ^ n) (λ z. word card (state z)) (λ z. number (m - 1) n (others (state z)))
       (λ z l. word_lt card (state z)) (λ z l. number-below (m - 1) n (others (state z)) (rest z)) (λ y z ly lz e o.
       state_of_injective m n y z (rw states_shared ly) (rw states_shared lz)
       (state_determined (state y) (state z) (state_of_in_range m n y) (state_of_in_range m n z) e
-      (number-injective (m - 1) n (others (state y)) (others (state z)) (rest y) (rest z) o))) p)
+      (number_injective (m - 1) n (others (state y)) (others (state z)) (rest y) (rest z) o))) p)
     where
       state : ℕ → List ℕ
       state z = state_of m n z
@@ -141,7 +141,7 @@ module _ (card : Card) (two : 2 ≤ card.words) (pos : 0 < card.width) where
 
   module _ (s : ℕ → List ℕ) (lists : ListsStates card s) where
     words_spread : (p : ℕ → Bool) → count (states card) (λ t. p (word card (s t))) ≡ 2 ^ ((card.words - 1) * card.width) * count (2 ^ card.width) p
-    words_spread p = count-listed card s lists (λ xs. p (word card xs)) ∙ numbers-spread p
+    words_spread p = count-listed card s lists (λ xs. p (word card xs)) ∙ numbers_spread p
 
     pub word_balanced : (v : ℕ) → v < 2 ^ card.width → count (states card) (λ t. eqb (word card (s t)) v) ≡ 2 ^ ((card.words - 1) * card.width)
     word_balanced v l = words_spread (λ w. eqb w v) ∙ rw (count_equal (2 ^ n) v l, mul-one)
@@ -156,23 +156,23 @@ module _ (card : Card) (wf : WellFormed card) (two : 2 ≤ card.words) (ok : Ful
   next z = step card (state_of card.words card.width z)
 
   -- the steps of the states are the states
-  steps-list : ListsStates card next
-  steps-list xs sx =
-      let r = numbers-list card (step_back card xs) (step_back_in_range card xs sx) in (
+  steps_list : ListsStates card next
+  steps_list xs sx =
+      let r = numbers_list card (step_back card xs) (step_back_in_range card xs sx) in (
         r.0,
         r.1,
         ap (step card) r.2 ∙ step_of_back_lem card wf ok xs sx,
-        λ u l e. r.3 u l (back-only card wf ok _ xs (state_of_in_range card.words card.width u) sx e),
+        λ u l e. r.3 u l (back_only card wf ok _ xs (state_of_in_range card.words card.width u) sx e),
       )
 
   module _ (s : ℕ → List ℕ) (lists : ListsStates card s) where
-    draws-spread : (p : ℕ → Bool)
+    draws_spread : (p : ℕ → Bool)
         → count (states card) (λ t. p (word card (step card (s t)))) ≡ 2 ^ ((card.words - 1) * card.width) * count (2 ^ card.width) p
-    draws-spread p =
-        count-listed card s lists (λ xs. p (word card (step card xs))) ∙ words_spread card two wide next steps-list p
+    draws_spread p =
+        count-listed card s lists (λ xs. p (word card (step card xs))) ∙ words_spread card two wide next steps_list p
 
     pub rank_balanced : (k r : ℕ) → r < k
         → count (states card) (λ t. gives_rank (2 ^ card.width) k r (word card (step card (s t))))
         ≡ largest_multiple (2 ^ card.width) k / k * 2 ^ ((card.words - 1) * card.width)
     rank_balanced k r l =
-        draws-spread (gives_rank (2 ^ card.width) k r) ∙ rw (ranks_fair (2 ^ card.width) k (omega arith) r l) (mul_comm _ _)
+        draws_spread (gives_rank (2 ^ card.width) k r) ∙ rw (ranks_fair (2 ^ card.width) k (omega arith) r l) (mul_comm _ _)

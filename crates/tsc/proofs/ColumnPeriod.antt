@@ -21,19 +21,19 @@ use Rattle.cycle.specs.Notation.{iterate}
 use Rattle.cycle.specs.Cycle.{SingleCycle}
 use Rattle.cycle.specs.Period.{Period, LeastPeriod}
 use Rattle.cycle.proofs.Digits.{pow_mul}
-use Rattle.cycle.proofs.Iterate.{iterate-add, iterate-below}
-use Rattle.cycle.proofs.Cycle.{cycle-from, visits_once}
+use Rattle.cycle.proofs.Iterate.{iterate_add, iterate-below}
+use Rattle.cycle.proofs.Cycle.{cycle_from, visits_once}
 use Rattle.cycle.proofs.Period.{period-half}
-use Rattle.cycle.proofs.Skew.{skew-half}
+use Rattle.cycle.proofs.Skew.{skew_half}
 use Rattle.tsc.specs.declared.Card.{Card}
 use Rattle.tsc.specs.Columns.{column, from_columns}
 use Rattle.tsc.specs.Step.{entry, step, orbit}
 use Rattle.tsc.specs.Coverage.{IsState, states, WellFormed, FullPeriod}
 use Rattle.tsc.specs.Opposite.{opposite}
 use Rattle.tsc.proofs.Columns.{column-from_columns, from_columns_in_range, columns_ext}
-use Rattle.tsc.proofs.Number.{number, columns, number_lt, number-div, number-mod, number_suc, number-columns}
+use Rattle.tsc.proofs.Number.{number, columns, number_lt, number_div, number_mod, number_suc, number-columns}
 use Rattle.tsc.proofs.Step.{orbit_in_range, power_below, step_number}
-use Rattle.tsc.proofs.Coverage.{size, size-pos, step_number_below, orbit-low, half-size, powers, powers-odd, cycles}
+use Rattle.tsc.proofs.Coverage.{size, size_pos, step_number_below, orbit-low, half-size, powers, powers_odd, cycles}
 
 module _ (card : Card) (wf : WellFormed card) (ok : FullPeriod card) where
   abbrev m : ℕ
@@ -49,17 +49,17 @@ module _ (card : Card) (wf : WellFormed card) (ok : FullPeriod card) where
   table_half : SingleCycle (half * 2) (entry card) 0
   table_half = subst (λ (a : ℕ). SingleCycle a (entry card) 0) (half-size card wf) ok.cycle
 
-  pub half-moves : (y : ℕ) → y < 2 ^ m → iterate (entry card) half y ≡ y → ⊥
+  pub half_moves : (y : ℕ) → y < 2 ^ m → iterate (entry card) half y ≡ y → ⊥
   unfolding iterate
-  half-moves y l e =
+  half_moves y l e =
       let pos = pow_pos (m - 1) in
-      let c = cycle-from (2 ^ m) (entry card) 0 (pow_pos m) ok.cycle y l in
+      let c = cycle_from (2 ^ m) (entry card) 0 (pow_pos m) ok.cycle y l in
       let z : half ≡ 0 = visits_once (2 ^ m) (entry card) y (pow_pos m) c half 0 (omega (arith, half-size card wf)) (pow_pos m) e in
       absurd (omega arith)
 
   -- the columns up to i are back after 2^m rounds of those below i, and half of that is 2^(m - 1) rounds
-  half-round : (i : ℕ) → 2 ^ (m * suc i) / 2 ≡ half * size card i
-  half-round i =
+  half_round : (i : ℕ) → 2 ^ (m * suc i) / 2 ≡ half * size card i
+  half_round i =
       let e : 2 ^ (m * suc i) ≡ 2 ^ m * size card i = pow_mul 2 m (suc i) ∙ pow-succ' (2 ^ m) i in
       omega (arith, ap (λ (a : ℕ). a * size card i) (half-size card wf))
 
@@ -77,20 +77,20 @@ module _ (card : Card) (wf : WellFormed card) (ok : FullPeriod card) where
       unfolding step_number powers
       half-number =
           orbit-low card wf xs sx (suc i) l (2 ^ (m * suc i) / 2)
-          ∙ ap₂ (λ (a b : ℕ). iterate (step_number card (suc i)) a b) (half-round i) (number_suc m i xs)
-          ∙ skew-half (size card i) (step_number card i) (entry card) (power_below card i) (size-pos card i) (step_number_below card wf i)
-          half (cycles card wf ok i) table_half (powers-odd card wf ok i) (column i xs) (number m i xs)
+          ∙ ap₂ (λ (a b : ℕ). iterate (step_number card (suc i)) a b) (half_round i) (number_suc m i xs)
+          ∙ skew_half (size card i) (step_number card i) (entry card) (power_below card i) (size_pos card i) (step_number_below card wf i)
+          half (cycles card wf ok i) table_half (powers_odd card wf ok i) (column i xs) (number m i xs)
           (subst (λ (a : ℕ). column i xs < a) (half-size card wf) (columns m xs sx.0 n i l)) (number_lt m xs sx.0 i)
 
       column-half : column i there ≡ iterate (entry card) half (column i xs)
       column-half =
-          sym (number-div m there sized i) ∙ ap (λ (a : ℕ). a / size card i) half-number
+          sym (number_div m there sized i) ∙ ap (λ (a : ℕ). a / size card i) half-number
           ∙ digits_div (iterate (entry card) half (column i xs)) (number_lt m xs sx.0 i)
 
       lower-half : (j : ℕ) → j < i → column j there ≡ column j xs
       lower-half =
           number-columns m i there xs sized sx.0
-          (sym (number-mod m there sized i) ∙ ap (λ (a : ℕ). a % size card i) half-number
+          (sym (number_mod m there sized i) ∙ ap (λ (a : ℕ). a % size card i) half-number
           ∙ digits_mod (iterate (entry card) half (column i xs)) (number_lt m xs sx.0 i))
 
     -- ---- the period
@@ -100,7 +100,7 @@ module _ (card : Card) (wf : WellFormed card) (ok : FullPeriod card) where
         let N : ℕ = 2 ^ (m * suc i) in
         number-columns m (suc i) (orbit card xs N) xs (orbit_in_range card xs sx N).0 sx.0
         (orbit-low card wf xs sx (suc i) l N ∙ ap (λ (a : ℕ). iterate (step_number card (suc i)) a (number m (suc i) xs)) (pow_mul 2 m (suc i))
-        ∙ (cycle-from (size card (suc i)) (step_number card (suc i)) 0 (size-pos card (suc i)) (cycles card wf ok (suc i))
+        ∙ (cycle_from (size card (suc i)) (step_number card (suc i)) 0 (size_pos card (suc i)) (cycles card wf ok (suc i))
         (number m (suc i) xs) (number_lt m xs sx.0 (suc i))).returns)
         i (le_refl (suc i))
 
@@ -113,14 +113,14 @@ module _ (card : Card) (wf : WellFormed card) (ok : FullPeriod card) where
     unfolding at
     column-repeats t =
         let N : ℕ = 2 ^ (m * suc i) in
-        ap (column i) (ap (orbit card xs) (add_comm t N) ∙ iterate-add (step card) N t xs)
+        ap (column i) (ap (orbit card xs) (add_comm t N) ∙ iterate_add (step card) N t xs)
         ∙ column-returns (orbit card xs t) (orbit_in_range card xs sx t) i l
 
     -- half of it is no period, and so no shorter one is
     no_half : Period at (2 ^ (m * suc i) / 2) → ⊥
     unfolding at iterate
     no_half p =
-        half-moves (column i xs) (columns m xs sx.0 n i l)
+        half_moves (column i xs) (columns m xs sx.0 n i l)
         (sym (column-half xs sx i l) ∙ ap at (sym (zero-add (2 ^ (m * suc i) / 2))) ∙ p 0)
 
     pub column-period : LeastPeriod (λ t. column i (orbit card xs t)) (2 ^ (m * suc i))
@@ -158,9 +158,9 @@ module _ (card : Card) (wf : WellFormed card) (ok : FullPeriod card) (xs : List 
       go (no ne) =
           opposite-lower card wf ok xs sx (card.width - 1) (omega (arith, wf.width)) i (omega (arith, ne)) ∙ simp (ne_eqb (suc i) card.width ne)
 
-  pub opposite-by : (c : ℕ → ℕ) → ((i : ℕ) → i < card.width → iterate (entry card) (moves card i) (column i xs) ≡ c i)
+  pub opposite_by : (c : ℕ → ℕ) → ((i : ℕ) → i < card.width → iterate (entry card) (moves card i) (column i xs) ≡ c i)
       → opposite card xs ≡ from_columns card.words card.width c
-  opposite-by c h =
+  opposite_by c h =
       columns_ext card.words card.width (opposite card xs) (from_columns card.words card.width c) (orbit_in_range card xs sx (states card / 2))
       (from_columns_in_range card.words card.width c)
       (λ i l. column-opposite i l ∙ h i l ∙ sym (column-from_columns card.words card.width c i l (subst (λ (a : ℕ). a < 2 ^ card.words) (h i l) (below i l))))
@@ -171,4 +171,4 @@ module _ (card : Card) (wf : WellFormed card) (ok : FullPeriod card) (xs : List 
 
   pub half-orbit : opposite card xs ≡ top_moved card xs
   unfolding top_moved
-  half-orbit = opposite-by (λ i. iterate (entry card) (moves card i) (column i xs)) (λ i l. refl)
+  half-orbit = opposite_by (λ i. iterate (entry card) (moves card i) (column i xs)) (λ i l. refl)

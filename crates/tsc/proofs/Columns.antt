@@ -7,9 +7,9 @@ use native.Mathlib.Omega.{arith}
 use lib.ListN.{length}
 use Rattle.cycle.specs.Notation.{tabulate, bit}
 use Rattle.cycle.proofs.Parity.{two_pos}
-use Rattle.cycle.proofs.Sum.{sum_ext, sum-add, sum_zero}
+use Rattle.cycle.proofs.Sum.{sum_ext, sum_add, sum_zero}
 use Rattle.cycle.proofs.Digits.{from_digits, from_digits_ext, from_digits_lt, from_digits_of, digit_from_digits, length-tabulate, get_d_tabulate, tabulate_ext}
-use Rattle.cycle.proofs.Bits.{bit_lt, bit_suc, bit-bit_and, bit-ones, bits_ext}
+use Rattle.cycle.proofs.Bits.{bit_lt, bit_suc, bit-bit_and, bit_ones, bits_ext}
 use Rattle.tsc.specs.Columns.{InRange, column, from_columns}
 use Rattle.tsc.specs.Selector.{and_words, sum_words}
 
@@ -78,7 +78,7 @@ popcount (suc m) y = y % 2 + popcount m (y / 2)
 
 pub bit-and_words : (n i : ℕ) (xs : List ℕ) → i < n → bit i (and_words n xs) ≡ all_ones (length xs) (column i xs)
 unfolding and_words all_ones column
-bit-and_words n i [] l = bit-ones n i l
+bit-and_words n i [] l = bit_ones n i l
 bit-and_words n i (x ∷ xs) l =
     bit-bit_and i x (and_words n xs) ∙ rw (column_head, column_tail) (ap (λ (a : ℕ). bit i x * a) (bit-and_words n i xs l))
 
@@ -89,5 +89,5 @@ sum_words_mod i (x ∷ xs) =
     add-mod x (sum_words xs) (2 ^ i) ∙ ap₂ (λ (a b : ℕ). (a + b) % 2 ^ i) (sym (from_digits_of 2 i x two_pos)) (sum_words_mod i xs)
     ∙ add-mod-mod (from_digits 2 i (λ j. bit j x)) (from_digits 2 i (λ j. popcount (length xs) (column j xs))) (2 ^ i)
     ∙ ap (λ (a : ℕ). a % 2 ^ i)
-    (sym (sum-add i (λ j. bit j x * 2 ^ j) (λ j. popcount (length xs) (column j xs) * 2 ^ j))
+    (sym (sum_add i (λ j. bit j x * 2 ^ j) (λ j. popcount (length xs) (column j xs) * 2 ^ j))
     ∙ sum_ext i _ _ (λ j l. rw (column_head, column_tail) (sym (add-mul (bit j x) (popcount (length xs) (column j xs)) (2 ^ j)))))

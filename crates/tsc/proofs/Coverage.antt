@@ -15,15 +15,15 @@ use lib.Dec.{eqb}
 use lib.Pow.{pow_pos, pow_mono}
 use Rattle.cycle.specs.Notation.{sum, iterate}
 use Rattle.cycle.specs.Cycle.{SingleCycle}
-use Rattle.cycle.proofs.Parity.{bit_cases, bits_cases, odd_mul, even_mul, add-parity}
+use Rattle.cycle.proofs.Parity.{bit_cases, bits_cases, odd_mul, even_mul, add_parity}
 use Rattle.cycle.proofs.Digits.{pow_mul}
-use Rattle.cycle.proofs.Iterate.{MapsBelow, iterate-add}
-use Rattle.cycle.proofs.Cycle.{Reaches, cycle_of_return, cycle_of_reaches, cycle-reaches, visits_once, cycle-from, sum_around}
-use Rattle.cycle.proofs.Skew.{skew, round_power, skew-cycle, skew-even, skew-low, skew-below}
+use Rattle.cycle.proofs.Iterate.{MapsBelow, iterate_add}
+use Rattle.cycle.proofs.Cycle.{Reaches, cycle_of_return, cycle_of_reaches, cycle-reaches, visits_once, cycle_from, sum_around}
+use Rattle.cycle.proofs.Skew.{skew, round_power, skew_cycle, skew_even, skew_low, skew_below}
 use Rattle.tsc.specs.declared.Card.{Card}
 use Rattle.tsc.specs.Step.{entry, power, orbit}
 use Rattle.tsc.specs.Coverage.{IsState, states, Covers, WellFormed, FullPeriod}
-use Rattle.tsc.proofs.Number.{number, number-below, number-injective, state_of, state_of_in_range, number_of}
+use Rattle.tsc.proofs.Number.{number, number-below, number_injective, state_of, state_of_in_range, number_of}
 use Rattle.tsc.proofs.Parity.{selector_bit, selector_bit_lt, selector_bit_parity}
 use Rattle.tsc.proofs.Step.{orbit_in_range, power_below, step_number, number_step}
 
@@ -33,8 +33,8 @@ use Rattle.tsc.proofs.Step.{orbit_in_range, power_below, step_number, number_ste
 abbrev pub size : Card → ℕ → ℕ
 size card i = (2 ^ card.words) ^ i
 
-pub size-pos : (card : Card) (i : ℕ) → 0 < size card i
-size-pos card i = one-le-pow i (2 ^ card.words) (pow_pos card.words)
+pub size_pos : (card : Card) (i : ℕ) → 0 < size card i
+size_pos card i = one-le-pow i (2 ^ card.words) (pow_pos card.words)
 
 -- ---- the powers of the table that a selector picks, added up
 
@@ -58,8 +58,8 @@ power-even P k a b z e hk hz =
 
 power-odd : (P k a b z : ℕ) → P + b * k ≡ a * k + z * b → k % 2 ≡ 1 → (P + b) % 2 ≡ (a + z * b) % 2
 power-odd P k a b z e hk =
-    add-parity P b (b * k) (sym (ap (λ (w : ℕ). w % 2) (mul_comm b k) ∙ odd_mul k b hk)) ∙ ap (λ (w : ℕ). w % 2) (e ∙ add_comm (a * k) (z * b))
-    ∙ add-parity (z * b) (a * k) a (ap (λ (w : ℕ). w % 2) (mul_comm a k) ∙ odd_mul k a hk) ∙ ap (λ (w : ℕ). w % 2) (add_comm (z * b) a)
+    add_parity P b (b * k) (sym (ap (λ (w : ℕ). w % 2) (mul_comm b k) ∙ odd_mul k b hk)) ∙ ap (λ (w : ℕ). w % 2) (e ∙ add_comm (a * k) (z * b))
+    ∙ add_parity (z * b) (a * k) a (ap (λ (w : ℕ). w % 2) (mul_comm a k) ∙ odd_mul k a hk) ∙ ap (λ (w : ℕ). w % 2) (add_comm (z * b) a)
 
 -- with column 0 the power a times an odd number, and with column 1 an even multiple of b more
 odd-left : (P a b : ℕ) → (P + b) % 2 ≡ (a + b) % 2 → P % 2 ≡ 1 → a % 2 ≡ 1
@@ -85,7 +85,7 @@ module _ (card : Card) (wf : WellFormed card) where
   step_number_below zero z l = rw pow-zero (le_refl 1)
   step_number_below (suc i) z l =
       subst (λ (a : ℕ). step_number card (suc i) z < a) (sym (pow-succ' (2 ^ m) i))
-      (skew-below (size card i) (step_number card i) (entry card) (power_below card i) (size-pos card i) (step_number_below i) (2 ^ m) wf.entries z
+      (skew_below (size card i) (step_number card i) (entry card) (power_below card i) (size_pos card i) (step_number_below i) (2 ^ m) wf.entries z
       (subst (λ (a : ℕ). z < a) (pow-succ' (2 ^ m) i) l))
 
   -- ---- an orbit of states is an orbit of their numbers, and of those of the i low columns
@@ -100,27 +100,27 @@ module _ (card : Card) (wf : WellFormed card) where
     orbit-number : (t : ℕ) → number m n (orbit card start t) ≡ iterate (step_number card n) t (number m n start)
     orbit-number = orbit-low n (le_refl n)
 
-    cycle-covers : SingleCycle (states card) (step_number card n) (number m n start) → Covers card start
+    cycle_covers : SingleCycle (states card) (step_number card n) (number m n start) → Covers card start
     unfolding iterate
-    cycle-covers c =
+    cycle_covers c =
         record {
           once = λ xs sx.
               let r = c.reaches (number m n xs) (number-below m n xs sx) in (
                 r.0,
                 r.1,
-                number-injective m n (orbit card start r.0) xs (orbit_in_range card start st r.0) sx (orbit-number r.0 ∙ r.2),
+                number_injective m n (orbit card start r.0) xs (orbit_in_range card start st r.0) sx (orbit-number r.0 ∙ r.2),
                 λ u l e.
                     visits_once (states card) (step_number card n) (number m n start) (pow_pos (m * n)) c u r.0 l r.1
                     (sym (orbit-number u) ∙ ap (number m n) e ∙ sym r.2),
               );
           returns =
-              number-injective m n (orbit card start (states card)) start (orbit_in_range card start st (states card)) st
+              number_injective m n (orbit card start (states card)) start (orbit_in_range card start st (states card)) st
               (orbit-number (states card) ∙ c.returns);
         }
 
-    covers-cycle : Covers card start → SingleCycle (states card) (step_number card n) (number m n start)
+    covers_cycle : Covers card start → SingleCycle (states card) (step_number card n) (number m n start)
     unfolding iterate
-    covers-cycle c =
+    covers_cycle c =
         cycle_of_return (states card) (step_number card n) (number m n start) (pow_pos (m * n))
         (λ x l.
         let r = c.once (state_of m n x) (state_of_in_range m n x) in
@@ -142,13 +142,13 @@ module _ (card : Card) (wf : WellFormed card) where
       power-sum card (size card i) (selector_bit m (eqb card.sum_term 1) card.constant i)
       (selector_bit_lt m (eqb card.sum_term 1) card.constant i)
 
-  selected-parity : (i : ℕ) → selected i % 2 ≡ card.constant % 2
+  selected_parity : (i : ℕ) → selected i % 2 ≡ card.constant % 2
   unfolding selected
-  selected-parity i = selector_bit_parity m wf.words (eqb card.sum_term 1) card.constant i
+  selected_parity i = selector_bit_parity m wf.words (eqb card.sum_term 1) card.constant i
 
-  round-powers : (i : ℕ) → SingleCycle (size card i) (step_number card i) 0 → round_power (size card i) (step_number card i) (power_below card i) ≡ powers i
+  round_powers : (i : ℕ) → SingleCycle (size card i) (step_number card i) 0 → round_power (size card i) (step_number card i) (power_below card i) ≡ powers i
   unfolding round_power powers
-  round-powers i c = sum_around (size card i) (step_number card i) 0 (size-pos card i) c (step_number_below i) (size-pos card i) (power_below card i)
+  round_powers i c = sum_around (size card i) (step_number card i) 0 (size_pos card i) c (step_number_below i) (size_pos card i) (power_below card i)
 
   cycle-none : SingleCycle (size card 0) (step_number card 0) 0
   unfolding step_number iterate
@@ -157,13 +157,13 @@ module _ (card : Card) (wf : WellFormed card) where
   -- ---- from the premises to coverage
 
   module _ (ok : FullPeriod card) where
-    pub powers-odd : (i : ℕ) → powers i % 2 ≡ 1
-    powers-odd i =
+    pub powers_odd : (i : ℕ) → powers i % 2 ≡ 1
+    powers_odd i =
         let c : card.constant % 2 ≡ 1 = ok.constant in
         let o = odd_mul card.odd_power (selected i) ok.odd in
         let e = even_mul card.even_power (selected i) ok.even in
         let f = even_mul card.even_power (size card i) ok.even in
-        omega (arith, powers_are i, selected-parity i, mul_comm (size card i) card.even_power)
+        omega (arith, powers_are i, selected_parity i, mul_comm (size card i) card.even_power)
 
     pub cycles : (i : ℕ) → SingleCycle (size card i) (step_number card i) 0
     unfolding step_number
@@ -171,13 +171,13 @@ module _ (card : Card) (wf : WellFormed card) where
     cycles (suc i) =
         let c = cycles i in
         subst (λ (a : ℕ). SingleCycle a (step_number card (suc i)) 0) (sym (pow-succ' (2 ^ m) i))
-        (skew-cycle (size card i) (step_number card i) (entry card) (power_below card i) (size-pos card i) (step_number_below i) m c ok.cycle
-        (ap (λ (a : ℕ). a % 2) (round-powers i c) ∙ powers-odd i))
+        (skew_cycle (size card i) (step_number card i) (entry card) (power_below card i) (size_pos card i) (step_number_below i) m c ok.cycle
+        (ap (λ (a : ℕ). a % 2) (round_powers i c) ∙ powers_odd i))
 
-    pub period-covers : (start : List ℕ) → IsState card start → Covers card start
-    period-covers start st =
-        cycle-covers start st
-        (cycle-from (states card) (step_number card n) 0 (pow_pos (m * n))
+    pub period_covers : (start : List ℕ) → IsState card start → Covers card start
+    period_covers start st =
+        cycle_covers start st
+        (cycle_from (states card) (step_number card n) 0 (pow_pos (m * n))
         (subst (λ (a : ℕ). SingleCycle a (step_number card n) 0) (sym (pow_mul 2 m n)) (cycles n))
         (number m n start) (number-below m n start st))
 
@@ -185,20 +185,20 @@ module _ (card : Card) (wf : WellFormed card) where
 
   low-orbit : (i t : ℕ) → iterate (step_number card (suc i)) t 0 % size card i ≡ iterate (step_number card i) t 0
   unfolding iterate step_number
-  low-orbit i zero = mod-eq_of_lt (size-pos card i)
+  low-orbit i zero = mod-eq_of_lt (size_pos card i)
   low-orbit i (suc t) =
-      skew-low (size card i) (step_number card i) (entry card) (power_below card i) (size-pos card i) (step_number_below i)
+      skew_low (size card i) (step_number card i) (entry card) (power_below card i) (size_pos card i) (step_number_below i)
       (iterate (step_number card (suc i)) t 0)
       ∙ ap (step_number card i) (low-orbit i t)
 
   lower : (i : ℕ) → SingleCycle (size card (suc i)) (step_number card (suc i)) 0 → SingleCycle (size card i) (step_number card i) 0
   lower i c =
-      cycle_of_reaches (size card i) (step_number card i) 0 (size card (suc i)) (step_number_below i) (size-pos card i)
+      cycle_of_reaches (size card i) (step_number card i) 0 (size card (suc i)) (step_number_below i) (size_pos card i)
       (λ x l.
       let r = c.reaches x (lt_of_lt_of_le l (pow-le-pow_right (pow_pos m) (le-suc i))) in
       (r.0, sym (low-orbit i r.0) ∙ ap (λ (a : ℕ). a % size card i) r.2 ∙ mod-eq_of_lt l))
-      (size-pos card (suc i))
-      (sym (low-orbit i (size card (suc i))) ∙ ap (λ (a : ℕ). a % size card i) c.returns ∙ mod-eq_of_lt (size-pos card i))
+      (size_pos card (suc i))
+      (sym (low-orbit i (size card (suc i))) ∙ ap (λ (a : ℕ). a % size card i) c.returns ∙ mod-eq_of_lt (size_pos card i))
 
   lowest : (d i : ℕ) → SingleCycle (size card (d + i)) (step_number card (d + i)) 0 → SingleCycle (size card i) (step_number card i) 0
   lowest zero i c = subst (λ (a : ℕ). SingleCycle (size card a) (step_number card a) 0) (zero-add i) c
@@ -220,11 +220,11 @@ module _ (card : Card) (wf : WellFormed card) where
       go (yes p) = omega arith
       go (no p) =
           absurd
-          (skew-even (size card i) (step_number card i) (entry card) (power_below card i) (size-pos card i) (step_number_below i)
+          (skew_even (size card i) (step_number card i) (entry card) (power_below card i) (size_pos card i) (step_number_below i)
           (2 ^ (m - 1)) (pow_pos (m - 1)) c.returns (subst (λ (a : ℕ). iterate (entry card) a 0 ≡ 0) half-size g)
           (subst (λ (a : ℕ). Reaches a (step_number card (suc i)) 0) (pow-succ' (2 ^ m) i ∙ ap (λ (a : ℕ). a * size card i) half-size)
-          (cycle-reaches (size card (suc i)) (step_number card (suc i)) 0 (size-pos card (suc i)) d))
-          (ap (λ (a : ℕ). a % 2) (round-powers i c) ∙ omega arith))
+          (cycle-reaches (size card (suc i)) (step_number card (suc i)) 0 (size_pos card (suc i)) d))
+          (ap (λ (a : ℕ). a % 2) (round_powers i c) ∙ omega arith))
 
   -- column 0 moves by one power of the table
   column_0 : (z : ℕ) → step_number card 1 z ≡ iterate (entry card) (power_below card 0 0) z
@@ -236,7 +236,7 @@ module _ (card : Card) (wf : WellFormed card) where
   column_0_orbit zero = rw zero-mul
   column_0_orbit (suc t) =
       column_0 (iterate (step_number card 1) t 0) ∙ ap (iterate (entry card) (power_below card 0 0)) (column_0_orbit t)
-      ∙ sym (iterate-add (entry card) (power_below card 0 0) (t * power_below card 0 0) 0)
+      ∙ sym (iterate_add (entry card) (power_below card 0 0) (t * power_below card 0 0) 0)
       ∙ ap (λ (a : ℕ). iterate (entry card) a 0) (add_comm (power_below card 0 0) (t * power_below card 0 0) ∙ sym (suc-mul t (power_below card 0 0)))
 
   size-one : size card 1 ≡ 2 ^ m
@@ -263,7 +263,7 @@ module _ (card : Card) (wf : WellFormed card) where
     table_cycle : SingleCycle (2 ^ m) (entry card) 0
     table_cycle =
         cycle_of_reaches (2 ^ m) (entry card) 0 (size card 1 * power_below card 0 0) wf.entries (pow_pos m)
-        (λ x l. ((table_reaches x l).0 * power_below card 0 0, (table_reaches x l).1)) (mul-pos (size-pos card 1) power_pos)
+        (λ x l. ((table_reaches x l).0 * power_below card 0 0, (table_reaches x l).1)) (mul-pos (size_pos card 1) power_pos)
         (sym (column_0_orbit (size card 1)) ∙ c.returns)
 
   -- what the parities of the powers at columns 0 and 1 say of C, a and b
@@ -281,21 +281,21 @@ module _ (card : Card) (wf : WellFormed card) where
 
       go : Dec (0 < card.constant % 2) → (card.constant % 2 ≡ 1) × (a % 2 ≡ 1) × (b % 2 ≡ 0)
       go (no q) =
-          let z : powers 1 % 2 ≡ 0 = power-even (powers 1) (selected 1) a b (size card 1) (powers_are 1) (selected-parity 1 ∙ omega arith) even1 in
+          let z : powers 1 % 2 ≡ 0 = power-even (powers 1) (selected 1) a b (size card 1) (powers_are 1) (selected_parity 1 ∙ omega arith) even1 in
           absurd (omega arith)
       go (yes q) =
           let o : card.constant % 2 ≡ 1 = omega arith in
-          let e0 = power-odd (powers 0) (selected 0) a b (size card 0) (powers_are 0) (selected-parity 0 ∙ o) in
-          let e1 = power-odd (powers 1) (selected 1) a b (size card 1) (powers_are 1) (selected-parity 1 ∙ o) in
+          let e0 = power-odd (powers 0) (selected 0) a b (size card 0) (powers_are 0) (selected_parity 0 ∙ o) in
+          let e1 = power-odd (powers 1) (selected 1) a b (size card 1) (powers_are 1) (selected_parity 1 ∙ o) in
           let z0 : size card 0 * b ≡ b = ap (λ (x : ℕ). x * b) (pow-zero (2 ^ m)) ∙ one-mul b in
           let z1 : (size card 1 * b) % 2 ≡ 0 = even_mul (size card 1) b even1 in
           let ao : a % 2 ≡ 1 = odd-left (powers 0) a b (e0 ∙ ap (λ (w : ℕ). (a + w) % 2) z0) p0 in
           (o, ao, even_right (powers 1) a b (size card 1 * b) e1 p1 ao z1)
 
-  covers-period : (start : List ℕ) → IsState card start → Covers card start → FullPeriod card
-  covers-period start st cov =
+  covers_period : (start : List ℕ) → IsState card start → Covers card start → FullPeriod card
+  covers_period start st cov =
       let c : SingleCycle (states card) (step_number card n) 0 =
-      cycle-from (states card) (step_number card n) (number m n start) (pow_pos (m * n)) (covers-cycle start st cov) 0 (pow_pos (m * n)) in
+      cycle_from (states card) (step_number card n) (number m n start) (pow_pos (m * n)) (covers_cycle start st cov) 0 (pow_pos (m * n)) in
       let dn : n ≡ (n - 2) + 2 = omega (arith, wf.width) in
       let c2 : SingleCycle (size card 2) (step_number card 2) 0 =
       lowest (n - 2) 2
@@ -306,4 +306,4 @@ module _ (card : Card) (wf : WellFormed card) where
       record { cycle = g; constant = p.0; odd = p.1; even = p.2 }
 
 pub coverage : (card : Card) → WellFormed card → (start : List ℕ) → IsState card start → Covers card start ↔ FullPeriod card
-coverage card wf start st = (covers-period card wf start st, λ ok. period-covers card wf ok start st)
+coverage card wf start st = (covers_period card wf start st, λ ok. period_covers card wf ok start st)

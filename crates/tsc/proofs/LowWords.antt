@@ -7,7 +7,7 @@ use native.Mathlib.Omega.{arith}
 use lib.ListN.{length, get_or, replicate, take}
 use lib.Pow.{mod-pow-add}
 use Rattle.cycle.specs.Notation.{bit}
-use Rattle.cycle.proofs.Bits.{bit_lt, bit_suc, bit-mod}
+use Rattle.cycle.proofs.Bits.{bit_lt, bit_suc, bit_mod}
 use Rattle.tsc.specs.Columns.{column}
 
 unfoldable pub low_words : ℕ → List ℕ → List ℕ
@@ -47,7 +47,7 @@ low_words_all n (x ∷ xs) h = ap₂ (λ (y : ℕ) (l : List ℕ). y ∷ l) (mod
 pub column_low_words : (i j : ℕ) (xs : List ℕ) → j < i → column j (low_words i xs) ≡ column j xs
 unfolding low_words column
 column_low_words i j [] l = refl
-column_low_words i j (x ∷ xs) l = ap₂ (λ (b c : ℕ). b + 2 * c) (bit-mod i j x l) (column_low_words i j xs l)
+column_low_words i j (x ∷ xs) l = ap₂ (λ (b c : ℕ). b + 2 * c) (bit_mod i j x l) (column_low_words i j xs l)
 
 -- document 002 (2): bit k of column i is bit i of word k
 pub bit-column : (i : ℕ) (xs : List ℕ) (k : ℕ) → bit k (column i xs) ≡ bit i (get_or xs k 0)
@@ -59,8 +59,8 @@ bit-column i (x ∷ xs) (suc k) =
     bit_suc k (bit i x + 2 * column i xs) ∙ ap (bit k) tail ∙ bit-column i xs k
 
 -- one bit more
-pub mod-bit : (x i : ℕ) → x % 2 ^ (i + 1) ≡ x % 2 ^ i + bit i x * 2 ^ i
-mod-bit x i = ap (λ (k : ℕ). x % 2 ^ k) (add_comm i 1) ∙ mod-pow-add x 1 i ∙ add_comm (bit i x * 2 ^ i) (x % 2 ^ i)
+pub mod_bit : (x i : ℕ) → x % 2 ^ (i + 1) ≡ x % 2 ^ i + bit i x * 2 ^ i
+mod_bit x i = ap (λ (k : ℕ). x % 2 ^ k) (add_comm i 1) ∙ mod-pow-add x 1 i ∙ add_comm (bit i x * 2 ^ i) (x % 2 ^ i)
 
 -- absent words count as 0: words of zeros past the others change no column
 pub column-zeros : (i n : ℕ) → column i (replicate n 0) ≡ 0
@@ -74,10 +74,10 @@ column-filled i [] n = column-zeros i n
 column-filled i (x ∷ xs) n = ap (λ (c : ℕ). bit i x + 2 * c) (column-filled i xs n)
 
 -- so the columns of the first words are those of all, where the others are 0
-pub column-front : (c i : ℕ) (xs : List ℕ) → ((k : ℕ) → c ≤ k → get_or xs k 0 ≡ 0) → column i (take c xs) ≡ column i xs
+pub column_front : (c i : ℕ) (xs : List ℕ) → ((k : ℕ) → c ≤ k → get_or xs k 0 ≡ 0) → column i (take c xs) ≡ column i xs
 unfolding column
-column-front zero i [] h = refl
-column-front zero i (x ∷ xs) h =
-    omega (arith, column-front zero i xs (λ k l. h (suc k) (omega arith)), ap (bit i) (h 0 (omega arith)), zero-div (2 ^ i))
-column-front (suc c) i [] h = refl
-column-front (suc c) i (x ∷ xs) h = ap (λ (d : ℕ). bit i x + 2 * d) (column-front c i xs (λ k l. h (suc k) (omega arith)))
+column_front zero i [] h = refl
+column_front zero i (x ∷ xs) h =
+    omega (arith, column_front zero i xs (λ k l. h (suc k) (omega arith)), ap (bit i) (h 0 (omega arith)), zero-div (2 ^ i))
+column_front (suc c) i [] h = refl
+column_front (suc c) i (x ∷ xs) h = ap (λ (d : ℕ). bit i x + 2 * d) (column_front c i xs (λ k l. h (suc k) (omega arith)))

@@ -8,7 +8,7 @@ use lib.ListN.{length}
 use lib.Pow.{pow_pos}
 use Rattle.cycle.specs.Notation.{one, count}
 use Rattle.cycle.proofs.Count.{count_ext}
-use Rattle.cycle.proofs.Pigeonhole.{sum-injective}
+use Rattle.cycle.proofs.Pigeonhole.{sum_injective}
 use Rattle.cycle.proofs.Digits.{pow_mul, from_digits, Digits, from_digits_ext, from_digits_suc, from_digits_lt, from_digits_div, from_digits_mod, from_digits_of, from_digits_injective}
 use Rattle.tsc.specs.declared.Card.{Card}
 use Rattle.tsc.specs.Columns.{InRange, column, from_columns}
@@ -31,13 +31,13 @@ module _ (m : ℕ) (xs : List ℕ) (e : length xs ≡ m) where
   unfolding number
   number_lt i = from_digits_lt (2 ^ m) i (λ j. column j xs) (columns i)
 
-  pub number-div : (i : ℕ) → number m (suc i) xs / (2 ^ m) ^ i ≡ column i xs
+  pub number_div : (i : ℕ) → number m (suc i) xs / (2 ^ m) ^ i ≡ column i xs
   unfolding number
-  number-div i = from_digits_div (2 ^ m) i (λ j. column j xs) (columns i)
+  number_div i = from_digits_div (2 ^ m) i (λ j. column j xs) (columns i)
 
-  pub number-mod : (i : ℕ) → number m (suc i) xs % (2 ^ m) ^ i ≡ number m i xs
+  pub number_mod : (i : ℕ) → number m (suc i) xs % (2 ^ m) ^ i ≡ number m i xs
   unfolding number
-  number-mod i = from_digits_mod (2 ^ m) i (λ j. column j xs) (columns i)
+  number_mod i = from_digits_mod (2 ^ m) i (λ j. column j xs) (columns i)
 
 pub number_suc : (m i : ℕ) (xs : List ℕ) → number m (suc i) xs ≡ column i xs * (2 ^ m) ^ i + number m i xs
 unfolding number
@@ -53,8 +53,8 @@ unfolding number
 number-columns m i xs ys ex ey =
     from_digits_injective (2 ^ m) i (λ j. column j xs) (λ j. column j ys) (pow_pos m) (columns m xs ex i) (columns m ys ey i)
 
-pub number-injective : (m n : ℕ) (xs ys : List ℕ) → InRange m n xs → InRange m n ys → number m n xs ≡ number m n ys → xs ≡ ys
-number-injective m n xs ys rx ry e = columns_ext m n xs ys rx ry (number-columns m n xs ys rx.0 ry.0 e)
+pub number_injective : (m n : ℕ) (xs ys : List ℕ) → InRange m n xs → InRange m n ys → number m n xs ≡ number m n ys → xs ≡ ys
+number_injective m n xs ys rx ry e = columns_ext m n xs ys rx ry (number-columns m n xs ys rx.0 ry.0 e)
 
 pub state_of_in_range : (m n z : ℕ) → InRange m n (state_of m n z)
 unfolding state_of
@@ -79,15 +79,15 @@ module _ (m n : ℕ) where
   pub state_of_injective : (y z : ℕ) → y < 2 ^ (m * n) → z < 2 ^ (m * n) → state_of m n y ≡ state_of m n z → y ≡ z
   state_of_injective y z ly lz e = sym (number_of y ly) ∙ ap (number m n) e ∙ number_of z lz
 
-pub numbers-list : (card : Card) → ListsStates card (state_of card.words card.width)
-numbers-list card xs sx =
+pub numbers_list : (card : Card) → ListsStates card (state_of card.words card.width)
+numbers_list card xs sx =
     let m : ℕ = card.words in
     let n : ℕ = card.width in
     let z : ℕ = number m n xs in
     let below = number-below m n xs sx in (
       z,
       below,
-      number-injective m n (state_of m n z) xs (state_of_in_range m n z) sx (number_of m n z below),
+      number_injective m n (state_of m n z) xs (state_of_in_range m n z) sx (number_of m n z below),
       λ u l e. sym (number_of m n u l) ∙ ap (number m n) e,
     )
 
@@ -96,7 +96,7 @@ pub count-listed : (card : Card) (s : ℕ → List ℕ) → ListsStates card s �
     → count (states card) (λ t. q (s t)) ≡ count (states card) (λ z. q (state_of card.words card.width z))
 unfolding count
 count-listed card s lists q =
-    sym (sum-injective (states card) (λ z. (place z).0) (λ t. one (q (s t))) (λ z l. (place z).1) (λ y z ly lz e.
+    sym (sum_injective (states card) (λ z. (place z).0) (λ t. one (q (s t))) (λ z l. (place z).1) (λ y z ly lz e.
     state_of_injective m n y z ly lz (sym (place y).2 ∙ ap s e ∙ (place z).2)))
     ∙ count_ext (states card) (λ z. q (s (place z).0)) (λ z. q (state_of m n z)) (λ z l. ap q (place z).2)
   where

@@ -8,7 +8,7 @@ use lib.Arith.{digits_div, digits_mod}
 use lib.Pow.{pow_pos}
 use Rattle.cycle.specs.Notation.{sum}
 use Rattle.cycle.proofs.Parity.{two_pos, bit_cases}
-use Rattle.cycle.proofs.Sum.{sum_ext, sum-parity, sum_const, sum_zero, sum_one, sum-add, sum_scale, sum_swap, sum_blocks}
+use Rattle.cycle.proofs.Sum.{sum_ext, sum-parity, sum_const, sum_zero, sum_one, sum_add, sum_scale, sum_swap, sum_blocks}
 use Rattle.tsc.proofs.Columns.{all_ones, popcount}
 
 -- ---- all columns of m bits
@@ -47,9 +47,9 @@ all_ones_sum (suc m) =
     ∙ all_ones_sum m
 
 -- from 2 words on, the 2^m columns together have an even number of ones
-popcount-sum : (m : ℕ) → sum (2 ^ suc (suc m)) (popcount (suc (suc m))) % 2 ≡ 0
+popcount_sum : (m : ℕ) → sum (2 ^ suc (suc m)) (popcount (suc (suc m))) % 2 ≡ 0
 unfolding popcount
-popcount-sum m =
+popcount_sum m =
     ap (λ (a : ℕ). a % 2) (sum-pairs (suc m) (popcount (suc (suc m))))
     ∙ sum-parity (2 ^ suc m) (λ y. popcount (suc (suc m)) (y * 2 + 0) + popcount (suc (suc m)) (y * 2 + 1)) (λ y. 1) (λ y l.
     rw (low0, low1, high0, high1) (omega arith))
@@ -106,7 +106,7 @@ module _ (m : ℕ) where
     carries v =
         ap (λ (a : ℕ). a % 2)
         (sum_ext (2 ^ m) (λ y. (v + all_ones m y) / 2) (λ y. v / 2 + all_ones m y * (v % 2)) (λ y l. carry v (all_ones m y) (all_ones_lt m y))
-        ∙ sum-add (2 ^ m) (λ y. v / 2) (λ y. all_ones m y * (v % 2))
+        ∙ sum_add (2 ^ m) (λ y. v / 2) (λ y. all_ones m y * (v % 2))
         ∙ ap₂ (λ (a b : ℕ). a + b) (sum_const (2 ^ m) (v / 2))
         (sum_scale (2 ^ m) (v % 2) (all_ones m) ∙ ap (λ (a : ℕ). a * (v % 2)) (all_ones_sum m) ∙ one-mul (v % 2)))
         ∙ omega (arith, even-times (v / 2))
@@ -135,7 +135,7 @@ module _ (m : ℕ) where
         ∙ sum-parity ((2 ^ m) ^ i) (λ x. sum (2 ^ m) (λ y. 2 * low_part (popcount m) (suc i) (y * (2 ^ m) ^ i + x) / 2 ^ suc i)) (λ x. 0) (λ x l.
         ap (λ (a : ℕ). a % 2)
         (sum_ext (2 ^ m) _ (λ y. low_part (popcount m) i x / 2 ^ i + popcount m y) (λ y j. sum_term_column i y x l)
-        ∙ sum-add (2 ^ m) (λ y. low_part (popcount m) i x / 2 ^ i) (popcount m)
+        ∙ sum_add (2 ^ m) (λ y. low_part (popcount m) i x / 2 ^ i) (popcount m)
         ∙ ap (λ (a : ℕ). a + sum (2 ^ m) (popcount m)) (sum_const (2 ^ m) (low_part (popcount m) i x / 2 ^ i)))
         ∙ omega (arith, even-times (low_part (popcount m) i x / 2 ^ i), o))
         ∙ ap (λ (a : ℕ). a % 2) (sum_zero ((2 ^ m) ^ i))
@@ -146,11 +146,11 @@ module _ (m : ℕ) where
         sum-parity ((2 ^ m) ^ i) (selector_bit sums C i) (λ x. (low_part (all_ones m) i x + C) / 2 ^ i + cond sums (2 * low_part (popcount m) i x / 2 ^ i) 0) (λ x l.
         mod-mod ((low_part (all_ones m) i x + C) / 2 ^ i + cond sums (2 * low_part (popcount m) i x / 2 ^ i) 0) 2)
         ∙ ap (λ (a : ℕ). a % 2)
-        (sum-add ((2 ^ m) ^ i) (λ x. (low_part (all_ones m) i x + C) / 2 ^ i) (λ x. cond sums (2 * low_part (popcount m) i x / 2 ^ i) 0))
+        (sum_add ((2 ^ m) ^ i) (λ x. (low_part (all_ones m) i x + C) / 2 ^ i) (λ x. cond sums (2 * low_part (popcount m) i x / 2 ^ i) 0))
         ∙ omega (arith, and_parity C i, sum_term_parity o sums i)
 
 -- of the numbers of i columns, those whose selector bit i is 1 are odd in number exactly where C is odd
 pub selector_bit_parity : (m : ℕ) → 2 ≤ m → (sums : Bool) (C i : ℕ) → sum ((2 ^ m) ^ i) (selector_bit m sums C i) % 2 ≡ C % 2
 selector_bit_parity zero h sums C i = absurd (omega arith)
 selector_bit_parity (suc zero) h sums C i = absurd (omega arith)
-selector_bit_parity (suc (suc m)) h sums C i = parity_of (suc (suc m)) (2 ^ suc m) (pow-succ' 2 (suc m)) (popcount-sum m) sums C i
+selector_bit_parity (suc (suc m)) h sums C i = parity_of (suc (suc m)) (2 ^ suc m) (pow-succ' 2 (suc m)) (popcount_sum m) sums C i

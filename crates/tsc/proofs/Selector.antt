@@ -13,12 +13,12 @@ use Rattle.cycle.specs.Notation.{sum, bit}
 use Rattle.cycle.proofs.Parity.{two_pos}
 use Rattle.cycle.proofs.Sum.{sum_ext}
 use Rattle.cycle.proofs.Digits.{from_digits, from_digits_ext, from_digits_of}
-use Rattle.cycle.proofs.Bits.{bit-bit_xor, bit-mod, mod-pow-mod, shift-add, bit_double}
+use Rattle.cycle.proofs.Bits.{bit-bit_xor, bit_mod, mod_pow_mod, shift_add, bit_double}
 use Rattle.tsc.specs.declared.Card.{Card}
 use Rattle.tsc.specs.Columns.{column}
 use Rattle.tsc.specs.Selector.{and_words, sum_words, selector}
 use Rattle.tsc.proofs.Columns.{all_ones, popcount, bit-and_words, sum_words_mod}
-use Rattle.tsc.proofs.Number.{number, state_of, number-div, number-mod, number_ext, number-state_of, state_of_in_range}
+use Rattle.tsc.proofs.Number.{number, state_of, number_div, number_mod, number_ext, number-state_of, state_of_in_range}
 use Rattle.tsc.proofs.Parity.{low_part, selector_bit, selector_bit_parity}
 
 -- ---- p and s below bit i, by the number of the i low columns
@@ -28,7 +28,7 @@ module _ (m : ℕ) (xs : List ℕ) (e : length xs ≡ m) where
   unfolding low_part sum
   low_part_number w zero = refl
   low_part_number w (suc i) =
-      rw (number-div m xs e i, number-mod m xs e i) (ap (λ (a : ℕ). a + w (column i xs) * 2 ^ i) (low_part_number w i))
+      rw (number_div m xs e i, number_mod m xs e i) (ap (λ (a : ℕ). a + w (column i xs) * 2 ^ i) (low_part_number w i))
 
   and_words-low : (n i : ℕ) → i ≤ n → and_words n xs % 2 ^ i ≡ low_part m (all_ones m) i (number m i xs)
   and_words-low n i l =
@@ -65,11 +65,11 @@ bit-selector card xs e i l =
     let v : ℕ = (low_part m (all_ones m) i x + C) / 2 ^ i in
     let w : ℕ = 2 * low_part m (popcount m) i x / 2 ^ i in
     let first : bit i ((p + C) % 2 ^ n) ≡ (v + p / 2 ^ i) % 2 =
-    bit-mod n i (p + C) l
-    ∙ ap (λ (a : ℕ). a % 2) (shift-add i p C ∙ ap (λ (a : ℕ). (a + C) / 2 ^ i + p / 2 ^ i) (and_words-low m xs e n i (omega arith))) in
+    bit_mod n i (p + C) l
+    ∙ ap (λ (a : ℕ). a % 2) (shift_add i p C ∙ ap (λ (a : ℕ). (a + C) / 2 ^ i + p / 2 ^ i) (and_words-low m xs e n i (omega arith))) in
     let double : bit i (2 * (s % 2 ^ n) % 2 ^ n) ≡ w % 2 =
-    bit-mod n i (2 * (s % 2 ^ n)) l ∙ bit_double i (s % 2 ^ n)
-    ∙ ap (λ (a : ℕ). bit i (2 * a)) (mod-pow-mod n i s (omega arith) ∙ sum_words-low m xs e i)
+    bit_mod n i (2 * (s % 2 ^ n)) l ∙ bit_double i (s % 2 ^ n)
+    ∙ ap (λ (a : ℕ). bit i (2 * a)) (mod_pow_mod n i s (omega arith) ∙ sum_words-low m xs e i)
     ∙ sym (bit_double i (low_part m (popcount m) i x)) in
     bit-bit_xor i (bit_xor ((p + C) % 2 ^ n) p) (cond sums (2 * (s % 2 ^ n) % 2 ^ n) 0)
     ∙ ap₂ (λ (a b : ℕ). (a + b) % 2) (bit-bit_xor i ((p + C) % 2 ^ n) p ∙ ap (λ (a : ℕ). (a + bit i p) % 2) first)

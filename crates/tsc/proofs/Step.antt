@@ -14,7 +14,7 @@ use Rattle.tsc.specs.Selector.{selector}
 use Rattle.tsc.specs.Step.{entry, power, step, orbit}
 use Rattle.tsc.specs.Coverage.{IsState, WellFormed}
 use Rattle.tsc.proofs.Columns.{column-from_columns, from_columns_in_range}
-use Rattle.tsc.proofs.Number.{number, columns, number-div, number-mod, number_suc}
+use Rattle.tsc.proofs.Number.{number, columns, number_div, number_mod, number_suc}
 use Rattle.tsc.proofs.Parity.{selector_bit}
 use Rattle.tsc.proofs.Selector.{bit-selector}
 
@@ -52,7 +52,7 @@ module _ (card : Card) (wf : WellFormed card) (xs : List ℕ) (e : length xs ≡
   unfolding step_number skew power_below number sum
   number_step zero l = refl
   number_step (suc i) l =
-      rw (number-div card.words xs e i, number-mod card.words xs e i)
+      rw (number_div card.words xs e i, number_mod card.words xs e i)
       (number_suc card.words i (step card xs)
       ∙ ap₂ (λ (a b : ℕ). a * (2 ^ card.words) ^ i + b)
       (column-step i l ∙ ap (λ (s : ℕ). iterate (entry card) (power card s) (column i xs)) (bit-selector card xs e i l))

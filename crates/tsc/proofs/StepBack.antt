@@ -11,7 +11,7 @@ use Rattle.tsc.specs.declared.Card.{Card}
 use Rattle.tsc.specs.Step.{step, orbit}
 use Rattle.tsc.specs.Coverage.{IsState, states, step_back, Covers, WellFormed, FullPeriod}
 use Rattle.tsc.proofs.Step.{step_in_range, orbit_in_range}
-use Rattle.tsc.proofs.Coverage.{period-covers}
+use Rattle.tsc.proofs.Coverage.{period_covers}
 
 pub step_back_in_range : (card : Card) (xs : List ℕ) → IsState card xs → IsState card (step_back card xs)
 unfolding step_back
@@ -23,12 +23,12 @@ module _ (card : Card) (wf : WellFormed card) (ok : FullPeriod card) where
 
   pub step_of_back_lem : (xs : List ℕ) → IsState card xs → step card (step_back card xs) ≡ xs
   unfolding iterate step_back
-  step_of_back_lem xs sx = ap (orbit card xs) last ∙ (period-covers card wf ok xs sx).returns
+  step_of_back_lem xs sx = ap (orbit card xs) last ∙ (period_covers card wf ok xs sx).returns
 
-  pub back-only : (xs ys : List ℕ) → IsState card xs → IsState card ys → step card xs ≡ ys → xs ≡ step_back card ys
+  pub back_only : (xs ys : List ℕ) → IsState card xs → IsState card ys → step card xs ≡ ys → xs ≡ step_back card ys
   unfolding iterate step_back
-  back-only xs ys sx sy e =
-      let c = period-covers card wf ok ys sy in
+  back_only xs ys sx sy e =
+      let c = period_covers card wf ok ys sy in
       let r = c.once xs sx in
       go c r.0 r.1 r.2 (dec_lt (suc r.0) (states card))
     where
@@ -43,4 +43,4 @@ module _ (card : Card) (wf : WellFormed card) (ok : FullPeriod card) where
           sym h ∙ ap (orbit card ys) q
 
   pub back_of_step_lem : (xs : List ℕ) → IsState card xs → step_back card (step card xs) ≡ xs
-  back_of_step_lem xs sx = sym (back-only xs (step card xs) sx (step_in_range card xs) refl)
+  back_of_step_lem xs sx = sym (back_only xs (step card xs) sx (step_in_range card xs) refl)

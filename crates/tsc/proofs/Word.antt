@@ -13,9 +13,9 @@ use lib.Dec.{eqb}
 use lib.ListN.{length, get_or, get_or-eq_default}
 use lib.Pow.{pow_pos, pow-add, shl-shr, shr-shr, shr_lt, mod-pow-add, high, low}
 use Rattle.cycle.specs.Notation.{sum, bit}
-use Rattle.cycle.proofs.Bits.{bit-mod}
+use Rattle.cycle.proofs.Bits.{bit_mod}
 use Rattle.cycle.proofs.Digits.{length-tabulate, get_d_tabulate}
-use Rattle.cycle.proofs.Sum.{sum_ext, sum_zero, sum-split}
+use Rattle.cycle.proofs.Sum.{sum_ext, sum_zero, sum_split}
 use Rattle.tsc.specs.declared.Card.{Card}
 use Rattle.tsc.specs.Constants.{filter_words}
 use Rattle.tsc.specs.Word.{◌⊞◌, ◌⋘◌, filter1, filter2, further, filtered, word, word_at, orbit_words}
@@ -62,13 +62,13 @@ module _ (n x k : ℕ) (pos : 0 < n) (lx : x < 2 ^ n) where
       go (yes below) =
           let moved : (i + r) % n ≡ r + i = mod-eq_of_lt (omega (arith, split)) ∙ add_comm i r in
           ap (λ (a : ℕ). bit a (L * 2 ^ r + x / 2 ^ d)) moved ∙ ap (λ (a : ℕ). a % 2) (sym (shr-shr (L * 2 ^ r + x / 2 ^ d) r i))
-          ∙ ap (λ (a : ℕ). a / 2 ^ i % 2) (high L r top_lt) ∙ bit-mod d i x below
+          ∙ ap (λ (a : ℕ). a / 2 ^ i % 2) (high L r top_lt) ∙ bit_mod d i x below
       go (no above) =
           let j : ℕ = i - d in
           let jn : i + r ≡ j + n = omega (arith, split) in
           let moved : (i + r) % n ≡ j = ap (λ (a : ℕ). a % n) jn ∙ add-mod_right j n ∙ mod-eq_of_lt (omega arith) in
           let ji : d + j ≡ i = omega arith in
-          ap (λ (a : ℕ). bit a (L * 2 ^ r + x / 2 ^ d)) moved ∙ sym (bit-mod r j (L * 2 ^ r + x / 2 ^ d) (omega (arith, split)))
+          ap (λ (a : ℕ). bit a (L * 2 ^ r + x / 2 ^ d)) moved ∙ sym (bit_mod r j (L * 2 ^ r + x / 2 ^ d) (omega (arith, split)))
           ∙ ap (bit j) (low L r top_lt) ∙ ap (λ (a : ℕ). a % 2) (shr-shr x d j) ∙ ap (λ (a : ℕ). bit a x) ji
 
 -- ---- further words
@@ -82,16 +82,16 @@ module _ (n : ℕ) where
   unfolding further sum
   further-none x = refl
 
-  pub further-more : (x : ℕ → ℕ) (c : ℕ) → further n x (c + 1) ≡ further n x c + ◌⋘◌ n (x (filter_words + c)) (filter_words + c)
+  pub further_more : (x : ℕ → ℕ) (c : ℕ) → further n x (c + 1) ≡ further n x c + ◌⋘◌ n (x (filter_words + c)) (filter_words + c)
   unfolding further sum
-  further-more x c = rw add-one
+  further_more x c = rw add-one
 
   -- words that are 0 add nothing
   pub further-zeros : (x : ℕ → ℕ) (c d : ℕ) → ((k : ℕ) → filter_words + c ≤ k → x k ≡ 0) → further n x (c + d) ≡ further n x c
   unfolding further
   further-zeros x c d h =
       let turned : ℕ → ℕ = λ j. ◌⋘◌ n (x (filter_words + j)) (filter_words + j) in
-      sum-split c d turned
+      sum_split c d turned
       ∙ ap (λ (s : ℕ). sum c turned + s)
       (sum_ext d (λ i. turned (c + i)) (λ i. 0) (λ i l. ap (λ (y : ℕ). ◌⋘◌ n y (filter_words + (c + i))) (h (filter_words + (c + i)) (omega arith)) ∙ rotate_zero (filter_words + (c + i)))
       ∙ sum_zero d)

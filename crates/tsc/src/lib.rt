@@ -15,7 +15,7 @@ pub const DEFAULT_WORDS: u32 = 4;
 pub const TSC1_CONSTANT: u32 = 0x1248_8421;
 
 // The values of a card (document 01, The card): what a generator is set up by.
-#[derive(Drop)]
+#[derive(Clone, Copy)]
 pub struct Card {
     // m, the words of a state
     pub words: u8,
@@ -36,7 +36,7 @@ pub struct Card {
 }
 
 // A state: the first m words are used, x0 first, and the others are 0.
-#[derive(Drop)]
+#[derive(Clone, Copy)]
 pub struct State {
     pub words: [u32; MOST_WORDS],
 }

@@ -4,17 +4,17 @@ use native.Mathlib.Decide.{ℕ_discrete}
 use lib.Bits.{bit_and, bit_xor}
 use lib.Pow.{ones_lt}
 use Rattle.cycle.specs.Notation.{bit}
-use Rattle.cycle.proofs.Bits.{bit_lt, bit-bit_and, bit-bit_xor, bit-times, bit-ones, bit-elsewhere, bits_ext}
+use Rattle.cycle.proofs.Bits.{bit_lt, bit-bit_and, bit-bit_xor, bit-times, bit_ones, bit_elsewhere, bits_ext}
 use Rattle.cycle.proofs.Parity.{bit_cases}
 
 -- a bit in every place
-pub bit-spread : (w b i : ℕ) → b < 2 → i < w → bit i (b * (2 ^ w - 1)) ≡ b
-bit-spread w b i l h = bit-times i b (2 ^ w - 1) l ∙ ap (λ (a : ℕ). b * a) (bit-ones w i h) ∙ mul-one b
+pub bit_spread : (w b i : ℕ) → b < 2 → i < w → bit i (b * (2 ^ w - 1)) ≡ b
+bit_spread w b i l h = bit-times i b (2 ^ w - 1) l ∙ ap (λ (a : ℕ). b * a) (bit_ones w i h) ∙ mul-one b
 
 -- and the word that it makes
 pub spread_is : (w b r : ℕ) → b < 2 → r < 2 ^ w → ((i : ℕ) → i < w → bit i r ≡ b) → r ≡ b * (2 ^ w - 1)
 spread_is w b r l lr h = bits_ext w r (b * (2 ^ w - 1)) lr (bit_cases (λ b. b * (2 ^ w - 1) < 2 ^ w) (rw (zero-mul (2 ^ w - 1)) (pow_pos w)) (rw (one-mul (2 ^ w - 1)) (ones_lt w)) b l)
-    (λ i li. h i li ∙ sym (bit-spread w b i l li))
+    (λ i li. h i li ∙ sym (bit_spread w b i l li))
 
 -- a choice, by a mask and its complement
 pub bit_join : (x f g i : ℕ) → bit i (bit_xor g (bit_and (bit_xor f g) x)) ≡ cond (eqb (bit i x) 1) (bit i f) (bit i g)
@@ -48,4 +48,4 @@ joined w i x a b r l la lb lr h =
 
     go : (j : ℕ) → Dec (j ≡ i) → bit j (picked j * 2 ^ i) ≡ bit j (picked i * 2 ^ i)
     go j (yes e) = ap (λ (k : ℕ). bit j (picked k * 2 ^ i)) e
-    go j (no ne) = bit-elsewhere i j (picked j) (small j) ne ∙ sym (bit-elsewhere i j (picked i) (small i) ne)
+    go j (no ne) = bit_elsewhere i j (picked j) (small j) ne ∙ sym (bit_elsewhere i j (picked i) (small i) ne)

@@ -21,8 +21,8 @@ words_cons zero (suc m) (x ∷ xs) l h = refl
 words_cons (suc k) (suc m) (x ∷ xs) l h = words_cons k m xs (omega arith) (omega arith)
 
 -- one word more, for a loop that has come down to k
-pub words-next : (k m : ℕ) (xs : List ℕ) → 0 < k → k ≤ m → m ≤ length xs → words_from (k - 1) m xs ≡ get_or xs (k - 1) 0 ∷ words_from k m xs
-words-next k m xs p l h =
+pub words_next : (k m : ℕ) (xs : List ℕ) → 0 < k → k ≤ m → m ≤ length xs → words_from (k - 1) m xs ≡ get_or xs (k - 1) 0 ∷ words_from k m xs
+words_next k m xs p l h =
     let e : suc (k - 1) ≡ k = omega arith in
     words_cons (k - 1) m xs (omega arith) h ∙ ap (λ (j : ℕ). get_or xs (k - 1) 0 ∷ words_from j m xs) e
 

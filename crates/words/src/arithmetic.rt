@@ -8,7 +8,7 @@ ghost use Rattle.words.specs.Widths.{width_of, IsWidth};
 use std::num::wrapping_add_u32;
 
 // n, and 2^n - 1.
-#[derive(Drop)]
+#[derive(Clone, Copy)]
 pub struct Width {
     pub bits: u32,
     pub low: u32,

@@ -4,7 +4,7 @@ use native.Mathlib.Omega.{arith}
 use lib.Seq.{length-take-le}
 use Rattle.tsc.specs.declared.Card.{Card}
 use Rattle.tsc.specs.Constants.{most_words}
-use Rattle.card_format.proofs.Verdict.{accepted-card, accepting-passed}
+use Rattle.card_format.proofs.Verdict.{accepted_card, accepting-passed}
 use Rattle.inspect.proofs.print_card.Statement.{statement}
 use Rattle.inspect.proofs.print_card.Tie as tie
 
@@ -42,7 +42,7 @@ few c =
     let found = checked c.before.before in
     let bytes = found.before.before.args.card.now in
     let p = accepting-passed bytes _ found.accept.ensures c.before.if1.true in
-    omega (arith, (accepted-card bytes p.0).few, ap (λ (card : Card). card.words) p.1)
+    omega (arith, (accepted_card bytes p.0).few, ap (λ (card : Card). card.words) p.1)
 
 array-borrow-prefix-state : tie.Need-array-borrow-prefix-state
 array-borrow-prefix-state c = few c

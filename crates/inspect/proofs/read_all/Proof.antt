@@ -15,9 +15,9 @@ abbrev decreases-loop : tie.decreases-loop
 decreases-loop file bytes₀ at₀ bytes at = length bytes - at
 
 -- what one more read puts behind the first `at` bytes stands in the slice too
-more-fits : (bytes rest : List ℕ) (at more : ℕ) → at ≤ length bytes → more ≤ length rest → length rest ≡ length (take (length bytes - at) (drop at bytes))
+more_fits : (bytes rest : List ℕ) (at more : ℕ) → at ≤ length bytes → more ≤ length rest → length rest ≡ length (take (length bytes - at) (drop at bytes))
     → at + more ≤ length bytes
-more-fits bytes rest at more a m e =
+more_fits bytes rest at more a m e =
     let l = length-drop at bytes in
     omega (arith, m, e, l, length-take-le (length bytes - at) (drop at bytes) (omega (arith, l)))
 
@@ -49,7 +49,7 @@ returns c =
 reached : (c : tie.After-struct-known2 invariant-loop decreases-loop) → let l = c.before.before.before.before.before.before.before.before.loop in l.at + c.before.before.before.before.before.read-once.result.length ≤ length l.bytes
 reached c =
     let l = c.before.before.before.before.before.before.before.before.loop in
-    more-fits l.bytes c.before.before.before.before.before.read-once.new.1.0 l.at _ l.invariant.0 c.before.before.before.before.before.read-once.ensures.0 c.before.before.before.before.bytes.given.0
+    more_fits l.bytes c.before.before.before.before.before.read-once.new.1.0 l.at _ l.invariant.0 c.before.before.before.before.before.read-once.ensures.0 c.before.before.before.before.bytes.given.0
 
 add_at : tie.Need-overflow-add-at invariant-loop decreases-loop
 add_at c = omega (arith, reached c, c.before.before.before.before.before.before.before.before.loop.invariant.1)

@@ -4,7 +4,7 @@ use Prim.Native.Nat.{ℕ}
 use native.Mathlib.Omega.{arith}
 use Rattle.tsc.specs.declared.Card.{Card}
 use Rattle.c_answers.specs.Answers.{written_length}
-use Rattle.c_answers.proofs.Given.{overlong-refused, fitting_written, padded-long, padded-full, filled-all}
+use Rattle.c_answers.proofs.Given.{overlong-refused, fitting_written, padded-long, padded_full, filled_all}
 use borrow.Author.Rules.{rules}
 use Rattle.tiedraw.proofs.tiedraw_write.Statement.{statement}
 use Rattle.tiedraw.proofs.tiedraw_write.Tie as tie
@@ -46,8 +46,8 @@ returns-2 c =
     let filled = wrote.before.before in
     let s = filled.before.before.before.before in
     let table = s.args.table.now in
-    let same = ap (card s) (filled-all table _ filled.table-from.ensures) in
-    let w = fitting_written _ s.args.page.now same (omega (arith, padded-full table (omega (arith, filled.before.if1.false)))) in
+    let same = ap (card s) (filled_all table _ filled.table-from.ensures) in
+    let w = fitting_written _ s.args.page.now same (omega (arith, padded_full table (omega (arith, filled.before.if1.false)))) in
     let answer = wrote.write.ensures in
     (c.length-of.ensures ∙ ap written_length answer.0 ∙ w.0, answer.1 ∙ w.1)
 

@@ -3,7 +3,7 @@ use lib.ListN.{length}
 use Rattle.refusals.specs.Refusals.{first_of}
 use Rattle.bit_strip.specs.Strip.{strip_checks}
 use Rattle.bit_strip.proofs.Strip.{strip_fits}
-use Rattle.bit_counts.proofs.Counting.{refused-card, refused_strip, found-narrow, counted}
+use Rattle.bit_counts.proofs.Counting.{refused_card, refused_strip, found_narrow, counted}
 use native.Mathlib.Omega.{arith}
 use Rattle.bit_count.proofs.call.bit_counts.Statement.{statement}
 use Rattle.bit_count.proofs.call.bit_counts.Tie as tie
@@ -15,7 +15,7 @@ returns : tie.Need-returns
 returns c =
     let a = c.before.before.before.before.before.before.args in
     let f = c.before.before.accept in
-    refused-card a.card.now a.strip.now a.page.now f.result f.ensures c.if1.true
+    refused_card a.card.now a.strip.now a.page.now f.result f.ensures c.if1.true
 
 strip-refusal-requires : tie.Need-strip-refusal-requires
 strip-refusal-requires c κs = tt
@@ -39,7 +39,7 @@ count-bits-requires c κs =
     let e = c.before.before in
     let a = e.before.before.before.before.before.before.before.before.args in
     let f = e.before.before.before.before.accept in
-    let n = found-narrow a.card.now a.strip.now a.page.now f.result f.ensures e.before.before.if1.false in
+    let n = found_narrow a.card.now a.strip.now a.page.now f.result f.ensures e.before.before.if1.false in
     let fits = strip_fits f.result.card.width a.strip.now (length a.page.now) (passed e) in
     (n, fits.short, fits.enough)
 

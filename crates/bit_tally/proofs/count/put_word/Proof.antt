@@ -11,8 +11,8 @@ use Rattle.bit_counts.specs.Bits.{word_bits, digit, text}
 use Rattle.bit_counts.proofs.Bits.{length-word_bits, length-text}
 use Rattle.bit_tally.specs.declared.tally.Tally.{Tally}
 use Rattle.bit_tally.specs.Tally.{with_bit, tallied, HasRoom}
-use Rattle.bit_tally.proofs.Room.{room-bit, room-less}
-use Rattle.bit_tally.proofs.Text.{digit_at, bit-next, no_bits}
+use Rattle.bit_tally.proofs.Room.{room-bit, room_less}
+use Rattle.bit_tally.proofs.Text.{digit_at, bit_next, no_bits}
 use Rattle.bit_tally.proofs.count.put_word.Statement.{statement}
 use Rattle.bit_tally.proofs.count.put_word.Tie as tie
 
@@ -62,7 +62,7 @@ slice-write-part : tie.Need-slice-write-part invariant-loop decreases-loop
 slice-write-part c = let p = c.before.before.before.loop.invariant in omega (arith, kept p, p.places, p.room)
 
 with-bit-requires : tie.Need-with-bit-requires invariant-loop decreases-loop
-with-bit-requires c κs = let l = c.before.before.before.loop in (narrow c.before, room-less l.tally l.left 1 (omega arith) l.invariant.bits)
+with-bit-requires c κs = let l = c.before.before.before.loop in (narrow c.before, room_less l.tally l.left 1 (omega arith) l.invariant.bits)
 
 add-i : tie.Need-overflow-add-i invariant-loop decreases-loop
 add-i c = let p = c.before.before.before.before.loop.invariant in omega (arith, p.places, p.narrow)
@@ -87,7 +87,7 @@ loop-again c =
       room = p.room;
       bits = subst (λ (t : Tally). HasRoom t (l.left - 1)) (sym t)
           (room-bit l.tally _ (l.left - 1) (bit_lt (l.left - 1) a.word) (subst (HasRoom l.tally) (sym less) p.bits));
-      counted = ap (λ (t : Tally). tallied t (word_bits (l.left - 1) a.word)) t ∙ bit-next l.tally l.left a.word h ∙ p.counted;
+      counted = ap (λ (t : Tally). tallied t (word_bits (l.left - 1) a.word)) t ∙ bit_next l.tally l.left a.word h ∙ p.counted;
       page = ap (λ (x : ℕ). set l.part l.i x) (c.before.digit-of.ensures ∙ ap digit b ∙ digit_at a.n a.word l.left l.i h p.places)
           ∙ ap (λ (d : List ℕ). set d l.i (get_or s l.i 0)) p.page
           ∙ over_suc s a.part.now l.i (omega (arith, size, p.places)) (omega (arith, p.places, p.room));

@@ -6,13 +6,13 @@ use native.Mathlib.Omega.{arith}
 use lib.ListN.{length, get_or, take, drop, length-drop}
 use lib.Seq.{take_all}
 use Rattle.tsc.specs.Constants.{widest_width}
-use Rattle.cycle.proofs.Lists.{part-rest, put_next, length_front}
+use Rattle.cycle.proofs.Lists.{part_rest, put_next, length_front}
 use Rattle.bit_counts.specs.Bits.{word_bits, bits_of, text}
 use Rattle.bit_counts.proofs.Bits.{length-word_bits, length-text}
 use Rattle.bit_tally.specs.declared.tally.Tally.{Tally}
 use Rattle.bit_tally.specs.Tally.{base, tally_of_none, tallied, HasRoom}
-use Rattle.bit_tally.proofs.Room.{few_bits, room-bits, room-less, room-first}
-use Rattle.bit_tally.proofs.Text.{word-bits, word_next, text-next, length-words, no_words, all-counted, place-next, place-room, places-left}
+use Rattle.bit_tally.proofs.Room.{few_bits, room_bits, room_less, room-first}
+use Rattle.bit_tally.proofs.Text.{word_bits_lem, word_next, text_next, length-words, no_words, all_counted, place_next, place_room, places_left}
 use Rattle.bit_tally.proofs.count.put_words.Statement.{statement}
 use Rattle.bit_tally.proofs.count.put_words.Tie as tie
 
@@ -36,10 +36,10 @@ module _ {n : ℕ} {strip page₀ page : List ℕ} {t : Tally} {at k : ℕ} (p :
 
   -- word k ends before the last bit, and there is room for it
   ends : k < length strip → at + n ≤ base
-  ends l = omega (arith, p.place, place-room n k (length strip) l, p.few)
+  ends l = omega (arith, p.place, place_room n k (length strip) l, p.few)
 
   room : k < length strip → at + n ≤ length page
-  room l = omega (arith, kept, p.place, place-room n k (length strip) l, p.room)
+  room l = omega (arith, kept, p.place, place_room n k (length strip) l, p.room)
 
 abbrev invariant-loop : tie.invariant-loop
 invariant-loop n strip page₀ t₀ at₀ k₀ page t at k = Put n strip page₀ page t at k
@@ -89,8 +89,8 @@ put-word-requires c κs =
     let a = c.before.before.before.before.before.before.before.args in
     let h = c.before.before.loop-test.true in (
       l.invariant.narrow,
-      omega (arith, room l.invariant h, ap (λ (p : List ℕ). length p) (part-rest l.at l.page), length-drop l.at l.page),
-      room-less l.t _ a.n (omega (arith, places-left a.n l.k (length a.strip.now) h)) l.invariant.bits,
+      omega (arith, room l.invariant h, ap (λ (p : List ℕ). length p) (part_rest l.at l.page), length-drop l.at l.page),
+      room_less l.t _ a.n (omega (arith, places_left a.n l.k (length a.strip.now) h)) l.invariant.bits,
     )
 
 add_at : tie.Need-overflow-add-at invariant-loop decreases-loop
@@ -118,20 +118,20 @@ loop-again c =
     let before = text (bits_of n (take l.k xs)) in
     let d = a.page.now in
     record {
-      place = omega (arith, p.place, place-next n l.k 0);
+      place = omega (arith, p.place, place_next n l.k 0);
       within = omega arith;
       narrow = p.narrow;
       few = p.few;
       room = p.room;
       bits = subst (λ (t : Tally). HasRoom t (n * (length xs - (l.k + 1)))) (sym put.0)
-          (room-bits l.t b _ (word-bits n (get_or xs l.k 0))
-          (subst (HasRoom l.t) (places-left n l.k (length xs) h ∙ ap (λ (m : ℕ). m + n * (length xs - (l.k + 1))) (sym (length-word_bits n (get_or xs l.k 0)))) p.bits));
+          (room_bits l.t b _ (word_bits_lem n (get_or xs l.k 0))
+          (subst (HasRoom l.t) (places_left n l.k (length xs) h ∙ ap (λ (m : ℕ). m + n * (length xs - (l.k + 1))) (sym (length-word_bits n (get_or xs l.k 0)))) p.bits));
       counted = ap (λ (t : Tally). tallied t (bits_of n (drop (l.k + 1) xs))) put.0 ∙ word_next n xs l.k h l.t ∙ p.counted;
       written = ap (λ (v : List ℕ). take at l.page ++ (v ++ drop (length l.page - at) (drop at l.page)))
           (put.1 ∙ ap (λ (m : ℕ). f ++ drop m (take (length l.page - at) (drop at l.page))) (sym size))
           ∙ ap₂ (λ (i : ℕ) (p : List ℕ). take i p ++ ((f ++ drop (length f) (take (length p - i) (drop i p))) ++ drop (length p - i) (drop i p))) p.place p.written
           ∙ put_next before d f (n * l.k) (length-words n xs l.k p.within)
-          ∙ ap₂ (λ (w : List ℕ) (m : ℕ). w ++ drop m d) (text-next n xs l.k h) (ap (λ (m : ℕ). n * l.k + m) size ∙ place-next n l.k 0);
+          ∙ ap₂ (λ (w : List ℕ) (m : ℕ). w ++ drop m d) (text_next n xs l.k h) (ap (λ (m : ℕ). n * l.k + m) size ∙ place_next n l.k 0);
     }
 
 same_length : tie.Need-same-length invariant-loop decreases-loop
@@ -145,7 +145,7 @@ returns c =
     let n = a.n in
     let xs = a.strip.now in
     let all : l.k ≡ length xs = omega (arith, p.within) in (
-      all-counted n xs l.t l.k all ∙ p.counted,
+      all_counted n xs l.t l.k all ∙ p.counted,
       p.written ∙ ap (λ (k : ℕ). text (bits_of n (take k xs)) ++ drop (n * k) a.page.now) all
           ∙ ap (λ (s : List ℕ). text (bits_of n s) ++ drop (n * length xs) a.page.now) (take_all (length xs) xs (omega arith)),
     )

@@ -6,7 +6,7 @@ use Rattle.changes.specs.declared.Change.{Change}
 use lib.ListN.{set}
 use Rattle.changes.specs.Change.{changed}
 use Rattle.changes.specs.Others.{change_to}
-use Rattle.changes.proofs.Nearest.{changed-to}
+use Rattle.changes.proofs.Nearest.{changed_to}
 use Rattle.outcomes.specs.Elsewhere.{elsewhere}
 use Rattle.change_order.specs.First.{comes_first}
 use Rattle.candidates.specs.Best.{attempted}
@@ -24,7 +24,7 @@ kept s x e = let a = s.args in subst (λ (x : Change). a.best ≡ attempted a.kn
 -- the changed times
 moved : (s : tie.Start) → let a = s.args in
     elsewhere a.known a.shovels.now (changed a.times.now (change_to a.times.now a.i a.v)) ≡ elsewhere a.known a.shovels.now (set a.times.now a.i a.v)
-moved s = let a = s.args in ap (elsewhere a.known a.shovels.now) (changed-to a.times.now a.i a.v)
+moved s = let a = s.args in ap (elsewhere a.known a.shovels.now) (changed_to a.times.now a.i a.v)
 
 mul-change-to : tie.Need-overflow-mul-change-to
 mul-change-to c = search rules

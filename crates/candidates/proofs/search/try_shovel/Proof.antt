@@ -12,7 +12,7 @@ use Rattle.change_order.specs.declared.Best.{Best}
 use Rattle.change_order.specs.First.{Placed}
 use Rattle.candidates.specs.Best.{attempted}
 use Rattle.tie_others.proofs.Joined.{others-least}
-use Rattle.candidates.proofs.Attempts.{placed-either, placed-next, placed-sound, best_found}
+use Rattle.candidates.proofs.Attempts.{placed_either, placed_next, placed-sound, best_found}
 use Rattle.candidates.proofs.search.try_shovel.Statement.{statement}
 use Rattle.candidates.proofs.search.try_shovel.Tie as tie
 
@@ -25,11 +25,11 @@ listed s = omega (arith, s.requires.0.1, s.requires.0.0.1.paired)
 
 tried : (s : tie.Start) (v : ℕ) (best : Best) → Placed (length s.args.shovels.now) best
     → Placed (length s.args.shovels.now) (attempted s.args.known s.args.shovels.now s.args.times.now (change_to s.args.times.now s.args.i v) best)
-tried s v best p = placed-next s.args.known s.args.shovels.now s.args.times.now _ (change_to s.args.times.now s.args.i v) best (listed s) p
+tried s v best p = placed_next s.args.known s.args.shovels.now s.args.times.now _ (change_to s.args.times.now s.args.i v) best (listed s) p
 
 placed_below : (s : tie.Start) (x : ℕ) → Placed (length s.args.shovels.now) (cond (eqb x 0 || ltb (get_or s.args.times.now s.args.i 0) x) s.args.best
     (attempted s.args.known s.args.shovels.now s.args.times.now (change_to s.args.times.now s.args.i (x - 1)) s.args.best))
-placed_below s x = placed-either _ (eqb x 0 || ltb (get_or s.args.times.now s.args.i 0) x) s.args.best _ (placed s) (tried s (x - 1) s.args.best (placed s))
+placed_below s x = placed_either _ (eqb x 0 || ltb (get_or s.args.times.now s.args.i 0) x) s.args.best _ (placed s) (tried s (x - 1) s.args.best (placed s))
 
 mul-others-of : tie.Need-overflow-mul-others-of
 mul-others-of c = search rules

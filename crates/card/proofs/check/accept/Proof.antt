@@ -8,7 +8,7 @@ use Rattle.refusals.specs.Refusals.{first_of}
 use Rattle.card_format.specs.declared.Reading.{Reading}
 use Rattle.card_format.specs.Reading.{card_of, SoundForm, reading, answering}
 use Rattle.card_format.specs.Verdict.{period_checks, verdict, accepting}
-use Rattle.card_format.proofs.Sound.{sound-card}
+use Rattle.card_format.proofs.Sound.{sound_card}
 use Rattle.card_format.proofs.Verdict.{answering-refused, verdict-form, verdict-period, reading-sound, words-sound}
 use Rattle.card.proofs.check.accept.Statement.{statement}
 use Rattle.card.proofs.check.accept.Tie as tie
@@ -42,7 +42,7 @@ period-refusal-requires : tie.Need-period-refusal-requires
 period-refusal-requires c κs =
     let h = sound c.before.before in
     subst (λ (card : Card). (card.words ≤ most_words) × ((y : ℕ) → y < 2 ^ card.words → entry card y < 2 ^ card.words)) (sym h.1)
-    (words-sound _ h.0, (sound-card _ h.0).entries)
+    (words-sound _ h.0, (sound_card _ h.0).entries)
 
 refused-requires : tie.Need-refused-requires
 refused-requires c κs = omega arith

@@ -1,4 +1,4 @@
-use Rattle.cycle.proofs.Lists.{length_front, part-rest, put_next, set_first, drop-set-first}
+use Rattle.cycle.proofs.Lists.{length_front, part_rest, put_next, set_first, drop-set-first}
 use mathlib.Core.Path.{◌≡◌, refl, sym, ap, ap₂, ◌∙◌}
 use mathlib.Core.List.{List, ◌∷◌, ◌++◌}
 use Prim.Native.Nat.{ℕ, ◌+◌, ◌-◌, ◌<◌, ◌≤◌}
@@ -63,7 +63,7 @@ put-field-requires c κs =
         arith,
         (room c.before.before.before.before.args.card _ l.page l.at l.k (omega arith) l.invariant).1,
         ap (λ (p : List ℕ). length p)
-            (part-rest l.at l.page),
+            (part_rest l.at l.page),
         length-drop l.at l.page,
       ),
     )

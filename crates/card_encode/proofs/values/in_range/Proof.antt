@@ -6,7 +6,7 @@ use native.Mathlib.Numerals.{add-one}
 use borrow.Author.Rules.{rules}
 use borrow.Author.Tests.{not-true, not-false}
 use Rattle.cycle.specs.Notation.{every}
-use Rattle.cycle.proofs.Every.{every-at, every_not}
+use Rattle.cycle.proofs.Every.{every_at, every_not}
 use Rattle.card_format.specs.Fields.{field, field_count, allowed}
 use Rattle.card_format.specs.Writing.{numbers_of, in_range}
 use Rattle.card_format.proofs.Writing.{words-allowed}
@@ -24,7 +24,7 @@ unfolding every
 loop-holds c = (omega arith, refl)
 
 field-allowed-requires : tie.Need-field-allowed-requires invariant-loop decreases-loop
-field-allowed-requires c κs = (omega arith, λ p. words-allowed c.before.before.args.t1 (every-at c.before.loop.k _ c.before.loop.invariant.1 0 p))
+field-allowed-requires c κs = (omega arith, λ p. words-allowed c.before.before.args.t1 (every_at c.before.loop.k _ c.before.loop.invariant.1 0 p))
 
 returns : tie.Need-returns invariant-loop decreases-loop
 unfolding in_range
@@ -46,14 +46,14 @@ cast-unused-clear c = omega arith
 unused-clear-requires : tie.Need-unused-clear-requires invariant-loop decreases-loop
 unused-clear-requires c κs =
     let l = c.before.before.before.loop in
-    (words-allowed c.before.before.before.before.args.t1 (every-at l.k _ l.invariant.1 0 (omega arith)), search rules)
+    (words-allowed c.before.before.before.before.args.t1 (every_at l.k _ l.invariant.1 0 (omega arith)), search rules)
 
 returns-2 : tie.Need-returns-2 invariant-loop decreases-loop
 unfolding in_range
 returns-2 c =
     let card = c.before.before.before.before.before.args.t1 in
     let e : c.before.before.before.before.loop.k ≡ field_count = omega arith in
-    rw (sym (ap (λ (n : ℕ). every n (λ j. allowed (field card.words j) (numbers_of card j))) e) ∙ c.before.before.before.before.loop.invariant.1) c.unused-clear.ensures
+    rw (sym (ap (λ (n : ℕ). every n (λ j. allowed (field card.words j) (numbers_of card j))) e) ∙ c.before.before.before.before.loop.invariant.1) c.unused_clear_lem.ensures
 
 pub in_range_spec : {M : Type 1} → statement M
 in_range_spec =

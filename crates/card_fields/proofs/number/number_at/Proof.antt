@@ -30,21 +30,21 @@ module _ (c : lts.Start (low-first-reads.Asked, low-first-reads.Learnt) reads.Pr
   room : (s : ℕ) → (field c.args.m c.args.k).size ≡ s → s ≤ length c.args.part.now
   room s es = omega (arith, c.requires.1, ap (λ (n : ℕ). n * (field c.args.m c.args.k).size) (count-one c.args.m c.args.k c.requires.0.0 c.requires.0.1))
 
-  size-four : c.args.k ≡ constant_bit → (field c.args.m c.args.k).size ≡ 4
+  size_four : c.args.k ≡ constant_bit → (field c.args.m c.args.k).size ≡ 4
   unfolding field fields
-  size-four e = ap (λ (k : ℕ). (field c.args.m k).size) e
+  size_four e = ap (λ (k : ℕ). (field c.args.m k).size) e
 
 shared-slice-read-low-first : tie.Need-shared-slice-read-low-first
-shared-slice-read-low-first c = let s = c.before.before.before in omega (arith, room s 4 (size-four s c.before.if1.true))
+shared-slice-read-low-first c = let s = c.before.before.before in omega (arith, room s 4 (size_four s c.before.if1.true))
 
 shared-slice-read-low-first-2 : tie.Need-shared-slice-read-low-first-2
-shared-slice-read-low-first-2 c = let s = c.before.before.before.before in omega (arith, room s 4 (size-four s c.before.before.if1.true))
+shared-slice-read-low-first-2 c = let s = c.before.before.before.before in omega (arith, room s 4 (size_four s c.before.before.if1.true))
 
 shared-slice-read-low-first-3 : tie.Need-shared-slice-read-low-first-3
-shared-slice-read-low-first-3 c = let s = c.before.before.before.before.before in omega (arith, room s 4 (size-four s c.before.before.before.if1.true))
+shared-slice-read-low-first-3 c = let s = c.before.before.before.before.before in omega (arith, room s 4 (size_four s c.before.before.before.if1.true))
 
 shared-slice-read-low-first-4 : tie.Need-shared-slice-read-low-first-4
-shared-slice-read-low-first-4 c = let s = c.before.before.before.before.before.before in omega (arith, room s 4 (size-four s c.before.before.before.before.if1.true))
+shared-slice-read-low-first-4 c = let s = c.before.before.before.before.before.before in omega (arith, room s 4 (size_four s c.before.before.before.before.if1.true))
 
 low-first-requires : tie.Need-low-first-requires
 low-first-requires c κs = omega arith
@@ -53,7 +53,7 @@ returns : tie.Need-returns
 returns c =
     let t = c.before.before.before.before.before in
     let s = t.before.before in
-    of_size s 4 _ (size-four s t.if1.true) (c.low_first.ensures ∙ four s.args.part.now)
+    of_size s 4 _ (size_four s t.if1.true) (c.low_first.ensures ∙ four s.args.part.now)
 
 shared-slice-read-result : tie.Need-shared-slice-read-result
 shared-slice-read-result c =

@@ -14,11 +14,11 @@ use Rattle.refusals.proofs.Refusals.{none_first}
 use Rattle.card_format.specs.declared.Reading.{Reading}
 use Rattle.card_format.specs.Fields.{field, fields, field_count, table_bit, constant_bit}
 use Rattle.card_format.specs.Reading.{reading, answering, values, padded, card_from, form_checks}
-use Rattle.cycle.proofs.Lists.{part-rest}
+use Rattle.cycle.proofs.Lists.{part_rest}
 use Rattle.card_fields.proofs.Arrays.{array_of}
 use Rattle.card_values.specs.FieldRead.{field_read, table_read, missing}
-use Rattle.card_read.proofs.Map.{lowest-one, left-all, ones_none, ones-some}
-use Rattle.card_read.proofs.Reader.{Reached, Rest, reached-map, rest_gap, rest-here, rest-next, rest-refused, words-few, told-end, end-reached, told_empty, card-read, reading-refused, reading-accepted, byte-values}
+use Rattle.card_read.proofs.Map.{lowest_one, left_all, ones_none, ones_some}
+use Rattle.card_read.proofs.Reader.{Reached, Rest, reached-map, rest_gap, rest_here, rest_next, rest_refused, words-few, told_end, end_reached, told_empty, card_read, reading-refused, reading-accepted, byte-values}
 use Rattle.card_read.proofs.Table.{table_to, table_start, table_length, rest_table, table_given, table_absent}
 use Rattle.card_read.proofs.read.read.Statement.{statement}
 use Rattle.card_read.proofs.read.read.Tie as tie
@@ -38,7 +38,7 @@ bytes c = c.before.before.before.before.args.card.now
 
 -- within the loop a field is left
 some : (c : tie.In-loop invariant-loop decreases-loop) → 0 < c.before.loop.left
-some c = ones-some c.before.loop.left (omega arith)
+some c = ones_some c.before.loop.left (omega arith)
 
 -- past the table's test, none is missing before the next field
 given : (c : tie.Else2 invariant-loop decreases-loop) → let l = c.before.before.before.before.loop in missing l.next (count_trailing_zeros 8 l.left) (get_or l.v.numbers 0 0) ≡ false
@@ -52,7 +52,7 @@ told c =
     let o = c.before.before.before.before.before.before.before in
     let l = o.loop in
     let k = count_trailing_zeros 8 l.left in
-    let rest = part-rest l.at (bytes o) in (
+    let rest = part_rest l.at (bytes o) in (
       c.read-field.ensures.0 ∙ ap (λ (part : List ℕ). field_read k part l.v) rest,
       c.read-field.ensures.1.1 ∙ ap (λ (part : List ℕ). table_read k part l.v l.table) rest,
     )
@@ -67,13 +67,13 @@ ended c =
 end-told : (c : tie.After-end-refusal invariant-loop decreases-loop) → first_of (form_checks (bytes c.before.before)) ≡ c.end-refusal.result
 end-told c =
     let l = c.before.before.loop in
-    told-end _ l.next l.at l.v (ended c.before) l.invariant.2 ∙ sym c.end-refusal.ensures
+    told_end _ l.next l.at l.v (ended c.before) l.invariant.2 ∙ sym c.end-refusal.ensures
 
 -- where that is none, all fields are read
 passed : (c : tie.Else4 invariant-loop decreases-loop) → let l = c.before.before.before.loop in Reached (bytes c.before.before.before) field_count l.at l.v
 passed c =
     let l = c.before.before.before.loop in
-    end-reached _ l.next l.at l.v (ended c.before.before) l.invariant.2 (sym c.before.end-refusal.ensures ∙ c.if4.false)
+    end_reached _ l.next l.at l.v (ended c.before.before) l.invariant.2 (sym c.before.end-refusal.ensures ∙ c.if4.false)
 
 -- so the card is that of the numbers and of a table that is the card's
 low : (c : tie.Else4 invariant-loop decreases-loop) → let v = c.before.before.before.loop.v in
@@ -84,7 +84,7 @@ accepted : (c : tie.Else4 invariant-loop decreases-loop) (r : Reading) (t : List
     r ≡ answering 0 (card_from (λ k. get_or o.loop.v.numbers k 0) t) → t ≡ padded (values (bytes o) table_bit) → r ≡ reading (bytes o)
 accepted c r t e d =
     let l = c.before.before.before.loop in
-    e ∙ ap (answering 0) (card-read _ l.at l.v t (passed c) d) ∙ reading-accepted _ (end-told c.before ∙ c.if4.false)
+    e ∙ ap (answering 0) (card_read _ l.at l.v t (passed c) d) ∙ reading-accepted _ (end-told c.before ∙ c.if4.false)
 
 -- ---- the needs
 
@@ -102,7 +102,7 @@ unfolding array_of tabulate field fields
 loop-holds c =
     let card = c.before.before.before.args.card.now in
     let small : get_or card 0 0 < 256 = omega (arith, c.shared-slice-known2.given 0) in (
-      record { reached = reached-map card _ (omega arith) refl; fields = left-all (get_or card 0 0) small },
+      record { reached = reached-map card _ (omega arith) refl; fields = left_all (get_or card 0 0) small },
       omega arith,
       omega arith,
       ones-le 8 (get_or card 0 0) small,
@@ -141,7 +141,7 @@ read-field-requires : tie.Need-read-field-requires invariant-loop decreases-loop
 read-field-requires c κs =
     let e = c.before.before in
     let l = e.before.before.before.before.loop in (
-      (rest-here _ l.left l.next l.at l.v l.invariant.0 (some e.before.before.before) (given e)).1,
+      (rest_here _ l.left l.next l.at l.v l.invariant.0 (some e.before.before.before) (given e)).1,
       words-few _ l.next l.at l.v l.invariant.0.reached,
       l.invariant.4,
     )
@@ -155,7 +155,7 @@ returns-3 c =
     let e = r.before.before.before in
     let l = e.before.before.before.before.loop in
     c.refused3.ensures ∙ reading-refused _ _ c.before.if3.true
-    (rest-refused _ l.left l.next l.at l.v _ l.invariant.0 (some e.before.before.before) (given e) (told r).0 c.before.if3.true)
+    (rest_refused _ l.left l.next l.at l.v _ l.invariant.0 (some e.before.before.before) (given e) (told r).0 c.before.if3.true)
 
 add_at : tie.Need-overflow-add-at invariant-loop decreases-loop
 add_at c = omega arith
@@ -177,9 +177,9 @@ loop-again c =
     let e = c.before.before.before.before in
     let i = e.before.before.before in
     let l = i.before.loop in
-    let low = lowest-one l.left (some i) l.invariant.0.fields.small in
+    let low = lowest_one l.left (some i) l.invariant.0.fields.small in
     let r = told c.before in (
-      rest-next _ l.left l.next l.at l.v _ l.invariant.0 (some i) (given e) r.0 c.if3.false,
+      rest_next _ l.left l.next l.at l.v _ l.invariant.0 (some i) (given e) r.0 c.if3.false,
       omega (arith, low.count, l.invariant.1),
       omega (arith, low.within),
       omega arith,

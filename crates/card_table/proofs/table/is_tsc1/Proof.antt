@@ -9,7 +9,7 @@ use lib.Pow.{pow-lt}
 use lib.Seq.{length-take-le, get_or-take}
 use Rattle.cycle.proofs.Every.{extend}
 use Rattle.tsc.specs.Constants.{most_words, default_words, tsc1_table}
-use Rattle.card_format.proofs.Fields.{few-entries, same-all, same_not}
+use Rattle.card_format.proofs.Fields.{few-entries, same_all, same_not}
 use Rattle.card_table.proofs.table.is_tsc1.Statement.{statement}
 use Rattle.card_table.proofs.table.is_tsc1.Tie as tie
 
@@ -64,7 +64,7 @@ returns-3 c =
     let a = c.before.before.before.args in
     let l = c.before.loop in
     let size : length (take (2 ^ a.m) a.table.now) ≡ 2 ^ default_words = used a.table.now a.m c.before.before.before.requires.1 c.before.before.before.requires.0 ∙ ap (λ (m : ℕ). 2 ^ m) l.invariant.0 in
-    sym (same-all (take (2 ^ a.m) a.table.now) tsc1_table size
+    sym (same_all (take (2 ^ a.m) a.table.now) tsc1_table size
     (λ j lj. get_or-take (2 ^ a.m) a.table.now j 0 (omega (arith, lj, size, ap (λ (m : ℕ). 2 ^ m) l.invariant.0)) ∙ l.invariant.2 j (omega (arith, lj, size))))
 
 pub is_tsc1_spec : {M : Type 1} → statement M

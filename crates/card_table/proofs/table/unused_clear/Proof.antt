@@ -4,7 +4,7 @@ use native.Mathlib.Omega.{arith}
 use lib.ListN.{get_or}
 use Rattle.tsc.specs.Constants.{most_words}
 use Rattle.cycle.proofs.Every.{extend}
-use Rattle.card_format.proofs.Fields.{few-entries, unused-clear, unused_not_clear}
+use Rattle.card_format.proofs.Fields.{few-entries, unused_clear_lem, unused_not_clear}
 use Rattle.card_table.proofs.table.unused_clear.Statement.{statement}
 use Rattle.card_table.proofs.table.unused_clear.Tie as tie
 
@@ -42,7 +42,7 @@ loop-again c = (
 )
 
 returns-2 : tie.Need-returns-2 invariant-loop decreases-loop
-returns-2 c = sym (unused-clear c.before.before.before.args.m c.before.before.before.args.table.now (λ i l h. c.before.loop.invariant.2 i (omega arith) h))
+returns-2 c = sym (unused_clear_lem c.before.before.before.args.m c.before.before.before.args.table.now (λ i l h. c.before.loop.invariant.2 i (omega arith) h))
 
 pub unused_clear_spec : {M : Type 1} → statement M
 unused_clear_spec =

@@ -6,7 +6,7 @@ use lib.ListN.{length}
 use Rattle.card_format.specs.declared.Written.TheVariants.{Length}
 use Rattle.refusals.specs.Refusals.{first_of}
 use Rattle.card_format.specs.Writing.{written, value_checks}
-use Rattle.card_format.proofs.Writing.{range_words, value-told, room-told, value_range, writing-refused, writing-done}
+use Rattle.card_format.proofs.Writing.{range_words, value_told, room_told, value_range, writing-refused, writing_done}
 use Rattle.card_write.proofs.write.write.Statement.{statement}
 use Rattle.card_write.proofs.write.write.Tie as tie
 
@@ -29,7 +29,7 @@ returns : tie.Need-returns
 returns c =
     let a = c.before.before.before.args in
     let e = c.before.value-refusal.ensures in
-    writing-refused a.card a.page.now _ c.if1.true (value-told a.card _ (λ z. c.if1.true (e ∙ z)) ∙ sym e)
+    writing-refused a.card a.page.now _ c.if1.true (value_told a.card _ (λ z. c.if1.true (e ∙ z)) ∙ sym e)
 
 outline-of-requires : tie.Need-outline-of-requires
 outline-of-requires c κs = range_words _ (value_range _ (fine c))
@@ -39,7 +39,7 @@ returns-2 c =
     let e = c.before.before.before in
     let a = e.before.before.before.args in
     let small : length a.page.now < length (written a.card) = omega (arith, c.if2.true, c.before.before.outline-of.ensures.1) in
-    writing-refused a.card a.page.now 16 (λ e. absurd (omega arith)) (room-told a.card _ (fine e) ∙ simp (lt-ltb _ _ small))
+    writing-refused a.card a.page.now 16 (λ e. absurd (omega arith)) (room_told a.card _ (fine e) ∙ simp (lt-ltb _ _ small))
 
 put-card-requires : tie.Need-put-card-requires
 put-card-requires c κs =
@@ -54,7 +54,7 @@ returns-3 c =
     let e = c.before.before.before.before in
     let o = e.before.before in
     let a = o.before.before.before.before.args in
-    let d = writing-done a.card a.page.now (room-told a.card _ (fine o.before) ∙ simp (le-ltb _ _ (room e))) in
+    let d = writing_done a.card a.page.now (room_told a.card _ (fine o.before) ∙ simp (le-ltb _ _ (room e))) in
     (ap Length o.outline-of.ensures.1 ∙ d.0, c.before.before.put-card.ensures ∙ d.1)
 
 pub write_spec : {M : Type 1} → statement M

@@ -4,7 +4,7 @@ use Prim.Native.Nat.{ℕ, ◌-◌, ◌≤◌, ◌<◌}
 use borrow.Author.Rules.{rules}
 use lib.ListN.{length, get_or}
 use Rattle.cycle.proofs.Every.{extend}
-use Rattle.card_format.proofs.Fields.{same-all, same_not}
+use Rattle.card_format.proofs.Fields.{same_all, same_not}
 use Rattle.case_fields.specs.Lists.{room}
 use native.Mathlib.Omega.{arith}
 use Rattle.case_answers.proofs.answer.same_words.Statement.{statement}
@@ -49,7 +49,7 @@ returns-2 c =
     let l = c.before.loop in
     let za : length p.t1 ≡ room = search rules in
     let zb : length p.t2 ≡ room = search rules in
-    sym (same-all p.t1 p.t2 (za ∙ sym zb) (λ j lj. l.invariant.1 j (omega (arith, lj, za))))
+    sym (same_all p.t1 p.t2 (za ∙ sym zb) (λ j lj. l.invariant.1 j (omega (arith, lj, za))))
 
 pub same_words_spec : {M : Type 1} → statement M
 same_words_spec =

@@ -33,23 +33,23 @@ module _ {z : ℤ} (fits : SFits w32 z) where
   turned : lt_z (to_z w32 (of_z w32 z)) (pos 0) ≡ true → pos 0 -ℤ wide ≡ pos (nat_abs z)
   turned t = ap (λ (y : ℤ). pos 0 -ℤ y) (to_z-of_z widens ∙ to_z-of_z fits) ∙ opposite z (rw (to_z-of_z fits) at t)
 
-  turned-fits : SFits w64 (pos (nat_abs z))
-  turned-fits = record { sfits = lt_of_le_of_lt (nat_abs-le z fits.sfits) (lit< tt) }
+  turned_fits : SFits w64 (pos (nat_abs z))
+  turned_fits = record { sfits = lt_of_le_of_lt (nat_abs-le z fits.sfits) (lit< tt) }
 
-  turned-read : lt_z (to_z w32 (of_z w32 z)) (pos 0) ≡ true → to_z w64 (of_z w64 (pos 0 -ℤ wide)) ≡ pos (nat_abs z)
-  turned-read t = ap (λ (y : ℤ). to_z w64 (of_z w64 y)) (turned t) ∙ to_z-of_z turned-fits
+  turned_read : lt_z (to_z w32 (of_z w32 z)) (pos 0) ≡ true → to_z w64 (of_z w64 (pos 0 -ℤ wide)) ≡ pos (nat_abs z)
+  turned_read t = ap (λ (y : ℤ). to_z w64 (of_z w64 y)) (turned t) ∙ to_z-of_z turned_fits
 
 cast-result : tie.Need-overflow-cast-result
 cast-result c = widens c.before.ranges.number
 
 sub-result : tie.Need-overflow-sub-result
-sub-result c = let f = c.before.ranges.number in subst (SFits w64) (sym (turned f c.if1.true)) (turned-fits f)
+sub-result c = let f = c.before.ranges.number in subst (SFits w64) (sym (turned f c.if1.true)) (turned_fits f)
 
 cast-result-2 : tie.Need-overflow-cast-result-2
-cast-result-2 c = let f = c.before.ranges.number in rw (turned-read f c.if1.true) (tt, Fits-nat_abs tt f)
+cast-result-2 c = let f = c.before.ranges.number in rw (turned_read f c.if1.true) (tt, Fits-nat_abs tt f)
 
 returns : tie.Need-returns
-returns c = ap nat_abs (turned-read c.before.ranges.number c.if1.true)
+returns c = ap nat_abs (turned_read c.before.ranges.number c.if1.true)
 
 cast-result-3 : tie.Need-overflow-cast-result-3
 cast-result-3 c = let f = c.before.ranges.number in rw (to_z-of_z f) (not_less c.before.args.number (rw (to_z-of_z f) at c.if1.false), Fits-nat_abs tt f)

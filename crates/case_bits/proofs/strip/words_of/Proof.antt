@@ -5,7 +5,7 @@ use borrow.Author.Rules.{rules}
 use lib.ListN.{length}
 use Rattle.case_fields.specs.Text.{parts, comma}
 use Rattle.case_bits.specs.Strip.{held, words_in}
-use Rattle.case_fields.proofs.Parts.{parts_from, parts_find, parts-end, parts-start}
+use Rattle.case_fields.proofs.Parts.{parts_from, parts_find, parts_end, parts-start}
 use Rattle.case_bits.proofs.Words.{gathered, gather_next, gather_end}
 use Rattle.case_bits.proofs.strip.words_of.Statement.{statement}
 use Rattle.case_bits.proofs.strip.words_of.Tie as tie
@@ -78,7 +78,7 @@ returns-2 c =
     let asked = c.before.before in
     let field = asked.before.before.before.before.args.field.now in
     simp (sym asked.before.is-nothing.ensures ∙ asked.if1.false)
-    (gather_end (held l.words l.count) _ (parts-end comma field l.at (omega arith)) ∙ l.invariant.2)
+    (gather_end (held l.words l.count) _ (parts_end comma field l.at (omega arith)) ∙ l.invariant.2)
 
 pub words_of_spec : {M : Type 1} → statement M
 words_of_spec =

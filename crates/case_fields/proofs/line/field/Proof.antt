@@ -6,7 +6,7 @@ use borrow.Author.Rules.{rules}
 use lib.ListN.{length, get_or, take, drop, drop_of_length-le}
 use lib.Seq.{take-nil}
 use Rattle.case_fields.specs.Text.{blank, parts}
-use Rattle.case_fields.proofs.Parts.{parts_from, parts_find, parts-end, parts-start}
+use Rattle.case_fields.proofs.Parts.{parts_from, parts_find, parts_end, parts-start}
 use Rattle.case_fields.proofs.line.field.Statement.{statement}
 use Rattle.case_fields.proofs.line.field.Tie as tie
 
@@ -47,7 +47,7 @@ returns c =
     let l = c.before.before.before.before.loop in
     let f = c.before.before.find in
     let next = parts_find blank line l.at f.result (omega arith) f.ensures.0 in
-    let none = parts-end blank line (f.result + 1) (omega (arith, c.before.if1.true)) in
+    let none = parts_end blank line (f.result + 1) (omega (arith, c.before.if1.true)) in
     let gone : drop f.result line ≡ [] = drop_of_length-le line {i = f.result} (omega (arith, c.before.if1.true)) in
     ap (take (length line - f.result)) gone ∙ take-nil (length line - f.result)
     ∙ sym (l.invariant.1 ∙ later _ _ _ l.left next (omega arith) ∙ ap (λ (ps : List (List ℕ)). get_or ps (l.left - 1) []) none)

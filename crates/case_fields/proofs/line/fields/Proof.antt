@@ -3,7 +3,7 @@ use Prim.Native.Nat.{◌+◌, ◌-◌, ◌≤◌}
 use native.Mathlib.Omega.{arith}
 use lib.ListN.{length}
 use Rattle.case_fields.specs.Text.{blank, parts}
-use Rattle.case_fields.proofs.Parts.{parts_from, parts_find, parts-end, parts-start}
+use Rattle.case_fields.proofs.Parts.{parts_from, parts_find, parts_end, parts-start}
 use Rattle.case_fields.proofs.line.fields.Statement.{statement}
 use Rattle.case_fields.proofs.line.fields.Tie as tie
 
@@ -40,7 +40,7 @@ returns : tie.Need-returns invariant-loop decreases-loop
 returns c =
     let line = c.before.before.before.args.line.now in
     let l = c.before.loop in
-    omega (arith, l.invariant.2, ap length (parts-end blank line l.at (omega arith)))
+    omega (arith, l.invariant.2, ap length (parts_end blank line l.at (omega arith)))
 
 pub fields_spec : {M : Type 1} → statement M
 fields_spec =

@@ -7,7 +7,7 @@ use Rattle.case_fields.specs.Text.{parts, comma}
 use Rattle.case_numbers.specs.Numbers.{base_of, numeral}
 use Rattle.case_fields.specs.Lists.{zeros, numbers_in}
 use Rattle.case_fields.proofs.Folds.{gathered, gather_next, gather_end}
-use Rattle.case_fields.proofs.Parts.{parts_from, parts_find, parts-end, parts-start}
+use Rattle.case_fields.proofs.Parts.{parts_from, parts_find, parts_end, parts-start}
 use Rattle.case_fields.proofs.list.numbers_of.Statement.{statement}
 use Rattle.case_fields.proofs.list.numbers_of.Tie as tie
 
@@ -77,7 +77,7 @@ returns-2 c =
     let l = c.before.loop in
     let value = numeral (base_of a.hex) in
     simp (sym asked.is-nothing.ensures ∙ c.before.before.if1.false)
-    (gather_end a.most value l.list _ (parts-end comma a.field.now l.at (omega arith)) ∙ l.invariant.1)
+    (gather_end a.most value l.list _ (parts_end comma a.field.now l.at (omega arith)) ∙ l.invariant.1)
 
 pub numbers_of_spec : {M : Type 1} → statement M
 numbers_of_spec =

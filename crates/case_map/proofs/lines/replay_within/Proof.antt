@@ -7,9 +7,9 @@ use Rattle.case_map.proofs.lines.replay_within.Statement.{statement}
 use Rattle.case_map.proofs.lines.replay_within.Tie as tie
 
 -- an empty list
-counted-few : (zeros 0).count ≤ room
+counted_few : (zeros 0).count ≤ room
 unfolding zeros
-counted-few = lit≤ tt
+counted_few = lit≤ tt
 
 field-requires : tie.Need-field-requires
 field-requires c κs = tt
@@ -45,7 +45,7 @@ counted-requires : tie.Need-counted-requires
 counted-requires c κs = tt
 
 replay-place-requires : tie.Need-replay-place-requires
-replay-place-requires c κs = (rw c.counted.ensures counted-few, lit≤ tt)
+replay-place-requires c κs = (rw c.counted.ensures counted_few, lit≤ tt)
 
 returns-3 : tie.Need-returns-3
 returns-3 c = omega arith

@@ -7,7 +7,7 @@ use Rattle.case_fields.specs.Text.{parts, comma}
 use Rattle.case_numbers.specs.Numbers.{most_number}
 use Rattle.case_fields.specs.Lists.{zeros}
 use Rattle.case_fields.proofs.Folds.{gathered, gather_next, gather_end}
-use Rattle.case_fields.proofs.Parts.{parts_from, parts_find, parts-end, parts-start}
+use Rattle.case_fields.proofs.Parts.{parts_from, parts_find, parts_end, parts-start}
 use Rattle.case_map.specs.Coordinates.{half_in, coordinates_in}
 use Rattle.case_map.proofs.read.coordinates_of.Statement.{statement}
 use Rattle.case_map.proofs.read.coordinates_of.Tie as tie
@@ -78,7 +78,7 @@ returns-2 c =
     let l = c.before.loop in
     let value = half_in a.second in
     simp (sym asked.is-nothing.ensures ∙ c.before.before.if1.false)
-    (gather_end most_number value l.coordinates _ (parts-end comma a.field.now l.at (omega arith)) ∙ l.invariant.1)
+    (gather_end most_number value l.coordinates _ (parts_end comma a.field.now l.at (omega arith)) ∙ l.invariant.1)
 
 pub coordinates_of_spec : {M : Type 1} → statement M
 coordinates_of_spec =

@@ -6,7 +6,7 @@ use lib.ListN.{length}
 use Rattle.cycle.proofs.Bits.{bit_lt}
 use Rattle.tsc.specs.Constants.{most_words, widest_width}
 use Rattle.tsc.specs.Columns.{column}
-use Rattle.words.proofs.Words.{words_from, words-none, words-next}
+use Rattle.words.proofs.Words.{words_from, words-none, words_next}
 use Rattle.columns.proofs.Placed.{column-few}
 use Rattle.columns.proofs.column.column_of.Statement.{statement}
 use Rattle.columns.proofs.column.column_of.Tie as tie
@@ -61,7 +61,7 @@ unfolding column
 loop-again c =
     let a = c.before.before.before.before.args in
     let l = c.before.before.before.loop in
-    let more = words-next l.k a.count a.t1.words (omega arith) (omega arith) (omega arith) in
+    let more = words_next l.k a.count a.t1.words (omega arith) (omega arith) (omega arith) in
     (omega arith, omega arith, omega arith, l.invariant.3, ap₂ (λ (b d : ℕ). b + 2 * d) c.bit-of.ensures l.invariant.4 ∙ ap (column a.i) (sym more))
 
 returns : tie.Need-returns invariant-loop decreases-loop

@@ -3,11 +3,11 @@ use Prim.Native.Nat.{◌-◌, ◌%◌, ◌^◌, ◌<◌, ◌≤◌}
 use native.Mathlib.Omega.{arith}
 use lib.ListN.{get_or}
 use Rattle.cycle.specs.Notation.{iterate}
-use Rattle.cycle.proofs.Iterate.{iterate-mod}
+use Rattle.cycle.proofs.Iterate.{iterate_mod}
 use Rattle.tsc.specs.Constants.{most_words}
 use Rattle.words.specs.declared.arithmetic.Width.{Width}
 use Rattle.words.proofs.Reduced.{width_is}
-use Rattle.columns.proofs.Powers.{stands, stands-few, stands-next}
+use Rattle.columns.proofs.Powers.{stands, stands-few, stands_next}
 use Rattle.columns.proofs.power.entry_after.Statement.{statement}
 use Rattle.columns.proofs.power.entry_after.Tie as tie
 
@@ -51,7 +51,7 @@ loop-again : tie.Need-loop-preserved invariant-loop decreases-loop
 loop-again c =
     let at = c.before.before in
     let l = at.loop in
-    (l.invariant.0, omega arith, stands-next at.before.before.before.args.table.now l.counter l.invariant.2)
+    (l.invariant.0, omega arith, stands_next at.before.before.before.args.table.now l.counter l.invariant.2)
 
 returns : tie.Need-returns invariant-loop decreases-loop
 returns c =
@@ -61,7 +61,7 @@ returns c =
     let m = s.args.m in
     let l = at.loop in
     let e : l.counter ≡ s.args.times % 2 ^ m = omega arith in
-    l.invariant.2 ∙ ap (stands table) e ∙ iterate-mod (λ y. get_or table y 0) (2 ^ m) 0 s.requires.2.cycle.returns s.args.times
+    l.invariant.2 ∙ ap (stands table) e ∙ iterate_mod (λ y. get_or table y 0) (2 ^ m) 0 s.requires.2.cycle.returns s.args.times
 
 pub entry_after_spec : {M : Type 1} → statement M
 entry_after_spec =

@@ -3,7 +3,7 @@ use Prim.Native.Nat.{ℕ, ◌-◌, ◌+◌, ◌^◌, ◌<◌, ◌≤◌}
 use native.Mathlib.Omega.{arith}
 use Rattle.cycle.specs.Notation.{iterate}
 use Rattle.tsc.specs.Constants.{most_words}
-use Rattle.columns.proofs.Powers.{stands, stands-few, stands-next, Along, along_none, along_next, along_all}
+use Rattle.columns.proofs.Powers.{stands, stands-few, stands_next, Along, along_none, along_next, along_all}
 use Rattle.columns.proofs.power.powers_of.Statement.{statement}
 use Rattle.columns.proofs.power.powers_of.Tie as tie
 
@@ -91,7 +91,7 @@ loop-again c =
     let a = s.args in (
       l.invariant.0,
       omega arith,
-      stands-next a.table.now l.counter l.invariant.2,
+      stands_next a.table.now l.counter l.invariant.2,
       along_next a.m a.table.now s.requires.2 s.requires.1 a.odd l.counter l.p.odd l.invariant.2 l.invariant.3,
       along_next a.m a.table.now s.requires.2 s.requires.1 a.even l.counter l.p.even l.invariant.2 l.invariant.4,
     )

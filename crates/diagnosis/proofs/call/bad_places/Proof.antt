@@ -12,13 +12,13 @@ use Rattle.tsc.specs.Step.{entry}
 use Rattle.card_format.specs.declared.Reading.{Reading}
 use Rattle.card_format.specs.Reading.{card_of, SoundForm, reading}
 use Rattle.card_format.proofs.Fields.{few-entries}
-use Rattle.card_format.proofs.Sound.{sound-card}
+use Rattle.card_format.proofs.Sound.{sound_card}
 use Rattle.card_format.proofs.Verdict.{reading-sound, words-sound}
 use Rattle.completions.specs.Completion.{Excludes}
 use Rattle.completions.specs.Sets.{LeastSet}
 use Rattle.completions.proofs.Least.{least-half}
 use Rattle.diagnoses.specs.BadPlaces.{showing}
-use Rattle.diagnoses.proofs.Answers.{form-told, told, shows_refused, shows_least}
+use Rattle.diagnoses.proofs.Answers.{form_told, told, shows_refused, shows_least}
 use Rattle.diagnosis.specs.Marks.{entry_of, TableOf, marked}
 use Rattle.diagnosis.proofs.call.bad_places.Statement.{statement}
 use Rattle.diagnosis.proofs.call.bad_places.Tie as tie
@@ -35,7 +35,7 @@ size c = c.entries.ensures ∙ ap (λ (card : Card). 2 ^ card.words) (sound c.be
 table : (c : tie.After-entries) → TableOf c.entries.result c.before.before.read.result.card.table
 table c =
     let (s, e) = sound c.before in
-    let formed = sound-card _ s in
+    let formed = sound_card _ s in
     subst (λ (card : Card). TableOf c.entries.result card.table) (sym e)
     (subst (λ (n : ℕ). TableOf n (card_of c.before.before.before.before.args.card.now).table) (sym (size c))
     (record { large = pow_mono formed.words; fits = few-entries _ (words-sound _ s); below = formed.entries }))
@@ -60,7 +60,7 @@ unfolding reading
 returns c =
     let e = ap (λ (r : Reading). r.refusal) c.before.before.read.ensures in
     let ne = c.before.if1.true in
-    shows_refused _ _ _ (form-told _ (λ z. ne (e ∙ z)) ∙ sym e) ne c.refused.ensures
+    shows_refused _ _ _ (form_told _ (λ z. ne (e ∙ z)) ∙ sym e) ne c.refused.ensures
 
 cast-entries : tie.Need-overflow-cast-entries
 cast-entries c = omega arith

@@ -4,7 +4,7 @@ use Prim.Native.Nat.{ℕ, ◌-◌, ◌≤◌}
 use native.Mathlib.Omega.{arith}
 use borrow.Author.Tests.{eq-eqb}
 use Rattle.cycle.specs.Notation.{count, zero_filled}
-use Rattle.cycle.proofs.Count.{count_none, counted_next, counted-fits}
+use Rattle.cycle.proofs.Count.{count_none, counted_next, counted_fits}
 use Rattle.completions.specs.Sets.{members, members_from}
 use Rattle.diagnoses.specs.BadPlaces.{most_places}
 use Rattle.diagnosis.specs.Marks.{marked}
@@ -38,7 +38,7 @@ put-requires c κs =
 add-n : tie.Need-overflow-add-n invariant-loop decreases-loop
 add-n c =
     let l = c.before.before.before.before.loop in
-    omega (arith, c.before.before.before.before.before.before.requires.0, counted-fits l.x (marked c.before.before.before.before.before.before.args.marks.now) l.invariant.1 c.put.ensures.0)
+    omega (arith, c.before.before.before.before.before.before.requires.0, counted_fits l.x (marked c.before.before.before.before.before.before.args.marks.now) l.invariant.1 c.put.ensures.0)
 
 add-x : tie.Need-overflow-add-x invariant-loop decreases-loop
 add-x c = omega (arith, c.before.before.before.before.before.before.requires.0)

@@ -6,7 +6,7 @@ use Rattle.completions.specs.Completion.{Injective}
 use Rattle.completions.specs.Finding.{is_fixed, clashes}
 use Rattle.completions.proofs.Fewest.{FirstPair}
 use Rattle.completions.proofs.Clashes.{injective}
-use Rattle.completions.proofs.Least.{fixed_chosen, pair_of, pair-chosen, cycle-chosen}
+use Rattle.completions.proofs.Least.{fixed_chosen, pair_of, pair_chosen, cycle-chosen}
 use Rattle.diagnosis.specs.Marks.{entry_of}
 use Rattle.diagnosis.proofs.Chosen.{alone, both, way}
 use Rattle.diagnosis.proofs.least.least_set.Statement.{statement}
@@ -67,7 +67,7 @@ returns-2 : tie.Need-returns-2
 returns-2 c =
     let a = c.before.before.before.before.before.before.args in
     let t = c.before.before.before.before.before.before.requires.0 in
-    (pair-chosen a.size (entry_of a.table.now) t.large t.below (moves c.before.before.before) _ _ (pair c) _
+    (pair_chosen a.size (entry_of a.table.now) t.large t.below (moves c.before.before.before) _ _ (pair c) _
     (both a.size t.fits _ c.before.before.before.before.before.no-marks.ensures _ _ c.before.if2.true (pair c).below)).0
 
 shortest-requires : tie.Need-shortest-requires

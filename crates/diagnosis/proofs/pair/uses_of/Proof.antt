@@ -10,7 +10,7 @@ use Rattle.tsc.specs.Constants.{most_words}
 use Rattle.completions.specs.Finding.{uses}
 use Rattle.diagnosis.specs.Marks.{entry_of}
 use Rattle.diagnosis.proofs.Tables.{inside}
-use Rattle.diagnosis.proofs.Marking.{uses-none, uses-next}
+use Rattle.diagnosis.proofs.Marking.{uses-none, uses_next}
 use Rattle.diagnosis.proofs.pair.uses_of.Statement.{statement}
 use Rattle.diagnosis.proofs.pair.uses_of.Tie as tie
 
@@ -71,7 +71,7 @@ loop-again c =
     let f = entry_of c.before.before.before.before.args.table.now in (
       omega arith,
       length-set {A = ℕ} l.counts (f l.x) (get_or l.counts (f l.x) 0 + 1) ∙ l.invariant.1,
-      uses-next f l.x l.counts (omega (arith, l.invariant.1, placed c)) l.invariant.2,
+      uses_next f l.x l.counts (omega (arith, l.invariant.1, placed c)) l.invariant.2,
     )
 
 returns : tie.Need-returns invariant-loop decreases-loop

@@ -6,7 +6,7 @@ use native.Mathlib.Omega.{arith}
 use Rattle.cycle.specs.Notation.{iterate}
 use Rattle.diagnosis.specs.Marks.{entry_of, marks_along}
 use Rattle.diagnosis.proofs.Tables.{inside}
-use Rattle.completions.proofs.Cycles.{length_is, length_whole, none-next}
+use Rattle.completions.proofs.Cycles.{length_is, length_whole, none_next}
 use Rattle.diagnosis.proofs.Marking.{along_next}
 use Rattle.diagnosis.proofs.shortest.mark_cycle.Statement.{statement}
 use Rattle.diagnosis.proofs.shortest.mark_cycle.Tie as tie
@@ -46,7 +46,7 @@ loop-again c =
       omega arith,
       c.before.before.before.before.requires.0.below l.y l.invariant.1,
       ap f l.invariant.2 ∙ ap (λ (k : ℕ). iterate f k a.x) (sym (add-one l.steps)),
-      none-next a.size f a.x l.steps l.invariant.3 (λ e. c.if2.false (ap f l.invariant.2 ∙ e)),
+      none_next a.size f a.x l.steps l.invariant.3 (λ e. c.if2.false (ap f l.invariant.2 ∙ e)),
       along_next f a.x l.steps a.marks.now l.invariant.4 l.invariant.2,
     )
 

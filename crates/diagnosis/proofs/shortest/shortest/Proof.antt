@@ -2,7 +2,7 @@ use mathlib.Core.Path.{◌≡◌, subst}
 use Prim.Native.Nat.{ℕ, ◌-◌, ◌≤◌}
 use native.Mathlib.Omega.{arith}
 use Rattle.diagnosis.specs.Marks.{entry_of, Tried}
-use Rattle.diagnosis.proofs.Tries.{tried-first, tried-all}
+use Rattle.diagnosis.proofs.Tries.{tried-first, tried_all}
 use Rattle.diagnosis.proofs.shortest.shortest.Statement.{statement}
 use Rattle.diagnosis.proofs.shortest.shortest.Tie as tie
 
@@ -48,7 +48,7 @@ returns c =
     let t = c.before.before.before.before.before.requires.0 in
     let l = c.before.loop in
     let e : l.x ≡ a.size = omega arith in
-    tried-all a.size f (omega (arith, t.large)) t.fits t.below l.found l.marks (subst (λ (x : ℕ). Tried a.size f x l.found l.marks) e l.invariant.1)
+    tried_all a.size f (omega (arith, t.large)) t.fits t.below l.found l.marks (subst (λ (x : ℕ). Tried a.size f x l.found l.marks) e l.invariant.1)
 
 pub shortest_spec : {M : Type 1} → statement M
 shortest_spec =

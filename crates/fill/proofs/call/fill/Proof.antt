@@ -5,7 +5,7 @@ use borrow.Author.Rules.{rules}
 use lib.ListN.{length, length-drop}
 use Rattle.tsc.specs.declared.Card.{Card}
 use Rattle.refusals.specs.Refusals.{first_of}
-use Rattle.cycle.proofs.Lists.{part-rest}
+use Rattle.cycle.proofs.Lists.{part_rest}
 use Rattle.draws.specs.Calls.{refusal_for}
 use Rattle.draws.proofs.Opening.{Clear, told, clear}
 use Rattle.draws.proofs.Called.{few, accepted, ready}
@@ -13,7 +13,7 @@ use Rattle.spans.specs.Span.{span_checks}
 use Rattle.spans.proofs.Span.{span_within}
 use Rattle.gates.specs.Tsc1.{OnlyTsc1}
 use Rattle.gates.proofs.GateStep.{only-p1}
-use Rattle.fills.proofs.Filling.{refused-call, refused_span, made}
+use Rattle.fills.proofs.Filling.{refused_call, refused_span, made}
 use Rattle.fill.proofs.call.fill.Statement.{statement}
 use Rattle.fill.proofs.call.fill.Tie as tie
 
@@ -60,7 +60,7 @@ returns : tie.Need-returns
 returns c =
     let o = c.before in
     let a = (start o).args in
-    refused-call a.card.now a.state.now a.strip.now a.place a.count _ (refusal o) c.if1.true
+    refused_call a.card.now a.state.now a.strip.now a.place a.count _ (refusal o) c.if1.true
 
 span-refusal-requires : tie.Need-span-refusal-requires
 span-refusal-requires c κs = omega arith
@@ -91,7 +91,7 @@ fill-words-requires c κs =
     let e = c.before.before.before.before in
     let k = passing e.before.before in
     let a = (start e.before.before.before).args in
-    (accepted k, ready k c.before.load.ensures, omega (arith, inside e, ap length (part-rest a.place a.strip.now), length-drop a.place a.strip.now), asked e.before.before)
+    (accepted k, ready k c.before.load.ensures, omega (arith, inside e, ap length (part_rest a.place a.strip.now), length-drop a.place a.strip.now), asked e.before.before)
 
 store-requires : tie.Need-store-requires
 store-requires c κs = few (passing c.before.before.before.before.before.before.before.before.before.before)

@@ -7,7 +7,7 @@ use lib.ListN.{length, get_or}
 use Rattle.tsc.specs.Constants.{most_words, filter_words}
 use Rattle.tsc.specs.Word.{◌⊞◌, further}
 use Rattle.tsc.proofs.Word.{further-none}
-use Rattle.filters.proofs.Rotated.{further-rotatable, further-next}
+use Rattle.filters.proofs.Rotated.{further_rotatable, further_next}
 use Rattle.filters.proofs.filter.with_further.Statement.{statement}
 use Rattle.filters.proofs.filter.with_further.Tie as tie
 
@@ -50,7 +50,7 @@ rotate-left-requires : tie.Need-rotate-left-requires invariant-loop decreases-lo
 rotate-left-requires c κs =
     let s = c.before.before.before.before.before in
     let j = c.before.before.before.loop.j in
-    further-rotatable s.args.t1 s.requires.0.0 j (omega arith) _ (s.requires.1 (filter_words + j) (omega arith))
+    further_rotatable s.args.t1 s.requires.0.0 j (omega arith) _ (s.requires.1 (filter_words + j) (omega arith))
 
 add-requires : tie.Need-add-requires invariant-loop decreases-loop
 add-requires c κs = c.before.before.before.before.before.before.requires.0.0.0
@@ -67,7 +67,7 @@ loop-again c =
     let l = c.before.before.before.before.before.loop in (
       omega arith,
       l.invariant.1,
-      further-next s.args.t1 s.requires.0.0 l.j (omega arith) (λ k. get_or s.args.t2.words k 0) s.args.word l.sum _ _ l.invariant.2
+      further_next s.args.t1 s.requires.0.0 l.j (omega arith) (λ k. get_or s.args.t2.words k 0) s.args.word l.sum _ _ l.invariant.2
           c.before.rotate_left.ensures c.add.ensures,
     )
 

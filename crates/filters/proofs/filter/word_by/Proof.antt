@@ -22,8 +22,8 @@ module _ (card : Card) (t : Rotations) (s : State) (f : Filters card t s) where
   bits : t.width.bits ≡ card.width
   bits = ap (λ (a : Rotations). a.width.bits) f.rotations
 
-  further-there : filter_words < card.words → HasFurther t
-  further-there l = rw f.rotations ((f.width.0, f.width.1, refl), simp (lt-ltb filter_words card.words l) refl)
+  further_there : filter_words < card.words → HasFurther t
+  further_there l = rw f.rotations ((f.width.0, f.width.1, refl), simp (lt-ltb filter_words card.words l) refl)
 
 filtered-by-requires : tie.Need-filtered-by-requires
 filtered-by-requires c κs = c.requires
@@ -44,7 +44,7 @@ with-further-requires c κs =
     let f = s.requires.1 in
     let e = bits card s.args.t s.args.s f in
     let x : ℕ → ℕ = λ k. get_or s.args.s.words k 0 in (
-      (further-there card s.args.t s.args.s f (omega (arith, words card s.args.t s.args.s f)), rw (e, c.before.before.filtered-by.ensures card f) (filtered_lt card x)),
+      (further_there card s.args.t s.args.s f (omega (arith, words card s.args.t s.args.s f)), rw (e, c.before.before.filtered-by.ensures card f) (filtered_lt card x)),
       rw e f.words,
     )
 

@@ -2,7 +2,7 @@ use Rattle.std.proofs.Common.{◌≡◌, ℕ, length, get_or, ap, ◌∙◌, w32
 use Rattle.tsc.specs.Constants.{most_words}
 use Rattle.stepping.specs.State.{used, holding}
 use Rattle.gates.specs.Tsc1.{tsc1_card, gated, gate_step}
-use Rattle.gates.proofs.GateStep.{first-four, gate_step_lem}
+use Rattle.gates.proofs.GateStep.{first_four, gate_step_lem}
 use Rattle.gates.proofs.step.next_state.Statement.{statement}
 use Rattle.gates.proofs.step.next_state.Tie as tie
 
@@ -19,7 +19,7 @@ returns c =
     let all : length s.words ≡ most_words = search rules in
     let fits : (k : ℕ) → Fits w32 (get_or s.words k 0) = search rules in
     c.replace-columns.ensures ∙ ap (λ (z : ℕ). holding (gated (used tsc1_card s) z)) c.before.selector-of.ensures
-    ∙ ap holding (gate_step_lem (used tsc1_card s) (first-four s.words all (λ k. (fits k).fits)))
+    ∙ ap holding (gate_step_lem (used tsc1_card s) (first_four s.words all (λ k. (fits k).fits)))
 
 pub next_state_spec : {M : Type 1} → statement M
 next_state_spec = tie.close (tie.spec selector-of-requires replace-columns-requires returns)

@@ -8,7 +8,7 @@ use Rattle.card_format.specs.Reading.{card_of}
 use Rattle.tsc.specs.declared.Card.{Card}
 use Rattle.draws.specs.Calls.{refusal_for, stepped}
 use Rattle.draws.proofs.Opening.{Clear, told, clear}
-use Rattle.draws.proofs.Called.{call-refused, few, accepted, ready, step-made}
+use Rattle.draws.proofs.Called.{call_refused, few, accepted, ready, step_made}
 use Rattle.stepping.specs.State.{Steps}
 use Rattle.stepping.proofs.Columns.{sized, cycled, terms_width}
 use Rattle.generator.proofs.Found.{clear_tsc1}
@@ -48,7 +48,7 @@ same_length c = omega arith
 
 returns : tie.Need-returns
 unfolding stepped
-returns c = let o = c.before in call-refused (bytes o) (xs o) (step (card_of (bytes o)) (xs o)) _ _ (refusal o) c.if1.true
+returns c = let o = c.before in call_refused (bytes o) (xs o) (step (card_of (bytes o)) (xs o)) _ _ (refusal o) c.if1.true
 
 load-requires : tie.Need-load-requires
 load-requires c κs = few (passing c.before)
@@ -71,7 +71,7 @@ returns-2 c =
     let made = c.before.before.before.before in
     let t = made.before in
     let l = t.before.before in
-    step-made (clear_tsc1 (passing l.before.before) t.before.is-tsc1.ensures t.if2.true) l.load.ensures made.next-state.ensures c.before.before.store.ensures
+    step_made (clear_tsc1 (passing l.before.before) t.before.is-tsc1.ensures t.if2.true) l.load.ensures made.next-state.ensures c.before.before.store.ensures
 
 terms-of-requires : tie.Need-terms-of-requires
 terms-of-requires c κs = let e = c.before.before.before.before.before in sized (given e.before) (accepted (passing e))
@@ -112,7 +112,7 @@ returns-3 c =
     let p = made.before.before.before.before in
     let l = p.before.before.before.before.before.before.before in
     let st = made.next-state2.ensures (given l.before.before.before) (steps p) in
-    step-made (passing l.before.before) l.load.ensures st c.before.before.store2.ensures
+    step_made (passing l.before.before) l.load.ensures st c.before.before.store2.ensures
 
 pub step_spec : {M : Type 1} → statement M
 step_spec =

@@ -8,7 +8,7 @@ use Rattle.card_format.specs.Reading.{card_of}
 use Rattle.tsc.specs.declared.Card.{Card}
 use Rattle.draws.specs.Calls.{refusal_for, stepped_back}
 use Rattle.draws.proofs.Opening.{Clear, told, clear}
-use Rattle.draws.proofs.Called.{call-refused, few, accepted, ready, step-back-made}
+use Rattle.draws.proofs.Called.{call_refused, few, accepted, ready, step_back_made}
 use Rattle.stepping.specs.State.{Undoes}
 use Rattle.stepping.proofs.Columns.{sized, cycled}
 use Rattle.generator.proofs.call.step_back.Statement.{statement}
@@ -47,7 +47,7 @@ same_length c = omega arith
 
 returns : tie.Need-returns
 unfolding stepped_back
-returns c = let o = c.before in call-refused (bytes o) (xs o) (step_back (card_of (bytes o)) (xs o)) _ _ (refusal o) c.if1.true
+returns c = let o = c.before in call_refused (bytes o) (xs o) (step_back (card_of (bytes o)) (xs o)) _ _ (refusal o) c.if1.true
 
 load-requires : tie.Need-load-requires
 load-requires c κs = few (passing c.before)
@@ -89,7 +89,7 @@ returns-2 : tie.Need-returns-2
 returns-2 c =
     let made = c.before.before.before.before in
     let l = made.before.before.before.before.before.before.before.before.before.before in
-    step-back-made (passing l.before.before) l.load.ensures made.previous-state.ensures c.before.before.store.ensures
+    step_back_made (passing l.before.before) l.load.ensures made.previous-state.ensures c.before.before.store.ensures
 
 pub step_back_spec : {M : Type 1} → statement M
 step_back_spec =

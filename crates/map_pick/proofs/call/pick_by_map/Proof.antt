@@ -12,9 +12,9 @@ use Rattle.ties.specs.Least.{SameTies}
 use Rattle.places.specs.Places.{Places, placed, distances_of, on_map, place_checks}
 use Rattle.places.proofs.Signed.{read_back}
 use Rattle.places.proofs.Distances.{length-distances}
-use Rattle.places.proofs.Places.{measured-read, distances-read}
+use Rattle.places.proofs.Places.{measured_read, distances_read}
 use Rattle.map_pick.specs.Measured.{can_measure}
-use Rattle.map_pick.proofs.Measured.{measurable, told-refused, told-picked}
+use Rattle.map_pick.proofs.Measured.{measurable, told_refused, told_picked}
 use Rattle.map_pick.proofs.call.pick_by_map.Statement.{statement}
 use Rattle.map_pick.proofs.call.pick_by_map.Tie as tie
 
@@ -52,21 +52,21 @@ returns c =
     let m = t.before in
     let q = given m in
     let a = m.before.before.before.before.before.args in
-    told-refused _ _ q (sym (found m) ∙ not-true _ t.if1.true)
+    told_refused _ _ q (sym (found m) ∙ not-true _ t.if1.true)
     (c.first-refusal.ensures ∙ ap (λ (b : Bool). first_of (call_checks a.card.now a.state.now ++ place_checks q.shovels q.xs q.ys b)) (mapped m))
 
 marks-of-requires : tie.Need-marks-of-requires
 marks-of-requires c κs =
     let s = c.before.before.before.before.before.before in
     let h = measurable s.args.card.now s.args.state.now (given c.before) (can c) in
-    (measured-read s.ranges.x s.ranges.y h.0, h.1, h.2)
+    (measured_read s.ranges.x s.ranges.y h.0, h.1, h.2)
 
 -- as many times as shovels
 ties-alike : (c : tie.After-marks-of) → let q = given c.before.before in SameTies (distances_of q) (take (length q.xs) c.marks-of.result)
 ties-alike c =
     let s = c.before.before.before.before.before.before.before in
     let q = given c.before.before in
-    subst (λ (d : List ℕ). SameTies d (take (length q.xs) c.marks-of.result)) (distances-read q.x q.y q.xs q.ys s.ranges.x s.ranges.y) c.marks-of.ensures
+    subst (λ (d : List ℕ). SameTies d (take (length q.xs) c.marks-of.result)) (distances_read q.x q.y q.xs q.ys s.ranges.x s.ranges.y) c.marks-of.ensures
 
 as_many : (c : tie.After-marks-of) → let n = length (given c.before.before).xs in length (take n c.marks-of.result) ≡ n
 as_many c = let q = given c.before.before in sym (ties-alike c).size ∙ length-distances q.x q.y q.xs q.ys
@@ -89,7 +89,7 @@ returns-2 : tie.Need-returns-2
 returns-2 c =
     let p = c.before.before in
     let m = p.before.before.before in
-    told-picked _ _ (given m.before.before) (can m.before) (ties-alike m) p.pick.ensures.0 p.pick.ensures.1
+    told_picked _ _ (given m.before.before) (can m.before) (ties-alike m) p.pick.ensures.0 p.pick.ensures.1
 
 pub pick_by_map_spec : {M : Type 1} → statement M
 pick_by_map_spec =

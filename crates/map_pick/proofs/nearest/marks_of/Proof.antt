@@ -8,14 +8,14 @@ use lib.ListN.{length, get_or, take, replicate}
 use mir.Syntax.{w32}
 use mir.Val.{to_z}
 use Rattle.cycle.specs.Notation.{one}
-use Rattle.cycle.proofs.Lists.{over, filled_next, filled-front}
+use Rattle.cycle.proofs.Lists.{over, filled_next, filled_front}
 use Rattle.ties.specs.Ties.{most_shovels}
 use Rattle.ties.specs.Least.{LeastOf, SameTies}
-use Rattle.ties.proofs.Alike.{marks, marks-alike}
+use Rattle.ties.proofs.Alike.{marks, marks_alike}
 use Rattle.places.specs.Distances.{distances}
 use Rattle.places.proofs.Signed.{read}
 use Rattle.places.proofs.Distances.{length-distances}
-use Rattle.places.proofs.Places.{measured-read, distances-read}
+use Rattle.places.proofs.Places.{measured_read, distances_read}
 use Rattle.map_pick.proofs.nearest.marks_of.Statement.{statement}
 use Rattle.map_pick.proofs.nearest.marks_of.Tie as tie
 
@@ -27,13 +27,13 @@ abbrev decreases-loop : tie.decreases-loop
 decreases-loop x y xs ys least marks₀ i₀ ms i = length xs - i
 
 least-distance-requires : tie.Need-least-distance-requires invariant-loop decreases-loop
-least-distance-requires c κs = (measured-read c.ranges.x c.ranges.y c.requires.0, c.requires.1)
+least-distance-requires c κs = (measured_read c.ranges.x c.ranges.y c.requires.0, c.requires.1)
 
 loop-holds : tie.Need-loop-init invariant-loop decreases-loop
 loop-holds c = (omega arith, c.before.requires.2, refl)
 
 distance-at-requires : tie.Need-distance-at-requires invariant-loop decreases-loop
-distance-at-requires c κs = let s = c.before.before.before in (measured-read s.ranges.x s.ranges.y s.requires.0, omega arith)
+distance-at-requires c κs = let s = c.before.before.before in (measured_read s.ranges.x s.ranges.y s.requires.0, omega arith)
 
 mark-requires : tie.Need-mark-requires invariant-loop decreases-loop
 mark-requires c κs = tt
@@ -73,10 +73,10 @@ returns c =
     let least = c.before.before.least-distance.result in
     let ds = distances (read a.x) (read a.y) xs ys in
     let n = length-distances (read a.x) (read a.y) xs ys in
-    let front = filled-front (length ds) most_shovels (λ i. one (not (eqb (get_or ds i 0) least))) l.marks l.i (omega (arith, n)) l.invariant.2 in
+    let front = filled_front (length ds) most_shovels (λ i. one (not (eqb (get_or ds i 0) least))) l.marks l.i (omega (arith, n)) l.invariant.2 in
     let h = subst (λ (k : ℕ). LeastOf ds k least) (sym n) c.before.before.least-distance.ensures in
-    subst (λ (d : List ℕ). SameTies d (take (length xs) l.marks)) (distances-read a.x a.y xs ys s.ranges.x s.ranges.y)
-    (subst (SameTies ds) (sym front ∙ ap (λ (k : ℕ). take k l.marks) n) (marks-alike ds least h))
+    subst (λ (d : List ℕ). SameTies d (take (length xs) l.marks)) (distances_read a.x a.y xs ys s.ranges.x s.ranges.y)
+    (subst (SameTies ds) (sym front ∙ ap (λ (k : ℕ). take k l.marks) n) (marks_alike ds least h))
 
 pub marks_of_spec : {M : Type 1} → statement M
 marks_of_spec =

@@ -15,12 +15,12 @@ use Rattle.change_order.specs.declared.Best.{Best}
 use Rattle.outcomes.specs.Elsewhere.{elsewhere}
 use Rattle.candidates.specs.Best.{BestOf}
 use Rattle.picks.specs.Picks.{pick_refusal}
-use Rattle.picks.proofs.Picking.{told-call, told-later}
+use Rattle.picks.proofs.Picking.{told_call, told_later}
 use Rattle.pick.proofs.Passed.{Free, free}
 use Rattle.margins.specs.declared.Margin.TheVariants.{Refused}
 use Rattle.margins.specs.Margins.{IsMargin}
 use Rattle.margins.proofs.Answers.{margin_refused}
-use Rattle.margin.proofs.Found.{Draws, listed, found_nothing, found-counts, found-least}
+use Rattle.margin.proofs.Found.{Draws, listed, found_nothing, found_counts, found_least}
 use Rattle.margin.proofs.call.margin.Statement.{statement}
 use Rattle.margin.proofs.call.margin.Tie as tie
 
@@ -43,7 +43,7 @@ passing c = let o = c.before in clear _ _ o.before.before.accept.result o.before
 -- the second tells of the list, or of nothing
 told-list : (c : tie.After-list-ties) → let a = (start c.before.before.before.before).args in
     c.list-ties.result.refusal ≡ pick_refusal a.card.now a.state.now a.shovels.now a.times.now
-told-list c = told-later _ _ _ _ (passing c.before.before.before) refl c.list-ties.ensures.0
+told-list c = told_later _ _ _ _ (passing c.before.before.before) refl c.list-ties.ensures.0
 
 -- past it nothing is refused
 going : (c : tie.Else2) → let l = c.before.before in
@@ -81,7 +81,7 @@ call-refusal-requires : tie.Need-call-refusal-requires
 call-refusal-requires c κs = search rules
 
 returns : tie.Need-returns
-returns c = let ne = c.if1.true in refusal _ _ _ _ _ ne (told-call _ _ _ _ _ (told-first c.before) ne)
+returns c = let ne = c.if1.true in refusal _ _ _ _ _ ne (told_call _ _ _ _ _ (told-first c.before) ne)
 
 cast-list-ties : tie.Need-overflow-cast-list-ties
 cast-list-ties c = omega arith
@@ -115,7 +115,7 @@ told-requires c κs =
     let m = c.before.before.before in
     let f = going m.before.before.before in
     let l = listed _ _ _ _ _ _ f _ (draws m.before) in
-    let k = found-counts _ _ _ _ _ _ f _ (draws m.before) _ (best-is m c.before.best.given.1) in
+    let k = found_counts _ _ _ _ _ _ f _ (draws m.before) _ (best-is m c.before.best.given.1) in
     ((l.width, l.paired, l.few), (k.listed, k.within))
 
 returns-3 : tie.Need-returns-3
@@ -127,7 +127,7 @@ returns-4 : tie.Need-returns-4
 returns-4 c =
     let m = c.before.before.before.before in
     let t = c.told.ensures in
-    found-least _ _ _ _ _ _ (going m.before.before.before) _ (draws m.before) _ (best-is m c.before.before.best.given.1) c.told.result
+    found_least _ _ _ _ _ _ (going m.before.before.before) _ (draws m.before) _ (best-is m c.before.before.best.given.1) c.told.result
     t.0 t.1.0 t.1.1.0 t.1.1.1
 
 pub margin_spec : {M : Type 1} → statement M

@@ -6,7 +6,7 @@ use lib.ListN.{length, get_or, set, take, replicate}
 use Rattle.cycle.proofs.Lists.{over, over_suc}
 use Rattle.ties.specs.Ties.{most_shovels}
 use Rattle.changes.specs.Change.{changed}
-use Rattle.margin.proofs.Front.{front-set}
+use Rattle.margin.proofs.Front.{front_set}
 use Rattle.margin.proofs.changed.changed_times.Statement.{statement}
 use Rattle.margin.proofs.changed.changed_times.Tie as tie
 
@@ -68,7 +68,7 @@ returns c =
     let l = c.before.before.before.loop in
     let e : l.j ≡ length x = omega arith in
     let copied = l.invariant.2 ∙ ap (over x (replicate most_shovels 0)) e in
-    ap (λ (t : List ℕ). take (length x) (set t i c.moved_by.result)) copied ∙ front-set x (replicate most_shovels 0) i c.moved_by.result s.requires.0
+    ap (λ (t : List ℕ). take (length x) (set t i c.moved_by.result)) copied ∙ front_set x (replicate most_shovels 0) i c.moved_by.result s.requires.0
     ∙ ap (set x i) c.moved_by.ensures
 
 pub changed_times_spec : {M : Type 1} → statement M

@@ -8,7 +8,7 @@ use Rattle.tsc.specs.Constants.{most_words}
 use Rattle.words.proofs.Words.{words_from, words-none}
 use Rattle.words.specs.Masks.{HasBits}
 use Rattle.columns.specs.Few.{few_words}
-use Rattle.minterms.proofs.Parted.{holds, holds-none, holds-next}
+use Rattle.minterms.proofs.Parted.{holds, holds-none, holds_next}
 use Rattle.minterms.proofs.minterm.minterm_of.Statement.{statement}
 use Rattle.minterms.proofs.minterm.minterm_of.Tie as tie
 
@@ -49,7 +49,7 @@ loop-again c =
       omega arith,
       l.invariant.1,
       λ i h.
-          holds-next 32 few_words a.low a.c l.t c.spread.result l.k a.t2.words (omega arith) (omega arith) (omega arith)
+          holds_next 32 few_words a.low a.c l.t c.spread.result l.k a.t2.words (omega arith) (omega arith) (omega arith)
           (omega (arith, c.spread.type-inv)) i h (l.invariant.2 i h) (c.spread.ensures i h),
     )
 

@@ -15,18 +15,18 @@ use Rattle.words.specs.Masks.{HasBits}
 use Rattle.columns.specs.Few.{few_words}
 use Rattle.columns.specs.Replace.{HasColumns}
 use Rattle.words.proofs.Words.{below_next}
-use Rattle.minterms.proofs.Parted.{bit-put}
+use Rattle.minterms.proofs.Parted.{bit_put}
 use Rattle.words.proofs.Masks.{cond_ap}
 use Rattle.minterms.proofs.replace.put.Statement.{statement}
 use Rattle.minterms.proofs.replace.put.Tie as tie
 
 -- column i of the result
-abbrev column-put : State → ℕ → ℕ → ℕ → ℕ → ℕ → ℕ
-column-put s t selector odd even i = bit_or (column i s.words) (bit i t * cond (eqb (bit i selector) 1) odd even)
+abbrev column_put : State → ℕ → ℕ → ℕ → ℕ → ℕ → ℕ
+column_put s t selector odd even i = bit_or (column i s.words) (bit i t * cond (eqb (bit i selector) 1) odd even)
 
 abbrev invariant-loop : tie.invariant-loop
 invariant-loop t selector odd even s out₀ k₀ out k =
-    (k ≤ few_words) × (length s.words ≡ most_words) × (length out.words ≡ most_words) × HasColumns k out.words (column-put s t selector odd even)
+    (k ≤ few_words) × (length s.words ≡ most_words) × (length out.words ≡ most_words) × HasColumns k out.words (column_put s t selector odd even)
     × ((j : ℕ) → few_words ≤ j → get_or out.words j 0 ≡ get_or s.words j 0)
 
 abbrev decreases-loop : tie.decreases-loop
@@ -75,9 +75,9 @@ loop-again c =
       omega arith,
       l.invariant.1,
       simp length-set l.invariant.2,
-      below_next (λ k v. HasBits v (λ i. bit k (column-put a.t1 a.t a.selector a.odd a.even i))) l.k _ l.out.words (omega arith) l.invariant.3 (λ i h.
+      below_next (λ k v. HasBits v (λ i. bit k (column_put a.t1 a.t a.selector a.odd a.even i))) l.k _ l.out.words (omega arith) l.invariant.3 (λ i h.
           let selected = eqb (bit i a.selector) 1 in
-          bit-put l.k a.t c.join.result (cond selected a.odd a.even) a.t1.words i
+          bit_put l.k a.t c.join.result (cond selected a.odd a.even) a.t1.words i
           (c.join.ensures i h ∙ ap₂ (cond selected) (c.before.before.before.spread.ensures i h) (c.before.before.spread2.ensures i h)
           ∙ cond_ap (bit l.k) selected a.odd a.even)),
       λ j h. get_or-set_other l.out.words l.k j _ 0 (λ e. omega arith) ∙ l.invariant.4 j h,
@@ -88,7 +88,7 @@ returns c =
     let a = c.before.before.args in
     let l = c.before.loop in
     let e : l.k ≡ few_words = omega arith in
-    (subst (λ (k : ℕ). HasColumns k l.out.words (column-put a.t1 a.t a.selector a.odd a.even)) e l.invariant.3, l.invariant.4)
+    (subst (λ (k : ℕ). HasColumns k l.out.words (column_put a.t1 a.t a.selector a.odd a.even)) e l.invariant.3, l.invariant.4)
 
 pub put_spec : {M : Type 1} → statement M
 put_spec =

@@ -9,7 +9,7 @@ use Rattle.cycle.proofs.Lists.{get_or_filler}
 use Rattle.tsc.specs.Constants.{most_words}
 use Rattle.columns.specs.Few.{few_words}
 use Rattle.words.proofs.Words.{Below, below_next}
-use Rattle.multiplexer.proofs.Picked.{picked-chosen, KeptAt, kept_and, kept-all}
+use Rattle.multiplexer.proofs.Picked.{picked-chosen, KeptAt, kept_and, kept_all}
 use Rattle.multiplexer.proofs.tree.replace_columns.Statement.{statement}
 use Rattle.multiplexer.proofs.tree.replace_columns.Tie as tie
 
@@ -79,7 +79,7 @@ returns c odd even leaves =
     let size : length s.args.s.words ≡ most_words = search rules in
     record {
       columns = λ k h.
-          kept-all odd even a.leaves a.s.words f.result a.selector a.low k (get_or l.out.words k 0) leaves (omega arith) f.ensures h (l.invariant.2 k (omega arith));
+          kept_all odd even a.leaves a.s.words f.result a.selector a.low k (get_or l.out.words k 0) leaves (omega arith) f.ensures h (l.invariant.2 k (omega arith));
       others = l.invariant.3;
     }
 

@@ -1,6 +1,6 @@
 use mathlib.Core.Path.{refl, sym, ◌∙◌}
 use borrow.Author.Tests.{le-leb, lt-leb, not-true, not-false}
-use Rattle.samples.proofs.Many.{ties-within, ties-told}
+use Rattle.samples.proofs.Many.{ties-within, ties_told}
 use borrow.Author.Rules.{rules}
 use Rattle.outcomes.proofs.outcome.leaves.Statement.{statement}
 use Rattle.outcomes.proofs.outcome.leaves.Tie as tie
@@ -14,7 +14,7 @@ ties-refusal-requires c κs = search rules
 returns : tie.Need-returns
 returns c =
     let a = c.before.before.before.args in
-    let many = ties-told a.known.width a.o.ties (λ z. c.if1.true (c.before.ties-refusal.ensures ∙ z)) in
+    let many = ties_told a.known.width a.o.ties (λ z. c.if1.true (c.before.ties-refusal.ensures ∙ z)) in
     rw (lt-leb a.o.ties _ many) refl
 
 returns-2 : tie.Need-returns-2

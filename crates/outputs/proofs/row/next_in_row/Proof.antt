@@ -14,7 +14,7 @@ use Rattle.words.specs.declared.arithmetic.Width.{Width}
 use Rattle.columns.specs.Few.{few_words}
 use Rattle.multiplexer.specs.Leaves.{HasLeaves}
 use Rattle.stepping.specs.State.{used, holding, Steps}
-use Rattle.stepping.proofs.Columns.{terms_width, step-made}
+use Rattle.stepping.proofs.Columns.{terms_width, step_made}
 use Rattle.outputs.proofs.Made.{after_filters, output-made}
 use Rattle.outputs.proofs.row.next_in_row.Statement.{statement}
 use Rattle.outputs.proofs.row.next_in_row.Tie as tie
@@ -33,7 +33,7 @@ after c card odd even st few leaves =
     let a = s.args in
     let all : length c.replace-columns.result.words ≡ most_words = search (rules, c.replace-columns.type-inv) in
     let fits : (k : ℕ) → Fits w32 (get_or c.replace-columns.result.words k 0) = search (rules, c.replace-columns.type-inv) in
-    step-made card a.terms odd even a.s st few_words _ _ _ few (c.before.selector-by.ensures card st.selects few)
+    step_made card a.terms odd even a.s st few_words _ _ _ few (c.before.selector-by.ensures card st.selects few)
     (ap (λ (w : Width). w.low) st.selects.width) all (λ k. (fits k).fits) (c.replace-columns.ensures odd even leaves)
 
 filtered-by-requires : tie.Need-filtered-by-requires

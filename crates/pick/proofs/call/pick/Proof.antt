@@ -8,9 +8,9 @@ use Rattle.draws.proofs.Opening.{Clear, told, clear}
 use Rattle.draws.proofs.Called.{accepted, in_range}
 use Rattle.sample.specs.declared.draw.Sample.{Sample}
 use Rattle.picks.specs.Picks.{pick_refusal}
-use Rattle.picks.proofs.Picking.{told-call, told-later, picking-refused}
+use Rattle.picks.proofs.Picking.{told_call, told_later, picking-refused}
 use Rattle.gates.proofs.GateStep.{only-p1}
-use Rattle.pick.proofs.Passed.{Free, free, made, made-alone}
+use Rattle.pick.proofs.Passed.{Free, free, made, made_alone}
 use Rattle.pick.proofs.call.pick.Statement.{statement}
 use Rattle.pick.proofs.call.pick.Tie as tie
 
@@ -33,7 +33,7 @@ passing c = let o = c.before in clear _ _ o.before.before.before.accept.result o
 -- the second tells of the list, or of nothing
 told-list : (c : tie.After-list-ties) → let a = (start c.before.before.before).args in
     c.list-ties.result.refusal ≡ pick_refusal a.card.now a.state.now a.shovels.now a.times.now
-told-list c = told-later _ _ _ _ (passing c.before.before) refl c.list-ties.ensures.0
+told-list c = told_later _ _ _ _ (passing c.before.before) refl c.list-ties.ensures.0
 
 -- past it nothing is refused
 going : (c : tie.Else2) → let l = c.before.before in
@@ -55,7 +55,7 @@ same_length : tie.Need-same-length
 same_length c = omega arith
 
 returns : tie.Need-returns
-returns c = let ne = c.if1.true in picking-refused _ _ _ _ _ ne (told-call _ _ _ _ _ (refusal c.before) ne)
+returns c = let ne = c.if1.true in picking-refused _ _ _ _ _ ne (told_call _ _ _ _ _ (refusal c.before) ne)
 
 cast-list-ties : tie.Need-overflow-cast-list-ties
 cast-list-ties c = omega arith
@@ -79,7 +79,7 @@ same-length-3 : tie.Need-same-length-3
 same-length-3 c = omega arith
 
 returns-3 : tie.Need-returns-3
-returns-3 c = let t = c.before.before in made-alone (going t.before.before) t.if3.true c.before.chosen_by.ensures
+returns-3 c = let t = c.before.before in made_alone (going t.before.before) t.if3.true c.before.chosen_by.ensures
 
 cast-draw-rank : tie.Need-overflow-cast-draw-rank
 cast-draw-rank c = omega (arith, (going c.before.before.before.before).few)

@@ -10,7 +10,7 @@ use Rattle.refusals.proofs.Refusals.{first-left, first_right}
 use Rattle.ties.specs.Ties.{ties}
 use Rattle.ties.specs.Least.{LeastOf}
 use Rattle.tie_list.specs.Checks.{list_checks}
-use Rattle.tie_list.proofs.Allowed.{Allowed, list-allowed}
+use Rattle.tie_list.proofs.Allowed.{Allowed, list_allowed}
 use Rattle.samples.specs.Samples.{tie_checks}
 use Rattle.picks.proofs.Picking.{ties-few}
 use Rattle.pick.specs.declared.listing.Listing.{Listing}
@@ -27,7 +27,7 @@ passed : (c : tie.Else1) → let a = c.before.before.before.before.args in first
 passed c = sym c.before.list-refusal.ensures ∙ c.if1.false
 
 allowed : (c : tie.Else1) → let a = c.before.before.before.before.args in Allowed a.shovels.now a.times.now
-allowed c = list-allowed _ _ (passed c)
+allowed c = list_allowed _ _ (passed c)
 
 -- the second tells of the count of ties, or of nothing
 last : (c : tie.After-ties-refusal) → let a = c.before.before.before.before.before.before.before.args in

@@ -8,7 +8,7 @@ use Rattle.tsc.specs.Constants.{most_words}
 use Rattle.tsc.specs.Coverage.{IsState}
 use Rattle.stepping.specs.State.{Holds}
 use Rattle.stepping.proofs.Holding.{holds}
-use Rattle.pick.proofs.Passed.{rank-made}
+use Rattle.pick.proofs.Passed.{rank_made}
 use Rattle.pick.proofs.ranks.draw_rank.Statement.{statement}
 use Rattle.pick.proofs.ranks.draw_rank.Tie as tie
 
@@ -48,7 +48,7 @@ returns-2 c =
     let d = c.before.before.before.before in
     let l = d.before in
     let s = l.before.before.before.before in
-    rank-made s.args.card s.args.state.now _ s.requires.2 l.load.ensures d.draw-rank.ensures c.before.before.store.ensures
+    rank_made s.args.card s.args.state.now _ s.requires.2 l.load.ensures d.draw-rank.ensures c.before.before.store.ensures
 
 pub draw_rank_spec : {M : Type 1} → statement M
 draw_rank_spec =

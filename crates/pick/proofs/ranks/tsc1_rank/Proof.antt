@@ -4,7 +4,7 @@ use borrow.Author.Rules.{rules}
 use Rattle.gates.specs.Tsc1.{tsc1_card}
 use Rattle.stepping.specs.State.{Holds}
 use Rattle.stepping.proofs.Holding.{holds}
-use Rattle.pick.proofs.Passed.{rank-made}
+use Rattle.pick.proofs.Passed.{rank_made}
 use Rattle.pick.proofs.ranks.tsc1_rank.Statement.{statement}
 use Rattle.pick.proofs.ranks.tsc1_rank.Tie as tie
 
@@ -28,7 +28,7 @@ returns c =
     let d = c.before.before.before.before in
     let l = d.before in
     let s = l.before.before.before in
-    rank-made tsc1_card s.args.state.now _ s.requires.0 l.load.ensures d.draw-rank.ensures c.before.before.store.ensures
+    rank_made tsc1_card s.args.state.now _ s.requires.0 l.load.ensures d.draw-rank.ensures c.before.before.store.ensures
 
 pub tsc1_rank_spec : {M : Type 1} → statement M
 tsc1_rank_spec =

@@ -4,7 +4,7 @@ use lib.IntN.{ℤ, nat_abs, ◌-ℤ◌}
 use mir.Syntax.{w32}
 use mir.Val.{SFits}
 use Rattle.places.specs.Places.{most_apart}
-use Rattle.places.proofs.Signed.{small-fits, read, read_back}
+use Rattle.places.proofs.Signed.{small_fits, read, read_back}
 use Rattle.places.proofs.Distances.{apart_le}
 use Rattle.places.proofs.distance.apart.Statement.{statement}
 use Rattle.places.proofs.distance.apart.Tie as tie
@@ -19,10 +19,10 @@ module _ (s : tie.Start) where
 
   of_result : (r : ℤ) → r ≡ read s.args.a -ℤ read s.args.b → read r ≡ s.args.a -ℤ s.args.b
   of_result r e =
-      let same : r ≡ s.args.a -ℤ s.args.b = e ∙ seen in ap read same ∙ read_back (small-fits _ small)
+      let same : r ≡ s.args.a -ℤ s.args.b = e ∙ seen in ap read same ∙ read_back (small_fits _ small)
 
 minus-requires : tie.Need-minus-requires
-minus-requires c κs = subst (SFits w32) (sym (seen c)) (small-fits _ (small c))
+minus-requires c κs = subst (SFits w32) (sym (seen c)) (small_fits _ (small c))
 
 size-requires : tie.Need-size-requires
 size-requires c κs = subst (λ (z : ℤ). nat_abs z ≤ most_apart) (sym (of_result c.before c.minus.result c.minus.ensures)) (small c.before)

@@ -2,12 +2,12 @@ use mathlib.Core.Path.{sym, ap, subst, ◌∙◌}
 use native.Mathlib.Omega.{arith}
 use lib.IntN.{ℤ, pos, nat_abs}
 use lib.Signed.{◌≤ℤ◌}
-use Rattle.places.proofs.Signed.{size_minus, small-fits, nonneg_pos, nonneg, read_back, turned}
+use Rattle.places.proofs.Signed.{size_minus, small_fits, nonneg_pos, nonneg, read_back, turned}
 use Rattle.places.proofs.distance.size.Statement.{statement}
 use Rattle.places.proofs.distance.size.Tie as tie
 
 minus-requires : tie.Need-minus-requires
-minus-requires c κs = rw (read_back c.before.ranges.z) (small-fits _ (omega (arith, size_minus (pos 0) c.before.args.z)))
+minus-requires c κs = rw (read_back c.before.ranges.z) (small_fits _ (omega (arith, size_minus (pos 0) c.before.args.z)))
 
 whole-requires : tie.Need-whole-requires
 whole-requires c κs =

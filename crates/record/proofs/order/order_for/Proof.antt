@@ -7,7 +7,7 @@ use Rattle.records.specs.declared.Order.{Order}
 use Rattle.records.specs.declared.Order.TheVariants.{Shovel}
 use Rattle.records.specs.Reading.{Whole, record_of}
 use Rattle.records.specs.Orders.{order_for, SameOrder}
-use Rattle.records.proofs.Orders.{order_torn, order_other, order-own, cabs_alike}
+use Rattle.records.proofs.Orders.{order_torn, order_other, order_own, cabs_alike}
 use Rattle.record_form.proofs.Places.{Known, known, truck-bytes, shovel-bytes}
 use Rattle.record.proofs.order.order_for.Statement.{statement}
 use Rattle.record.proofs.order.order_for.Tie as tie
@@ -46,7 +46,7 @@ returns-3 : tie.Need-returns-3
 unfolding record_of
 returns-3 c =
     alike _ _
-    (order-own _ _ (whole c.before.before.before) (c.before.if2.false ∙ truck-is c.before.before)
+    (order_own _ _ (whole c.before.before.before) (c.before.if2.false ∙ truck-is c.before.before)
     ∙ ap Shovel (shovel-bytes _ (facts c.before.before.before).low ∙ sym c.half-at2.ensures))
 
 pub order_for_spec : {M : Type 1} → statement M

@@ -5,7 +5,7 @@ use native.Mathlib.Omega.{arith}
 use lib.ListN.{get_or, drop, length, length-drop, get_or-eq_default}
 use Rattle.cycle.specs.Notation.{tabulate}
 use Rattle.card_format.specs.Fields.{numbers}
-use Rattle.cycle.proofs.Lists.{part-rest}
+use Rattle.cycle.proofs.Lists.{part_rest}
 use Rattle.records.specs.Reading.{held_state}
 use Rattle.records.specs.Fields.{word_field}
 use Rattle.record.proofs.read.state_of.Statement.{statement}
@@ -41,13 +41,13 @@ state-from-requires c κs =
     let s = c.before.before.before.before in
     let b = s.args.bytes.now in
     let at = s.args.at in
-    (s.requires.0, omega (arith, s.requires.1 (omega arith), ap (λ (l : List ℕ). length l) (part-rest (at + 1) b), length-drop (at + 1) b))
+    (s.requires.0, omega (arith, s.requires.1 (omega arith), ap (λ (l : List ℕ). length l) (part_rest (at + 1) b), length-drop (at + 1) b))
 
 returns-2 : tie.Need-returns-2
 returns-2 c =
     let b = c.before.before.before.before.before.args.bytes.now in
     let at = c.before.before.before.before.before.args.at in
-    c.state-from.ensures ∙ ap (λ (p : List ℕ). held_state (numbers (word_field (get_or b at 0)) p)) (part-rest (at + 1) b)
+    c.state-from.ensures ∙ ap (λ (p : List ℕ). held_state (numbers (word_field (get_or b at 0)) p)) (part_rest (at + 1) b)
 
 pub state_of_spec : {M : Type 1} → statement M
 state_of_spec =

@@ -5,7 +5,7 @@ use lib.Dec.{eqb}
 use lib.ListN.{length, get_or}
 use Rattle.cycle.specs.Notation.{bit}
 use Rattle.cycle.proofs.Bits.{bit_lt}
-use Rattle.record_form.proofs.Places.{state_at, not_low, not_high, whole-none, too_few, too_many, whole-counted}
+use Rattle.record_form.proofs.Places.{state_at, not_low, not_high, whole_none, too_few, too_many, whole_counted}
 use Rattle.record_form.proofs.form.is_whole.Statement.{statement}
 use Rattle.record_form.proofs.form.is_whole.Tie as tie
 
@@ -51,7 +51,7 @@ bit-of-requires c κs = omega arith
 returns-3 : tie.Need-returns-3
 returns-3 c =
     let o = c.before in
-    ap (eqb (length c.before.before.before.before.before.before.before.args.bytes.now)) (at-is o) ∙ sym (whole-none _ (low c.before.before.before) (high c.before.before.before) (sym (bit_is o) ∙ c.if3.true))
+    ap (eqb (length c.before.before.before.before.before.before.before.args.bytes.now)) (at-is o) ∙ sym (whole_none _ (low c.before.before.before) (high c.before.before.before) (sym (bit_is o) ∙ c.if3.true))
 
 byte-at-requires-2 : tie.Need-byte-at-requires-2
 byte-at-requires-2 c κs = tt
@@ -80,7 +80,7 @@ add-result-2 c = omega arith
 returns-6 : tie.Need-returns-6
 returns-6 c =
     ap₂ (λ (a m : ℕ). eqb (length c.before.before.before.before.before.before.before.before.before.before.args.bytes.now) (a + 1 + 4 * m)) (at-is c.before.before.before.before) (count_is c.before.before)
-    ∙ sym (whole-counted _ (low c.before.before.before.before.before.before) (high c.before.before.before.before.before.before) (stands c.before.before.before) (omega (arith, count_is c.before.before, c.before.if4.false)) (omega (arith, count_is c.before.before, c.if5.false)))
+    ∙ sym (whole_counted _ (low c.before.before.before.before.before.before) (high c.before.before.before.before.before.before) (stands c.before.before.before) (omega (arith, count_is c.before.before, c.before.if4.false)) (omega (arith, count_is c.before.before, c.if5.false)))
 
 pub is_whole_spec : {M : Type 1} → statement M
 is_whole_spec =

@@ -6,7 +6,7 @@ use lib.ListN.{length, take, drop}
 use Rattle.card_format.specs.Fields.{bytes_of}
 use Rattle.cycle.proofs.Lists.{put_next}
 use Rattle.records.specs.Fields.{word_field}
-use Rattle.records.proofs.Full.{encoded-full, length-full}
+use Rattle.records.proofs.Full.{encoded_full, length_full}
 use Rattle.record_write.proofs.Bytes.{length-bytes}
 use Rattle.record_write.proofs.write.put_record.Statement.{statement}
 use Rattle.record_write.proofs.write.put_record.Tie as tie
@@ -56,8 +56,8 @@ returns c =
     let d = a.page.now in
     let p = c.before.before.before.before.before.before.put-bytes.new.1.0 in
     let begun = c.before.before.before.before.before.before.put-bytes.ensures in
-    let w = encoded-full a.truck a.shovel a.ties a.taken xs (omega arith) (omega arith) (omega arith) (omega arith) (omega arith) in
-    let n = length-full a.truck a.shovel a.ties a.taken xs (omega arith) (omega arith) (omega arith) (omega arith) (omega arith) in
+    let w = encoded_full a.truck a.shovel a.ties a.taken xs (omega arith) (omega arith) (omega arith) (omega arith) (omega arith) in
+    let n = length_full a.truck a.shovel a.ties a.taken xs (omega arith) (omega arith) (omega arith) (omega arith) (omega arith) in
     ap (λ (v : List ℕ). take 8 p ++ (v ++ drop (length p - 8) (drop 8 p)))
     (c.before.before.put-words.ensures ∙ ap (λ (n : ℕ). b ++ drop n (take (length p - 8) (drop 8 p))) (sym (length-bytes xs)))
     ∙ ap (λ (p : List ℕ). take 8 p ++ ((b ++ drop (length b) (take (length p - 8) (drop 8 p))) ++ drop (length p - 8) (drop 8 p))) begun

@@ -5,7 +5,7 @@ use native.Mathlib.Omega.{arith}
 use lib.ListN.{length, get_or, take, drop, length-drop}
 use lib.Seq.{take_all, length-take-le}
 use Rattle.card_format.specs.Fields.{bytes_of}
-use Rattle.cycle.proofs.Lists.{over, length_over, part-rest, put_next}
+use Rattle.cycle.proofs.Lists.{over, length_over, part_rest, put_next}
 use Rattle.card_fields.specs.LowBytes.{low_bytes}
 use Rattle.card_fields.proofs.LowBytes.{length-low_bytes}
 use Rattle.records.specs.Fields.{word_field}
@@ -61,7 +61,7 @@ put-number-requires c κs =
     omega (
       arith,
       room a.words.now a.part.now _ _ c.before.before.loop-test.true l.invariant,
-      ap (λ (p : List ℕ). length p) (part-rest (4 * l.k) l.part),
+      ap (λ (p : List ℕ). length p) (part_rest (4 * l.k) l.part),
       length-drop (4 * l.k) l.part,
     )
 

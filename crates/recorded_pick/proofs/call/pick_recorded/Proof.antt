@@ -9,7 +9,7 @@ use Rattle.cycle.proofs.Lists.{take-filled}
 use Rattle.records.specs.Fields.{record_bytes}
 use Rattle.records.specs.Writing.{recorded_on}
 use Rattle.recorded_picks.specs.Recorded.{record_left}
-use Rattle.recorded_picks.proofs.Recorded.{has_room, call-told, call-small, call-made}
+use Rattle.recorded_picks.proofs.Recorded.{has_room, call_told, call_small, call_made}
 use Rattle.recorded_pick.proofs.call.pick_recorded.Statement.{statement}
 use Rattle.recorded_pick.proofs.call.pick_recorded.Tie as tie
 
@@ -29,7 +29,7 @@ same_length c = omega arith
 returns : tie.Need-returns
 returns c =
     let a = c.before.before.before.before.before.before.before.before.before.before.args in
-    call-told a.card.now a.state.now a.shovels.now a.times.now a.truck a.page.now c.before.pick-refusal.ensures c.if2.true
+    call_told a.card.now a.state.now a.shovels.now a.times.now a.truck a.page.now c.before.pick-refusal.ensures c.if2.true
 
 same-length-2 : tie.Need-same-length-2
 same-length-2 c = omega arith
@@ -37,7 +37,7 @@ same-length-2 c = omega arith
 returns-2 : tie.Need-returns-2
 returns-2 c =
     let a = c.before.before.before.before.before.before.before.before.before.before.args in
-    call-small a.card.now a.state.now a.shovels.now a.times.now a.truck a.page.now c.before.pick-refusal.ensures c.if2.false
+    call_small a.card.now a.state.now a.shovels.now a.times.now a.truck a.page.now c.before.pick-refusal.ensures c.if2.false
     c.before.before.before.before.lacks-room.ensures c.before.before.before.if1.true
 
 load-requires : tie.Need-load-requires
@@ -61,7 +61,7 @@ returns-3 c =
     let xs = a.state.now in
     let held = ap (λ (s : State). take (length xs) s.words) c.before.before.before.before.before.before.before.before.load.ensures ∙ take-filled most_words (length xs) xs refl in
     let p = c.before.before.before.before.before.before.pick in
-    call-made a.card.now xs a.shovels.now a.times.now a.truck a.page.now (roomy c.before.before.before.before.before.before.before.before.before.before).1 p.ensures.0 p.ensures.1
+    call_made a.card.now xs a.shovels.now a.times.now a.truck a.page.now (roomy c.before.before.before.before.before.before.before.before.before.before).1 p.ensures.0 p.ensures.1
     (c.before.before.record-tie.ensures ∙ ap (λ (ws : List ℕ). recorded_on (record_left a.truck ws p.result) a.page.now) held)
 
 pub pick_recorded_spec : {M : Type 1} → statement M

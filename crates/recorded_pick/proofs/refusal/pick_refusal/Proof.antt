@@ -3,7 +3,7 @@ use borrow.Author.Rules.{rules}
 use Rattle.draws.specs.Calls.{refusal_for}
 use Rattle.draws.proofs.Opening.{Clear, told, clear}
 use Rattle.draws.proofs.Called.{accepted}
-use Rattle.picks.proofs.Picking.{told-call, told-later}
+use Rattle.picks.proofs.Picking.{told_call, told_later}
 use Rattle.recorded_pick.proofs.refusal.pick_refusal.Statement.{statement}
 use Rattle.recorded_pick.proofs.refusal.pick_refusal.Tie as tie
 
@@ -21,7 +21,7 @@ call-refusal-requires : tie.Need-call-refusal-requires
 call-refusal-requires c κs = tt
 
 returns : tie.Need-returns
-returns c = told-call _ _ _ _ _ (refusal c.before) c.if1.true
+returns c = told_call _ _ _ _ _ (refusal c.before) c.if1.true
 
 cast-list-ties : tie.Need-overflow-cast-list-ties
 cast-list-ties c = search rules
@@ -30,7 +30,7 @@ list-ties-requires : tie.Need-list-ties-requires
 list-ties-requires c κs = (accepted (passing c.before)).narrow
 
 returns-2 : tie.Need-returns-2
-returns-2 c = told-later _ _ _ _ (passing c.before.before) refl c.list-ties.ensures.0
+returns-2 c = told_later _ _ _ _ (passing c.before.before) refl c.list-ties.ensures.0
 
 pub pick_refusal_spec : {M : Type 1} → statement M
 pick_refusal_spec =

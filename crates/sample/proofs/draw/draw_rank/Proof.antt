@@ -4,7 +4,7 @@ use native.Mathlib.Omega.{arith}
 use Rattle.stepping.specs.State.{used, Steps}
 use Rattle.stepping.proofs.Columns.{sized, cycled}
 use Rattle.samples.specs.Samples.{most_taken}
-use Rattle.sample.proofs.Passed.{Passed, passed_none, passed-holds, passed-next, passed-all}
+use Rattle.sample.proofs.Passed.{Passed, passed_none, passed-holds, passed_next, passed_all}
 use Rattle.sample.proofs.draw.draw_rank.Statement.{statement}
 use Rattle.sample.proofs.draw.draw_rank.Tie as tie
 
@@ -72,7 +72,7 @@ loop-again c =
     let at = o.before.before.before.before in
     let s = start at in
     let drawn = o.next-output.ensures s.args.t1 (steps at) at.before.rotations-of.ensures in
-    passed-next _ _ _ s.pre.1.0 _ _ at.loop.invariant _ drawn (sym c.before.decides.ensures ∙ c.if1.false)
+    passed_next _ _ _ s.pre.1.0 _ _ at.loop.invariant _ drawn (sym c.before.decides.ensures ∙ c.if1.false)
 
 returns : tie.Need-returns invariant-loop decreases-loop
 returns c =
@@ -81,7 +81,7 @@ returns c =
     let at = o.before.before.before.before in
     let s = start at in
     let drawn = o.next-output.ensures s.args.t1 (steps at) at.before.rotations-of.ensures in
-    passed-all _ _ _ s.pre.1.0 _ _ at.loop.invariant _ drawn s.pre.3 (sym d.decides.ensures ∙ c.before.if1.true)
+    passed_all _ _ _ s.pre.1.0 _ _ at.loop.invariant _ drawn s.pre.3 (sym d.decides.ensures ∙ c.before.if1.true)
 
 pub draw_rank_spec : {M : Type 1} → statement M
 draw_rank_spec =

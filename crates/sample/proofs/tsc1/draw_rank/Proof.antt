@@ -4,7 +4,7 @@ use native.Mathlib.Omega.{arith}
 use Rattle.gates.specs.Tsc1.{tsc1_card}
 use Rattle.stepping.specs.State.{used}
 use Rattle.samples.specs.Samples.{most_taken}
-use Rattle.sample.proofs.Passed.{Passed, passed_none, passed-next, passed-all}
+use Rattle.sample.proofs.Passed.{Passed, passed_none, passed_next, passed_all}
 use Rattle.sample.proofs.tsc1.draw_rank.Statement.{statement}
 use Rattle.sample.proofs.tsc1.draw_rank.Tie as tie
 
@@ -36,7 +36,7 @@ loop-again : tie.Need-loop-preserved invariant-loop decreases-loop
 loop-again c =
     let o = c.before.before.before in
     let at = o.before in
-    passed-next _ _ _ at.before.requires.0.0 _ _ at.loop.invariant _ o.next-output.ensures (sym c.before.decides.ensures ∙ c.if1.false)
+    passed_next _ _ _ at.before.requires.0.0 _ _ at.loop.invariant _ o.next-output.ensures (sym c.before.decides.ensures ∙ c.if1.false)
 
 returns : tie.Need-returns invariant-loop decreases-loop
 returns c =
@@ -44,7 +44,7 @@ returns c =
     let o = d.before.before in
     let at = o.before in
     let p = at.before.requires in
-    passed-all _ _ _ p.0.0 _ _ at.loop.invariant _ o.next-output.ensures p.2 (sym d.decides.ensures ∙ c.before.if1.true)
+    passed_all _ _ _ p.0.0 _ _ at.loop.invariant _ o.next-output.ensures p.2 (sym d.decides.ensures ∙ c.before.if1.true)
 
 pub draw_rank_spec : {M : Type 1} → statement M
 draw_rank_spec =

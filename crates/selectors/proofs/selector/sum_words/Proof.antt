@@ -4,7 +4,7 @@ use Rattle.tsc.specs.Constants.{most_words, widest_width}
 use Rattle.tsc.specs.Selector.{sum_words}
 use Rattle.words.proofs.Words.{words_from, words-past}
 use Rattle.selectors.specs.Terms.{Absent}
-use Rattle.selectors.proofs.Masked.{sum-next}
+use Rattle.selectors.proofs.Masked.{sum_next}
 use Rattle.selectors.proofs.selector.sum_words.Statement.{statement}
 use Rattle.selectors.proofs.selector.sum_words.Tie as tie
 
@@ -60,7 +60,7 @@ loop-again c =
       λ m few absent.
           c.wrapping-add-u32.ensures
           ∙ ap (λ (t : ℕ). (bit_and (get_or ws (l.k - 1) 0) ((2 ^ widest_width - 1) - mask) + t) % 2 ^ widest_width) (l.invariant.3 m few absent)
-          ∙ sum-next 32 m ws (omega arith) l.k (omega arith) (fits (l.k - 1)).fits mask (absent (l.k - 1) (omega arith)),
+          ∙ sum_next 32 m ws (omega arith) l.k (omega arith) (fits (l.k - 1)).fits mask (absent (l.k - 1) (omega arith)),
     )
 
 returns : tie.Need-returns invariant-loop decreases-loop

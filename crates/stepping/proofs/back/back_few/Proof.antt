@@ -6,7 +6,7 @@ use Rattle.tsc.specs.Coverage.{step_back}
 use Rattle.words.specs.declared.arithmetic.Width.{Width}
 use Rattle.columns.specs.Few.{few_words}
 use Rattle.stepping.specs.State.{used, Undoes}
-use Rattle.stepping.proofs.Built.{Built, built_lt, back_none, back-next, back-all}
+use Rattle.stepping.proofs.Built.{Built, built_lt, back_none, back_next, back_all}
 use Rattle.stepping.proofs.Columns.{terms_width}
 use Rattle.stepping.proofs.back.back_few.Statement.{statement}
 use Rattle.stepping.proofs.back.back_few.Tie as tie
@@ -48,7 +48,7 @@ loop-again c =
       l.invariant.1,
       λ card u.
           let few : card.words ≤ few_words = omega (arith, u.selects.words, l.invariant.1) in
-          back-next card a.terms a.odd.now a.even.now a.s u few_words l.i _ l.found _ few
+          back_next card a.terms a.odd.now a.even.now a.s u few_words l.i _ l.found _ few
           (omega (arith, ap (λ (w : Width). w.bits) u.selects.width)) (c.before.selector-by.ensures card u.selects few) (l.invariant.2 card u) c.replace-column.ensures,
     )
 
@@ -59,7 +59,7 @@ returns c =
     let s = at.before in
     let a = s.args in
     let u = s.requires.0 in
-    back-all a.card a.terms a.odd.now a.even.now a.s u l.i l.found (omega (arith, ap (λ (w : Width). w.bits) u.selects.width)) (l.invariant.2 a.card u)
+    back_all a.card a.terms a.odd.now a.even.now a.s u l.i l.found (omega (arith, ap (λ (w : Width). w.bits) u.selects.width)) (l.invariant.2 a.card u)
 
 pub back_few_spec : {M : Type 1} → statement M
 back_few_spec =

@@ -6,7 +6,7 @@ use Rattle.tsc.specs.Coverage.{step_back}
 use Rattle.words.specs.declared.arithmetic.Width.{Width}
 use Rattle.tsc.specs.Constants.{most_words}
 use Rattle.stepping.specs.State.{used, Undoes}
-use Rattle.stepping.proofs.Built.{Built, built_lt, back_none, back-next, back-all}
+use Rattle.stepping.proofs.Built.{Built, built_lt, back_none, back_next, back_all}
 use Rattle.stepping.proofs.Columns.{terms_width}
 use Rattle.stepping.proofs.back.back_many.Statement.{statement}
 use Rattle.stepping.proofs.back.back_many.Tie as tie
@@ -47,7 +47,7 @@ loop-again c =
       omega arith,
       λ card u.
           let few : card.words ≤ most_words = u.accepted.few in
-          back-next card a.terms a.odd.now a.even.now a.s u most_words l.i _ l.found _ few
+          back_next card a.terms a.odd.now a.even.now a.s u most_words l.i _ l.found _ few
           (omega (arith, ap (λ (w : Width). w.bits) u.selects.width)) (c.before.selector-by.ensures card u.selects few) (l.invariant.1 card u) c.replace-column.ensures,
     )
 
@@ -58,7 +58,7 @@ returns c =
     let s = at.before in
     let a = s.args in
     let u = s.requires in
-    back-all a.card a.terms a.odd.now a.even.now a.s u l.i l.found (omega (arith, ap (λ (w : Width). w.bits) u.selects.width)) (l.invariant.1 a.card u)
+    back_all a.card a.terms a.odd.now a.even.now a.s u l.i l.found (omega (arith, ap (λ (w : Width). w.bits) u.selects.width)) (l.invariant.1 a.card u)
 
 pub back_many_spec : {M : Type 1} → statement M
 back_many_spec =

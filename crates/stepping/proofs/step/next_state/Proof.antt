@@ -8,7 +8,7 @@ use lib.ListN.{length, get_or}
 use Rattle.tsc.specs.Constants.{most_words}
 use Rattle.words.specs.declared.arithmetic.Width.{Width}
 use Rattle.columns.specs.Few.{few_words}
-use Rattle.stepping.proofs.Columns.{step-made}
+use Rattle.stepping.proofs.Columns.{step_made}
 use Rattle.stepping.proofs.step.next_state.Statement.{statement}
 use Rattle.stepping.proofs.step.next_state.Tie as tie
 
@@ -29,7 +29,7 @@ returns c card st =
     let few : card.words ≤ few_words = omega (arith, st.selects.words) in
     let all : length after.words ≡ most_words = search rules in
     let fits : (k : ℕ) → Fits w32 (get_or after.words k 0) = search rules in
-    step-made card a.terms a.odd.now a.even.now a.s st few_words _ _ after few (c.before.selector-by.ensures card st.selects few)
+    step_made card a.terms a.odd.now a.even.now a.s st few_words _ _ after few (c.before.selector-by.ensures card st.selects few)
     (ap (λ (w : Width). w.low) st.selects.width) all (λ k. (fits k).fits) c.replace-columns.ensures
 
 selector-by-requires-2 : tie.Need-selector-by-requires-2
@@ -46,7 +46,7 @@ returns-2 c card st =
     let few : card.words ≤ most_words = st.accepted.few in
     let all : length after.words ≡ most_words = search rules in
     let fits : (k : ℕ) → Fits w32 (get_or after.words k 0) = search rules in
-    step-made card a.terms a.odd.now a.even.now a.s st most_words _ _ after few (c.before.selector-by2.ensures card st.selects few)
+    step_made card a.terms a.odd.now a.even.now a.s st most_words _ _ after few (c.before.selector-by2.ensures card st.selects few)
     (ap (λ (w : Width). w.low) st.selects.width) all (λ k. (fits k).fits) c.replace-columns2.ensures
 
 pub next_state_spec : {M : Type 1} → statement M

@@ -3,7 +3,7 @@ use mathlib.Core.Logic.{◌≢◌}
 use Prim.Native.Nat.{ℕ, ◌+◌, ◌-◌, ◌<◌}
 use native.Mathlib.Omega.{arith}
 use lib.ListN.{length, get_or}
-use Rattle.tie_list.proofs.Twice.{repeats-none, repeats-found, farther}
+use Rattle.tie_list.proofs.Twice.{repeats-none, repeats_found, farther}
 use Rattle.tie_list.proofs.check.repeats_at.Statement.{statement}
 use Rattle.tie_list.proofs.check.repeats_at.Tie as tie
 
@@ -32,7 +32,7 @@ returns : tie.Need-returns invariant-loop decreases-loop
 returns c =
     let a = c.before.before.before.before.before.args in
     let l = c.before.before.before.loop in
-    sym (repeats-found a.shovels.now a.i (a.i - l.d) (omega arith) (c.if1.true ∙ l.invariant.2))
+    sym (repeats_found a.shovels.now a.i (a.i - l.d) (omega arith) (c.if1.true ∙ l.invariant.2))
 
 add-d : tie.Need-overflow-add-d invariant-loop decreases-loop
 add-d c = omega arith

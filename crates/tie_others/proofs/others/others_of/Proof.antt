@@ -7,7 +7,7 @@ use native.Mathlib.Omega.{arith}
 use borrow.Author.Rules.{rules}
 use lib.ListN.{length, get_or}
 use Rattle.tie_others.specs.Others.{IsOthers}
-use Rattle.tie_others.proofs.Joined.{others-few, others-none, others-next}
+use Rattle.tie_others.proofs.Joined.{others-few, others-none, others_next}
 use Rattle.tie_others.proofs.others.others_of.Statement.{statement}
 use Rattle.tie_others.proofs.others.others_of.Tie as tie
 
@@ -50,7 +50,7 @@ loop-again c =
     let l = c.before.before.before.before.loop in
     let a = c.before.before.before.before.before.before.before.args in
     let fits : (k : ℕ) → Fits w32 (get_or a.times.now k 0) = search rules in
-    let more = others-next a.shovels.now a.times.now a.i a.y l.j l.o l.invariant.1 (omega (arith, (fits l.j).fits)) in
+    let more = others_next a.shovels.now a.times.now a.i a.y l.j l.o l.invariant.1 (omega (arith, (fits l.j).fits)) in
     (omega arith, subst (λ (n : ℕ). IsOthers a.shovels.now a.times.now a.i a.y n c.joined.result) (sym (add-one l.j)) (rw c.joined.ensures more))
 
 returns : tie.Need-returns invariant-loop decreases-loop

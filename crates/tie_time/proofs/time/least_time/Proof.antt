@@ -3,7 +3,7 @@ use Prim.Native.Nat.{ℕ, ◌-◌, ◌≤◌}
 use native.Mathlib.Omega.{arith}
 use lib.ListN.{length}
 use Rattle.ties.specs.Least.{LeastOf}
-use Rattle.ties.proofs.Least.{least_first, least-next}
+use Rattle.ties.proofs.Least.{least_first, least_next}
 use Rattle.tie_time.proofs.time.least_time.Statement.{statement}
 use Rattle.tie_time.proofs.time.least_time.Tie as tie
 
@@ -38,7 +38,7 @@ loop-again : tie.Need-loop-preserved invariant-loop decreases-loop
 loop-again c =
     let turn = c.before.before in
     let l = turn.before.loop in
-    (omega arith, rw c.lesser.ensures (least-next turn.before.before.before.before.args.times.now l.i l.least l.invariant.1))
+    (omega arith, rw c.lesser.ensures (least_next turn.before.before.before.before.args.times.now l.i l.least l.invariant.1))
 
 returns : tie.Need-returns invariant-loop decreases-loop
 returns c =

@@ -5,8 +5,8 @@ use native.Mathlib.Omega.{arith}
 use lib.Dec.{eqb}
 use lib.ListN.{length, get_or}
 use Rattle.cycle.specs.Notation.{count}
-use Rattle.cycle.proofs.Count.{count_none, counted-fits, counted_next}
-use Rattle.ties.proofs.Least.{ties-counted}
+use Rattle.cycle.proofs.Count.{count_none, counted_fits, counted_next}
+use Rattle.ties.proofs.Least.{ties_counted}
 use Rattle.tie_time.proofs.time.ties_of.Statement.{statement}
 use Rattle.tie_time.proofs.time.ties_of.Tie as tie
 
@@ -35,7 +35,7 @@ tied-requires c κs = tt
 add-k : tie.Need-overflow-add-k invariant-loop decreases-loop
 add-k c =
     let l = c.before.before.before.loop in
-    omega (arith, counted-fits l.i (least c.before.before.before.before.before) l.invariant.1 c.tied.ensures)
+    omega (arith, counted_fits l.i (least c.before.before.before.before.before) l.invariant.1 c.tied.ensures)
 
 add-i : tie.Need-overflow-add-i invariant-loop decreases-loop
 add-i c = omega arith
@@ -53,7 +53,7 @@ returns c =
     let s = c.before.before.before in
     let l = c.before.loop in
     let e : l.i ≡ length s.args.times.now = omega arith in
-    l.invariant.1 ∙ ap (λ (n : ℕ). count n (least s)) e ∙ ties-counted s.args.times.now s.args.least s.requires
+    l.invariant.1 ∙ ap (λ (n : ℕ). count n (least s)) e ∙ ties_counted s.args.times.now s.args.least s.requires
 
 pub ties_of_spec : {M : Type 1} → statement M
 ties_of_spec =

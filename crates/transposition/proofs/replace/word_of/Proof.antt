@@ -7,7 +7,7 @@ use lib.ListN.{length, get_or}
 use Rattle.tsc.specs.Constants.{most_words}
 use Rattle.transposition.specs.Matrix.{byte}
 use Rattle.transposition.specs.Groups.{group_count}
-use Rattle.transposition.proofs.Filled.{Filled, filled_none, filled_next, filled-bits}
+use Rattle.transposition.proofs.Filled.{Filled, filled_none, filled_next, filled_bits}
 use Rattle.transposition.proofs.replace.word_of.Statement.{statement}
 use Rattle.transposition.proofs.replace.word_of.Tie as tie
 
@@ -64,7 +64,7 @@ cast-result : tie.Need-overflow-cast-result invariant-loop decreases-loop
 cast-result c = record { fits = (all c).0 }
 
 returns : tie.Need-returns invariant-loop decreases-loop
-returns c i h = let a = c.before.before.args in filled-bits group_count (rows a.t1 a.k) c.before.loop.x i (all c) h
+returns c i h = let a = c.before.before.args in filled_bits group_count (rows a.t1 a.k) c.before.loop.x i (all c) h
 
 pub word_of_spec : {M : Type 1} → statement M
 word_of_spec =

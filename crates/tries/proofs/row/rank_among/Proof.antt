@@ -2,8 +2,8 @@ use mathlib.Core.Path.{sym, ◌∙◌}
 use Prim.Native.Nat.{◌-◌}
 use native.Mathlib.Omega.{arith}
 use Rattle.samples.specs.Samples.{most_taken}
-use Rattle.samples.proofs.Tried.{Over, over_none, over-next}
-use Rattle.tries.proofs.Ranks.{kept_at, ranked-alone, ranked-next}
+use Rattle.samples.proofs.Tried.{Over, over_none, over_next}
+use Rattle.tries.proofs.Ranks.{kept_at, ranked-alone, ranked_next}
 use Rattle.tries.proofs.row.rank_among.Statement.{statement}
 use Rattle.tries.proofs.row.rank_among.Tie as tie
 
@@ -44,12 +44,12 @@ loop-less : tie.Need-loop-smaller invariant-loop decreases-loop
 loop-less c = omega arith
 
 loop-again : tie.Need-loop-preserved invariant-loop decreases-loop
-loop-again c = over-next _ _ c.before.before.loop.invariant (sym c.before.decides.ensures ∙ c.if2.false)
+loop-again c = over_next _ _ c.before.before.loop.invariant (sym c.before.decides.ensures ∙ c.if2.false)
 
 returns-2 : tie.Need-returns-2 invariant-loop decreases-loop
 returns-2 c =
     let l = c.before.before in
-    ranked-next _ _ _ l.before.if1.false _ l.loop.invariant (sym c.before.decides.ensures ∙ c.if2.true)
+    ranked_next _ _ _ l.before.if1.false _ l.loop.invariant (sym c.before.decides.ensures ∙ c.if2.true)
 
 pub rank_among_spec : {M : Type 1} → statement M
 rank_among_spec =

@@ -9,11 +9,11 @@ use Rattle.places.specs.Distances.{square}
 use Rattle.places.specs.Places.{Places, placed, distances_of, on_map, is_radius, place_checks}
 use Rattle.places.proofs.Signed.{read_back}
 use Rattle.places.proofs.Distances.{length-distances}
-use Rattle.places.proofs.Places.{measured-read, distances-read}
+use Rattle.places.proofs.Places.{measured_read, distances_read}
 use Rattle.nearby.specs.Calls.{within_checks}
 use Rattle.nearby.proofs.Answers.{within-refused}
 use Rattle.within.specs.Sorting.{keys_of, is_listed}
-use Rattle.within.proofs.Sorting.{length-keys}
+use Rattle.within.proofs.Sorting.{length_keys}
 use Rattle.within.proofs.Passed.{Free, free, listed_by}
 use Rattle.within.proofs.call.within.Statement.{statement}
 use Rattle.within.proofs.call.within.Tie as tie
@@ -46,13 +46,13 @@ keys c =
     let s = e.before.before.before.before in
     let q = given e.before in
     let limit = c.before.squared.ensures ∙ ap square (read_back s.ranges.radius) in
-    c.keys_of.ensures ∙ ap₂ (keys_of q.shovels) (distances-read q.x q.y q.xs q.ys s.ranges.x s.ranges.y) limit
+    c.keys_of.ensures ∙ ap₂ (keys_of q.shovels) (distances_read q.x q.y q.xs q.ys s.ranges.x s.ranges.y) limit
 
 as_many : (c : tie.After-keys-of) → let n = length (given c.before.before.before).xs in length (take n c.keys_of.result) ≡ n
 as_many c =
     let e = c.before.before in
     let q = given e.before in
-    ap length (keys c) ∙ length-keys q.shovels (distances_of q) (square e.before.before.before.before.args.radius) ∙ length-distances q.x q.y q.xs q.ys
+    ap length (keys c) ∙ length_keys q.shovels (distances_of q) (square e.before.before.before.before.args.radius) ∙ length-distances q.x q.y q.xs q.ys
 
 is-allowed-requires : tie.Need-is-allowed-requires
 is-allowed-requires c κs = tt
@@ -76,7 +76,7 @@ keys-of-requires c κs =
     let e = c.before in
     let s = e.before.before.before.before in
     let f = going e in
-    (measured-read s.ranges.x s.ranges.y f.measurable, f.paired, f.few)
+    (measured_read s.ranges.x s.ranges.y f.measurable, f.paired, f.few)
 
 array-share-prefix-found : tie.Need-array-share-prefix-found
 array-share-prefix-found c = omega (arith, as_many c, length-take (length (given c.before.before.before).xs) c.keys_of.result)

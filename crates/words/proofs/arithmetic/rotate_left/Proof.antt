@@ -1,7 +1,7 @@
 use Rattle.std.proofs.Common.{◌≡◌, ℕ, ◌+◌, ◌-◌, ◌*◌, ◌/◌, ◌%◌, ◌^◌, refl, ap, ◌∙◌, ap₂, mod-eq_of_lt, arith, pow_mono, shr-shr}
 use Rattle.tsc.specs.Word.{◌⋘◌}
 use Rattle.tsc.proofs.Word.{rotate_lt}
-use Rattle.cycle.proofs.Bits.{mod-pow-mod}
+use Rattle.cycle.proofs.Bits.{mod_pow_mod}
 use Rattle.words.proofs.arithmetic.rotate_left.Statement.{statement}
 use Rattle.words.proofs.arithmetic.rotate_left.Tie as tie
 
@@ -11,10 +11,10 @@ shl-reduce c = omega arith
 reduce-requires : tie.Need-reduce-requires
 reduce-requires c κs = c.requires.0
 
-sub-result : tie.Need-overflow-sub-result
+sub-result : tie.Need-overflow_sub-result
 sub-result c = omega arith
 
-sub-result-2 : tie.Need-overflow-sub-result-2
+sub-result-2 : tie.Need-overflow_sub-result-2
 sub-result-2 c = omega arith
 
 shr-result : tie.Need-overflow-shr-result
@@ -31,10 +31,10 @@ turned c =
     let k = s.args.places in
     let all : k % n ≡ k = mod-eq_of_lt s.requires.2 in
     let down : 1 + (n - 1 - k) ≡ n - k = omega (arith, s.requires.2) in
-    ap₂ (λ (u v : ℕ). u + v) (c.before.reduce.ensures ∙ mod-pow-mod 32 n (x * 2 ^ k) s.requires.0.1) (shr-shr x 1 (n - 1 - k) ∙ ap (λ (d : ℕ). x / 2 ^ d) down)
+    ap₂ (λ (u v : ℕ). u + v) (c.before.reduce.ensures ∙ mod_pow_mod 32 n (x * 2 ^ k) s.requires.0.1) (shr-shr x 1 (n - 1 - k) ∙ ap (λ (d : ℕ). x / 2 ^ d) down)
     ∙ rw all refl
 
-add-result : tie.Need-overflow-add-result
+add-result : tie.Need-overflow_add-result
 add-result c =
     let s = c.before.before in
     let a = s.args in
