@@ -1,0 +1,6 @@
+use native.Mathlib.Omega.{arith}
+use mathlib.Core.Path.{refl}
+use Rattle.bit_tally.proofs.count.digit_of.Goals as goal
+
+pub returns : goal.returns
+returns c = refl

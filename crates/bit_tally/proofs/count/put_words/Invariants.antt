@@ -1,0 +1,33 @@
+use mathlib.Core.Path.{◌≡◌, sym, ap, ap₂, ◌∙◌, subst}
+use mathlib.Core.List.{List, ◌++◌}
+use Prim.Native.Nat.{ℕ, ◌+◌, ◌-◌, ◌*◌, ◌≤◌, ◌<◌}
+use native.Mathlib.Nat.{mul-le-mul_left}
+use native.Mathlib.Omega.{arith}
+use lib.ListN.{length, get_or, take, drop, length-drop}
+use lib.Seq.{take_all}
+use Rattle.tsc.specs.Constants.{widest_width}
+use Rattle.cycle.proofs.Lists.{part_rest, put_next, length_front}
+use Rattle.bit_counts.specs.Bits.{word_bits, bits_of, text}
+use Rattle.bit_counts.proofs.Bits.{length-word_bits, length-text}
+use Rattle.bit_tally.specs.declared.tally.Tally.{Tally}
+use Rattle.bit_tally.specs.Tally.{base, tally_of_none, tallied, HasRoom}
+use Rattle.bit_tally.proofs.Room.{few_bits, room_bits, room_less, room-first}
+use Rattle.bit_tally.proofs.Text.{word_bits_lem, word_next, text_next, length-words, no_words, all_counted, place_next, place_room, places_left}
+use Rattle.bit_tally.proofs.count.put_words.Given as goal
+
+-- the words before word k are put and counted
+pub record Put (n : ℕ) (strip page₀ page : List ℕ) (t : Tally) (at k : ℕ) : Type 0 where
+  pub place : at ≡ n * k
+  pub within : k ≤ length strip
+  pub narrow : n ≤ widest_width
+  pub few : n * length strip ≤ base
+  pub room : n * length strip ≤ length page₀
+  pub bits : HasRoom t (n * (length strip - k))
+  pub counted : tallied t (bits_of n (drop k strip)) ≡ tallied tally_of_none (bits_of n strip)
+  pub written : page ≡ text (bits_of n (take k strip)) ++ drop (n * k) page₀
+
+abbrev pub invariant-loop-k : goal.invariant-loop-k
+invariant-loop-k l = Put l.n l.strip l.initial.page l.page l.t l.at l.k
+
+abbrev pub decreases-loop-k : goal.decreases-loop-k
+decreases-loop-k l = length l.strip - l.k

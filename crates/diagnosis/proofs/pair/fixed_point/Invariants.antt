@@ -1,0 +1,17 @@
+use mathlib.Core.Path.{◌≡◌, sym}
+use mathlib.Core.Bool.{false}
+use Prim.Native.Nat.{ℕ, ◌-◌, ◌<◌, ◌≤◌}
+use native.Mathlib.Omega.{arith}
+use borrow.Author.Tests.{eq-eqb, ne_eqb}
+use Rattle.cycle.proofs.Every.{extend}
+use Rattle.cycle.proofs.First.{first_is, first-none}
+use Rattle.completions.specs.Finding.{is_fixed}
+use Rattle.diagnosis.specs.Marks.{entry_of}
+use Rattle.diagnosis.proofs.Tables.{inside}
+use Rattle.diagnosis.proofs.pair.fixed_point.Given as goal
+
+abbrev pub invariant-loop-x : goal.invariant-loop-x
+invariant-loop-x l = (l.x ≤ l.size) × ((j : ℕ) → j < l.x → is_fixed (entry_of l.table) j ≡ false)
+
+abbrev pub decreases-loop-x : goal.decreases-loop-x
+decreases-loop-x l = l.size - l.x

@@ -1,0 +1,12 @@
+use mathlib.Core.Path.{◌≡◌, subst}
+use Prim.Native.Nat.{ℕ, ◌-◌, ◌≤◌}
+use native.Mathlib.Omega.{arith}
+use Rattle.diagnosis.specs.Marks.{entry_of, Tried}
+use Rattle.diagnosis.proofs.Tries.{tried-first, tried_all}
+use Rattle.diagnosis.proofs.shortest.shortest.Given as goal
+
+abbrev pub invariant-loop-x : goal.invariant-loop-x
+invariant-loop-x l = (l.x ≤ l.size) × Tried l.size (entry_of l.table) l.x l.found l.marks
+
+abbrev pub decreases-loop-x : goal.decreases-loop-x
+decreases-loop-x l = l.size - l.x

@@ -1,0 +1,35 @@
+use mathlib.Core.Path.{◌≡◌, refl, sym, ap, ◌∙◌}
+use mathlib.Core.List.{List}
+use Prim.Native.Nat.{ℕ}
+use native.Mathlib.Omega.{arith}
+use borrow.Author.Rules.{rules}
+use lib.ListN.{length, take}
+use Rattle.ties.specs.Ties.{ties, chosen}
+use Rattle.ties.proofs.Least.{ties_le}
+use Rattle.tries.specs.declared.row.Ranked.{Ranked}
+use Rattle.tries.specs.Tries.{ranked}
+use Rattle.changes.proofs.Listing.{length-changed}
+use Rattle.margin.proofs.changed.told.Goals as goal
+
+-- the changed times are as many
+size : (c : goal.After-changed_times-list) → let n = length c.args.times.now in length (take n c.changed_times-list.result) ≡ n
+size c = ap length c.changed_times-list.ensures ∙ length-changed _ _
+
+pub slice_bounds-pick_by-end : goal.slice_bounds-pick_by-end
+slice_bounds-pick_by-end c = sym (size c.before)
+
+pub pick_by-p-requires : goal.pick_by-p-requires
+pick_by-p-requires c = let n = size c.before in
+    (c.requires.width_le_widest_width.0, c.requires.width_le_widest_width.1 ∙ sym n, omega (arith, n, c.requires.place_in_bounds.0), omega (arith, n, c.requires.width_le_widest_width.2))
+
+pub overflow_cast-result : goal.overflow_cast-result
+overflow_cast-result c = omega (arith, c.pick_by-p.ensures.ties.0, ties_le (take (length c.args.times.now) c.changed_times-list.result), size c.before.before.before.before, c.requires.width_le_widest_width.2)
+
+pub returns : goal.returns
+returns c = let a = c.args in
+    let p = c.pick_by-p.ensures in
+    let e = c.changed_times-list.ensures in
+    let drawn : List ℕ → Ranked = λ ys. ranked a.known.width a.known.words (ties ys) in let both = (
+      (refl, refl, refl),
+      (p.shovel ∙ ap (λ (ys : List ℕ). chosen a.shovels.now ys (drawn ys).rank) e, (p.ties.0 ∙ ap ties e, p.ties.1 ∙ ap (λ (ys : List ℕ). (drawn ys).taken) e)),
+    ) in record { change = both.0; shovel = both.1; ties = both.2; taken = both.3; }

@@ -1,0 +1,6 @@
+use mathlib.Core.Path.{refl}
+use borrow.Author.Rules.{rules}
+use Rattle.outcomes.proofs.outcome.tie_at.Goals as goal
+
+pub returns : goal.returns
+returns c = rw c.if-own.false refl

@@ -1,0 +1,32 @@
+use mathlib.Core.Path.{◌≡◌, sym}
+use borrow.Author.Rules.{rules}
+use native.Mathlib.Omega.{arith}
+use lib.ListN.{length, take}
+use lib.Seq.{length-take-le}
+use Rattle.tsc.specs.Constants.{most_words}
+use Rattle.recorded_pick.proofs.Page.{left-tie, left-none}
+use Rattle.recorded_pick.proofs.call.record_tie.Goals as goal
+
+-- the words that are recorded
+sized : (s : goal.Start) → length s.args.held.words ≡ most_words
+sized s = search rules
+
+counted : (s : goal.Start) → length (take s.args.m s.args.held.words) ≡ s.args.m
+counted s = length-take-le s.args.m s.args.held.words (omega (arith, sized s, s.requires.0))
+
+pub slice_bounds-words-end : goal.slice_bounds-words-end
+slice_bounds-words-end c = omega (arith, sized c.before.before.before.before.before.before, c.requires.0)
+
+pub slice_bounds-put_record-end : goal.slice_bounds-put_record-end
+slice_bounds-put_record-end c = sym (counted c.before.before.before.before.before.before.before)
+
+pub put_record-requires : goal.put_record-requires
+put_record-requires c = (omega (arith, counted c.before.before.before.before.before.before.before.before, c.requires.0), omega (arith, counted c.before.before.before.before.before.before.before.before, c.requires.1))
+
+pub returns-then-ties-ne1 : goal.returns-then-ties-ne1
+returns-then-ties-ne1 c = let a = c.args in
+    left-tie a.truck (take a.m a.held.words) a.page.now c.picked-1.given.1 c.if-ties-ne1.true c.put_record.ensures
+
+pub returns-else-ties-ne1 : goal.returns-else-ties-ne1
+returns-else-ties-ne1 c = let a = c.args in
+    left-none a.truck (take a.m a.held.words) a.page.now c.picked-1.given.1 c.if-ties-ne1.false

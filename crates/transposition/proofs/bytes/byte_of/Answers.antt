@@ -1,0 +1,9 @@
+use mathlib.Core.Path.{ap}
+use Prim.Native.Nat.{ℕ, ◌/◌, ◌%◌}
+use native.Mathlib.Omega.{arith}
+use borrow.Author.Rules.{rules}
+use Rattle.cycle.proofs.Digits.{pow_mul}
+use Rattle.transposition.proofs.bytes.byte_of.Goals as goal
+
+pub returns : goal.returns
+returns c = ap (λ (a : ℕ). c.args.x / a % 256) (pow_mul 2 8 c.args.k)

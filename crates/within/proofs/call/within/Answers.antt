@@ -1,0 +1,78 @@
+use mathlib.Core.Path.{◌≡◌, sym, ap, ap₂, ◌∙◌}
+use mathlib.Core.Bool.{Bool, ◌&&◌}
+use native.Mathlib.Omega.{arith}
+use borrow.Author.Rules.{rules}
+use lib.ListN.{length, take, length-take}
+use Rattle.cycle.proofs.Count.{count_le}
+use Rattle.refusals.specs.Refusals.{first_of}
+use Rattle.places.specs.Distances.{square}
+use Rattle.places.specs.Places.{Places, placed, distances_of, on_map, is_radius, place_checks}
+use Rattle.places.proofs.Signed.{read_back}
+use Rattle.places.proofs.Distances.{length-distances}
+use Rattle.places.proofs.Places.{measured_read, distances_read}
+use Rattle.nearby.specs.Calls.{within_checks}
+use Rattle.nearby.proofs.Answers.{within-refused}
+use Rattle.within.specs.Sorting.{keys_of, is_listed}
+use Rattle.within.proofs.Sorting.{length_keys}
+use Rattle.within.proofs.Passed.{Free, free, listed_by}
+use Rattle.within.proofs.call.within.Goals as goal
+
+-- the places handed over, and the radius
+abbrev given : goal.After-places_refusal-told → Places
+given c = let a = c.args in placed a.x a.y a.shovels.now a.xs.now a.ys.now
+
+-- what is told of them
+told : (c : goal.After-places_refusal-told) → c.places_refusal-told.result ≡ first_of (within_checks (given c) c.args.radius)
+told c =
+    let q = given c in
+    let allowed : c.is_allowed-allowed.result ≡ (on_map q.x q.y q.xs q.ys && is_radius c.args.radius) =
+    c.is_allowed-allowed.ensures ∙ rw (read_back c.ranges.x, read_back c.ranges.y, read_back c.ranges.radius) in
+    c.places_refusal-told.ensures ∙ ap (λ (b : Bool). first_of (place_checks q.shovels q.xs q.ys b)) allowed
+
+-- past the test nothing is refused
+passed : (c : goal.Else-told-ne0) → first_of (within_checks (given c.before) c.args.radius) ≡ 0
+passed c = sym (told c.before) ∙ c.if-told-ne0.false
+
+going : (c : goal.Else-told-ne0) → Free (given c.before) c.args.radius
+going c = free _ _ (passed c)
+
+-- the keys
+keys : (c : goal.After-keys_of-found) → let q = given c.before.before.before in
+    take (length q.xs) c.keys_of-found.result ≡ keys_of q.shovels (distances_of q) (square c.args.radius)
+keys c =
+    let q = given c.before.before.before in
+    let limit = c.squared.ensures ∙ ap square (read_back c.ranges.radius) in
+    c.keys_of-found.ensures ∙ ap₂ (keys_of q.shovels) (distances_read q.x q.y q.xs q.ys c.ranges.x c.ranges.y) limit
+
+as_many : (c : goal.After-keys_of-found) → let n = length (given c.before.before.before).xs in length (take n c.keys_of-found.result) ≡ n
+as_many c =
+    let q = given c.before.before.before in
+    ap length (keys c) ∙ length_keys q.shovels (distances_of q) (square c.args.radius) ∙ length-distances q.x q.y q.xs q.ys
+
+pub returns-then-told-ne0 : goal.returns-then-told-ne0
+returns-then-told-ne0 c = c.refused.ensures ∙ within-refused (given c.before) c.args.radius _ c.if-told-ne0.true (told c.before)
+
+pub squared-requires : goal.squared-requires
+squared-requires c = rw (read_back c.ranges.radius) (going c).is_radius_lem
+
+pub keys_of-found-requires : goal.keys_of-found-requires
+keys_of-found-requires c = let f = going c.before in
+    (measured_read c.ranges.x c.ranges.y f.measurable, f.paired, f.few)
+
+pub slice_bounds-found-end : goal.slice_bounds-found-end
+slice_bounds-found-end c = omega (arith, as_many c, length-take (length (given c.before.before.before).xs) c.keys_of-found.result)
+
+pub slice_bounds-list_by-end : goal.slice_bounds-list_by-end
+slice_bounds-list_by-end c = sym (as_many c.before)
+
+pub list_by-count-requires : goal.list_by-count-requires
+list_by-count-requires c = let f = going c.before.before.before.before in
+    (as_many c.before.before ∙ sym f.paired, omega (arith, as_many c.before.before, f.few))
+
+pub overflow_cast-result : goal.overflow_cast-result
+overflow_cast-result c = let ks = take (length (given c.before.before.before).xs) c.keys_of-found.result in
+    omega (arith, c.list_by-count.ensures.counted, count_le (length ks) (is_listed ks), as_many c.before.before.before.before, (going c.before.before).few)
+
+pub returns : goal.returns
+returns c = let l = c.list_by-count.ensures in
+    listed_by (given c.before) c.args.radius (passed c.before.before.before.before.before.before) (λ i. (c.shared_slice_known-1.given i).fits) (keys c.before.before.before.before) l.counted l.after
