@@ -20,11 +20,6 @@ kept : (s : goal.Start) (x : Change) → let a = s.args in
     → a.best ≡ attempted a.known a.shovels.now a.times.now (change_to a.times.now a.i a.v) a.best
 kept s x e = let a = s.args in subst (λ (x : Change). a.best ≡ attempted a.known a.shovels.now a.times.now x a.best) e
 
--- the changed times
-moved : (s : goal.Start) → let a = s.args in
-    elsewhere a.known a.shovels.now (changed a.times.now (change_to a.times.now a.i a.v)) ≡ elsewhere a.known a.shovels.now (set a.times.now a.i a.v)
-moved s = let a = s.args in ap (elsewhere a.known a.shovels.now) (changed_to a.times.now a.i a.v)
-
 pub returns-then-c-eq0 : goal.returns-then-c-eq0
 returns-then-c-eq0 c = kept c.before.before.before.before.before.before _ c.change_to-c.ensures (attempt_none _ _ _ _ _ c.if-c-eq0.true)
 
@@ -36,7 +31,7 @@ returns-then-not-comes_first c = let later = sym c.comes_first.ensures ∙ not-t
     kept c.before.before.before.before.before.before.before.before _ c.change_to-c.ensures (attempt_later _ _ _ _ _ later)
 
 pub returns-then-not-goes_elsewhere : goal.returns-then-not-goes_elsewhere
-returns-then-not-goes_elsewhere c = attempt_stays _ _ _ _ _ (moved c.before.before.before.before.before.before.before.before.before.before ∙ sym c.goes_elsewhere.ensures ∙ not-true _ c.if-not-goes_elsewhere.true)
+returns-then-not-goes_elsewhere c = attempt_stays _ _ _ _ _ ((let a = c.args in ap (elsewhere a.known a.shovels.now) (changed_to a.times.now a.i a.v)) ∙ sym c.goes_elsewhere.ensures ∙ not-true _ c.if-not-goes_elsewhere.true)
 
 pub returns : goal.returns
 returns c = let a = c.args in
@@ -44,4 +39,4 @@ returns c = let a = c.args in
     let first = ap (λ (x : Change). comes_first a.shovels.now x a.best) (sym e) ∙ sym c.comes_first.ensures ∙ not-false _ c.if-not-comes_first.false in
     ap Least e ∙ attempt_best a.known a.shovels.now a.times.now (change_to a.times.now a.i a.v) a.best
     (λ z. c.if-c-eq0.false (ap (λ (x : Change). x.seconds) e ∙ z)) first
-    (moved c.before.before.before.before.before.before.before.before.before.before ∙ sym c.goes_elsewhere.ensures ∙ not-false _ c.if-not-goes_elsewhere.false)
+    ((let a = c.args in ap (elsewhere a.known a.shovels.now) (changed_to a.times.now a.i a.v)) ∙ sym c.goes_elsewhere.ensures ∙ not-false _ c.if-not-goes_elsewhere.false)

@@ -12,16 +12,11 @@ use Rattle.card_format.proofs.Sound.{sound_card}
 use Rattle.card_format.proofs.Verdict.{answering-refused, verdict-form, verdict-period, reading-sound, words-sound}
 use Rattle.card.proofs.check.accept.Goals as goal
 
--- ---- what is known at a place of the code
--- past the reader the card is of sound form, and its values are known
-sound : (c : goal.Else-found-ne0) → let card = c.args.card.now in SoundForm card × (c.read-found.result.card ≡ card_of card)
-sound c = reading-sound _ _ c.read-found.ensures c.if-found-ne0.false
-
 -- and what is told of them is the verdict
 told : (c : goal.After-period_refusal-number) → c.period_refusal-number.result ≡ verdict c.args.card.now
 unfolding period_checks
 told c =
-    let h = sound c.before.before in
+    let h = (reading-sound _ _ c.read-found.ensures c.if-found-ne0.false) in
     c.period_refusal-number.ensures ∙ ap (λ (card : Card). first_of (period_checks card)) h.1 ∙ verdict-period _ h.0
 
 -- ---- the needs
@@ -35,7 +30,7 @@ returns-then-found-ne0 c = let card = c.args.card.now in
     e ∙ ap (λ (r : ℕ). answering r (card_of card)) (verdict-form card (λ z. c.if-found-ne0.true (ap (λ (r : Reading). r.refusal) e ∙ z)))
 
 pub period_refusal-number-requires : goal.period_refusal-number-requires
-period_refusal-number-requires c = let h = sound c.before in
+period_refusal-number-requires c = let h = (reading-sound _ _ c.read-found.ensures c.if-found-ne0.false) in
     subst (λ (card : Card). (card.words ≤ most_words) × ((y : ℕ) → y < 2 ^ card.words → entry card y < 2 ^ card.words)) (sym h.1)
     (words-sound _ h.0, (sound_card _ h.0).entries)
 

@@ -29,21 +29,12 @@ table_bytes card k size t z r w e =
 is : (c : goal.Else-not-is_written) → let a = c.args in is_written a.card a.k ≡ true
 is c = sym c.is_written.ensures ∙ not-false _ c.if-not-is_written.false
 
--- with its whole extent
-whole : (c : goal.After-extent_of-size) → let a = c.args in c.extent_of-size.result ≡ length (field_bytes a.card a.k)
-whole c =
-    let a = c.args in
-    c.extent_of-size.ensures ∙ sym (length-field_bytes a.card a.k ∙ rw (is c.before) refl)
-
-sized : (c : goal.After-extent_of-size) → length c.args.card.table ≡ 2 ^ most_words
-sized c = search rules
-
 -- the bytes that are put at the start of the part are the field's
 put : (c : goal.After-extent_of-size) → let a = c.args in let n = c.extent_of-size.result in let b = field_bytes a.card a.k in
     (xs ys : List ℕ) → ys ≡ xs ++ drop n a.part.now → xs ≡ b → (n ≡ length b) × (ys ≡ b ++ drop (length b) a.part.now)
 put c xs ys e d =
     let a = c.args in
-    (whole c, e ∙ ap₂ (λ (xs : List ℕ) (n : ℕ). xs ++ drop n a.part.now) d (whole c))
+    ((let a = c.args in c.extent_of-size.ensures ∙ sym (length-field_bytes a.card a.k ∙ rw (is c.before) refl)), e ∙ ap₂ (λ (xs : List ℕ) (n : ℕ). xs ++ drop n a.part.now) d ((let a = c.args in c.extent_of-size.ensures ∙ sym (length-field_bytes a.card a.k ∙ rw (is c.before) refl))))
 
 -- ---- the needs
 pub is_written-requires : goal.is_written-requires
@@ -58,18 +49,18 @@ extent_of-size-requires c = (c.requires.k_lt_field_count.0, range_words c.args.c
 pub put_table-requires : goal.put_table-requires
 put_table-requires c = (
       omega (arith, c.extent_of-size.ensures, extent-few c.args.card.words (range_words c.args.card c.requires.k_lt_field_count.1) c.args.k c.requires.k_lt_field_count.0),
-      sized c.before.before.before,
-      omega (arith, whole c.before.before.before, c.requires.k_in_bounds),
+      (search rules),
+      omega (arith, (let a = c.args in c.extent_of-size.ensures ∙ sym (length-field_bytes a.card a.k ∙ rw (is c.before) refl)), c.requires.k_in_bounds),
     )
 
 pub returns-then-k-eq-TABLE : goal.returns-then-k-eq-TABLE
 returns-then-k-eq-TABLE c = let both = put c.before.before.before.before.before.before _ _ c.put_table.ensures
-    (table_bytes c.args.card c.args.k c.extent_of-size.result c.if-k-eq-TABLE.true (sized c.before.before.before.before.before.before) c.requires.k_lt_field_count.1 (is c.before) c.extent_of-size.ensures) in record { value = both.0; part_after = both.1; }
+    (table_bytes c.args.card c.args.k c.extent_of-size.result c.if-k-eq-TABLE.true ((search rules)) c.requires.k_lt_field_count.1 (is c.before.before.before.before.before.before.before) c.extent_of-size.ensures) in record { value = both.0; part_after = both.1; }
 
 pub put_number-requires : goal.put_number-requires
-put_number-requires c = omega (arith, whole c.before.before.before, c.requires.k_in_bounds)
+put_number-requires c = omega (arith, (let a = c.args in c.extent_of-size.ensures ∙ sym (length-field_bytes a.card a.k ∙ rw (is c.before) refl)), c.requires.k_in_bounds)
 
 pub returns : goal.returns
 returns c = let n = c.number_of in let both = put c.before.before.before.before.before.before _ _ c.put_number.ensures
     (ap (low_bytes n.result) c.extent_of-size.ensures
-    ∙ sym (field_bytes-one c.args.card c.args.k n.result c.requires.k_lt_field_count.0 c.if-k-eq-TABLE.false n.ensures (is c.before))) in record { value = both.0; part_after = both.1; }
+    ∙ sym (field_bytes-one c.args.card c.args.k n.result c.requires.k_lt_field_count.0 c.if-k-eq-TABLE.false n.ensures (is c.before.before.before.before.before.before.before))) in record { value = both.0; part_after = both.1; }

@@ -23,11 +23,6 @@ use Rattle.card_read.proofs.Table.{table_to, table_start, table_length, rest_tab
 use lib.Dec.{lit<}
 use Rattle.card_read.proofs.read.read.Goals as goal
 
--- ---- what is known at a place of the code
--- the card's bytes, seen from the loop
-abbrev bytes : goal.At-loop → List ℕ
-bytes c = c.args.card.now
-
 -- within the loop a field is left
 some : (c : goal.In-loop) → 0 < c.loop.left
 some c = ones_some c.loop.left (omega arith)
@@ -36,45 +31,16 @@ some c = ones_some c.loop.left (omega arith)
 given : (c : goal.Else-table_missing) → let l = c.loop in missing l.next (count_trailing_zeros 8 l.left) (get_or l.v.numbers 0 0) ≡ false
 given c = sym c.table_missing.ensures ∙ c.if-table_missing.false
 
--- a field's reader had the bytes from the field's start on
-told : (c : goal.After-read_field-v) → let l = c.loop in
-    let k = count_trailing_zeros 8 l.left in let part = drop l.at (bytes o) in
-    (c.read_field-v.result ≡ field_read k part l.v) × (c.read_field-v.new.1.1.1.0 ≡ table_read k part l.v l.table)
-told c =
-    let l = c.loop in
-    let k = count_trailing_zeros 8 l.left in
-    let rest = part_rest l.at (bytes c.before.before.before.before.before.before.before) in (
-      c.read_field-v.ensures.value ∙ ap (λ (part : List ℕ). field_read k part l.v) rest,
-      c.read_field-v.ensures.used_in_bounds.1 ∙ ap (λ (part : List ℕ). table_read k part l.v l.table) rest,
-    )
-
 -- after the loop nothing is left
-ended : (c : goal.After-loop) → let l = c.loop in Rest (bytes c.before) 0 l.next l.at l.v
+ended : (c : goal.After-loop) → let l = c.loop in Rest c.args.card.now 0 l.next l.at l.v
 ended c =
     let l = c.loop in
-    subst (λ (left : ℕ). Rest (bytes c.before) left l.next l.at l.v) (ones_none l.left l.invariant.0.fields.small (omega (arith, l.invariant.1))) l.invariant.0
-
--- and the end's refusal is the form's
-end-told : (c : goal.After-end_refusal-told) → first_of (form_checks (bytes c.before.before)) ≡ c.end_refusal-told.result
-end-told c =
-    let l = c.loop in
-    told_end _ l.next l.at l.v (ended c.before) l.invariant.2 ∙ sym c.end_refusal-told.ensures
-
--- where that is none, all fields are read
-passed : (c : goal.Else-told-ne0) → let l = c.loop in Reached (bytes c.before.before.before) field_count l.at l.v
-passed c =
-    let l = c.loop in
-    end_reached _ l.next l.at l.v (ended c.before.before) l.invariant.2 (sym c.end_refusal-told.ensures ∙ c.if-told-ne0.false)
-
--- so the card is that of the numbers and of a table that is the card's
-low : (c : goal.Else-told-ne0) → let v = c.loop.v in
-    (k : ℕ) → k < field_count → k ≢ table_bit → k ≢ constant_bit → get_or v.numbers k 0 < 256
-low c = let l = c.loop in byte-values _ (none_first _ (end-told c.before ∙ c.if-told-ne0.false)) l.at l.v (passed c)
+    subst (λ (left : ℕ). Rest c.args.card.now left l.next l.at l.v) (ones_none l.left l.invariant.0.fields.small (omega (arith, l.invariant.1))) l.invariant.0
 
 accepted : (c : goal.Else-told-ne0) (r : Reading) (t : List ℕ) → r ≡ answering 0 (card_from (λ k. get_or c.loop.v.numbers k 0) t) → t ≡ padded (values (bytes o) table_bit) → r ≡ reading (bytes o)
 accepted c r t e d =
     let l = c.loop in
-    e ∙ ap (answering 0) (card_read _ l.at l.v t (passed c) d) ∙ reading-accepted _ (end-told c.before ∙ c.if-told-ne0.false)
+    e ∙ ap (answering 0) (card_read _ l.at l.v t ((let l = c.loop in end_reached _ l.next l.at l.v (ended c.before.before) l.invariant.2 (sym c.end_refusal-told.ensures ∙ c.if-told-ne0.false))) d) ∙ reading-accepted _ ((let l = c.loop in told_end _ l.next l.at l.v (ended c.before) l.invariant.2 ∙ sym c.end_refusal-told.ensures) ∙ c.if-told-ne0.false)
 
 -- ---- the needs
 pub refused-requires : goal.refused-requires
@@ -108,7 +74,7 @@ returns-then-table_missing c = let l = c.loop in
 
 pub read_field-v-requires : goal.read_field-v-requires
 read_field-v-requires c = let l = c.loop in (
-      (rest_here _ l.left l.next l.at l.v l.invariant.0 (some c.before.before.before) (given c.before.before)).1,
+      (rest_here _ l.left l.next l.at l.v l.invariant.0 (some c.before.before.before.before.before) (given c.before.before)).1,
       words-few _ l.next l.at l.v l.invariant.0.reached,
       l.invariant.4,
     )
@@ -116,7 +82,7 @@ read_field-v-requires c = let l = c.loop in (
 pub returns-then-v-ne0 : goal.returns-then-v-ne0
 returns-then-v-ne0 c = let l = c.loop in
     c.refused-then-v-ne0.ensures ∙ reading-refused _ _ c.if-v-ne0.true
-    (rest_refused _ l.left l.next l.at l.v _ l.invariant.0 (some c.before.before.before) (given c.before.before.before.before.before) (told c.before.before).0 c.if-v-ne0.true)
+    (rest_refused _ l.left l.next l.at l.v _ l.invariant.0 (some c.before.before.before.before.before.before.before.before) (given c.before.before.before.before.before) ((let l = c.loop in let k = count_trailing_zeros 8 l.left in let rest = part_rest l.at c.args.card.now in ( c.read_field-v.ensures.value ∙ ap (λ (part : List ℕ). field_read k part l.v) rest, c.read_field-v.ensures.used_in_bounds.1 ∙ ap (λ (part : List ℕ). table_read k part l.v l.table) rest, ))).0 c.if-v-ne0.true)
 
 pub overflow_add-next : goal.overflow_add-next
 overflow_add-next c = omega (arith, trailing_le 8 c.loop.left)
@@ -127,7 +93,7 @@ overflow_sub-left c = some c.before.before.before.before.before.before.before
 pub loop-preserved : goal.loop-preserved
 loop-preserved c = let l = c.loop in
     let low = lowest_one l.left (some c.before.before.before.before.before.before.before) l.invariant.0.fields.small in
-    let r = told c.before in (
+    let r = (let l = c.loop in let k = count_trailing_zeros 8 l.left in let rest = part_rest l.at c.args.card.now in ( c.read_field-v.ensures.value ∙ ap (λ (part : List ℕ). field_read k part l.v) rest, c.read_field-v.ensures.used_in_bounds.1 ∙ ap (λ (part : List ℕ). table_read k part l.v l.table) rest, )) in (
       rest_next _ l.left l.next l.at l.v _ l.invariant.0 (some c.before.before.before.before.before.before.before) (given c.before.before.before.before) r.0 c.if-v-ne0.false,
       omega (arith, low.count, l.invariant.1),
       omega (arith, low.within),
@@ -137,18 +103,18 @@ loop-preserved c = let l = c.loop in
     )
 
 pub returns-then-told-ne0 : goal.returns-then-told-ne0
-returns-then-told-ne0 c = c.refused-then-told-ne0.ensures ∙ reading-refused _ _ c.if-told-ne0.true (end-told c.before.before)
+returns-then-told-ne0 c = c.refused-then-told-ne0.ensures ∙ reading-refused _ _ c.if-told-ne0.true ((let l = c.loop in told_end _ l.next l.at l.v (ended c.before) l.invariant.2 ∙ sym c.end_refusal-told.ensures))
 
 pub passed-requires : goal.passed-requires
-passed-requires c = low c.before.before.before
+passed-requires c = (let l = c.loop in byte-values _ (none_first _ ((let l = c.loop in told_end _ l.next l.at l.v (ended c.before) l.invariant.2 ∙ sym c.end_refusal-told.ensures) ∙ c.if-told-ne0.false)) l.at l.v ((let l = c.loop in end_reached _ l.next l.at l.v (ended c.before.before) l.invariant.2 (sym c.end_refusal-told.ensures ∙ c.if-told-ne0.false))))
 
 pub returns-then-card-eq0-2 : goal.returns-then-card-eq0-2
-returns-then-card-eq0-2 c = accepted c.before.before.before.before _ _ c.passed.ensures (c.absent_table.ensures ∙ table_absent (bytes c.before.before.before) (rw c.if-card-eq0-2.true refl))
+returns-then-card-eq0-2 c = accepted c.before.before.before.before _ _ c.passed.ensures (c.absent_table.ensures ∙ table_absent c.args.card.now (rw c.if-card-eq0-2.true refl))
 
 pub passed-requires-2 : goal.passed-requires-2
-passed-requires-2 c = low c.before.before
+passed-requires-2 c = (let l = c.loop in byte-values _ (none_first _ ((let l = c.loop in told_end _ l.next l.at l.v (ended c.before) l.invariant.2 ∙ sym c.end_refusal-told.ensures) ∙ c.if-told-ne0.false)) l.at l.v ((let l = c.loop in end_reached _ l.next l.at l.v (ended c.before.before) l.invariant.2 (sym c.end_refusal-told.ensures ∙ c.if-told-ne0.false))))
 
 pub returns : goal.returns
 returns c = let l = c.loop in
-    let given = eq-eqb (bit table_bit (get_or (bytes c.before.before.before.before.before.before) 0 0)) 1 (omega (arith, c.if-card-eq0-2.false)) in
-    accepted c.before.before.before _ _ c.passed-2.ensures (table_given _ l.next l.at l.v l.table (ended c.before.before) l.invariant.2 given l.invariant.5)
+    let given = eq-eqb (bit table_bit (get_or c.args.card.now 0 0)) 1 (omega (arith, c.if-card-eq0-2.false)) in
+    accepted c.before.before.before _ _ c.passed-2.ensures (table_given _ l.next l.at l.v l.table (ended c.before.before.before.before.before) l.invariant.2 given l.invariant.5)

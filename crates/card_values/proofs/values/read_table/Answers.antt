@@ -24,11 +24,6 @@ stored_as : (part : List ℕ) (v : Values) (size : ℕ) → size ≡ 2 ^ get_or 
 unfolding field_read field fields
 stored_as part v size es e = rw e (ap {B = Values} (λ (n : ℕ). record { refusal = 0; used = n; numbers = v.numbers }) (es ∙ sym (mul-one _)))
 
--- ---- what is known at a place of the code
--- past the first test the table's bytes are there
-long : (c : goal.Else-part-size) → let a = c.args in 2 ^ get_or a.v.numbers 0 0 ≤ length a.part.now
-long c = omega (arith, c.entries-size.ensures, c.if-part-size.false)
-
 -- and are put over the table's first entries
 over-table : (c : goal.After-put_entries) → let a = c.args in
     c.put_entries.new.1.1.0 ≡ over a.part.now a.table.now (2 ^ get_or a.v.numbers 0 0)
@@ -39,13 +34,13 @@ over-table c =
 table-read : (c : goal.After-put_entries) → let a = c.args in
     c.put_entries.new.1.1.0 ≡ table_read table_bit a.part.now a.v a.table.now
 unfolding table_read
-table-read c = rw (le-leb _ _ (long c.before.before)) (over-table c)
+table-read c = rw (le-leb _ _ ((omega (arith, c.entries-size.ensures, c.if-part-size.false)))) (over-table c)
 
 sized : (c : goal.After-put_entries) → length c.put_entries.new.1.1.0 ≡ 2 ^ most_words
 sized c =
     let m = get_or c.args.v.numbers 0 0 in
     ap (λ (t : List ℕ). length t) (over-table c)
-    ∙ length_over _ c.args.table.now (2 ^ m) (long c.before.before) (omega (arith, c.requires.1, few-entries m c.requires.0)) ∙ c.requires.1
+    ∙ length_over _ c.args.table.now (2 ^ m) ((omega (arith, c.entries-size.ensures, c.if-part-size.false))) (omega (arith, c.requires.1, few-entries m c.requires.0)) ∙ c.requires.1
 
 -- so the field's refusal goes by the table
 by_table : (c : goal.After-put_entries) → let a = c.args in let m = get_or a.v.numbers 0 0 in
@@ -54,7 +49,7 @@ by_table : (c : goal.After-put_entries) → let a = c.args in let m = get_or a.v
 by_table c =
     let a = c.args in
     let size = 2 ^ get_or a.v.numbers 0 0 in
-    let h = long c.before.before in
+    let h = (omega (arith, c.entries-size.ensures, c.if-part-size.false)) in
     table_refusal _ a.part.now h _ (ap (take size) (over-table c) ∙ take_at (take size a.part.now) _ size (length-take-le size a.part.now h))
 
 -- past the second test its entries are allowed
@@ -76,7 +71,7 @@ pub put_entries-requires : goal.put_entries-requires
 put_entries-requires c = (omega (arith, c.entries-size.ensures, few-entries (get_or c.args.v.numbers 0 0) c.requires.0), c.if-part-size.false, c.requires.1)
 
 pub entries_allowed-requires : goal.entries_allowed-requires
-entries_allowed-requires c = (omega arith, sized c.before)
+entries_allowed-requires c = (omega arith, sized c)
 
 pub returns-then-not-entries_allowed : goal.returns-then-not-entries_allowed
 returns-then-not-entries_allowed c = record { value = c.refused_at-then-not-entries_allowed.ensures ∙ field-refused table_bit _ _ 2 refl
@@ -85,7 +80,7 @@ returns-then-not-entries_allowed c = record { value = c.refused_at-then-not-entr
     ); }
 
 pub is_tsc1-requires : goal.is_tsc1-requires
-is_tsc1-requires c = (omega arith, sized c.before.before.before.before)
+is_tsc1-requires c = (omega arith, sized c.before.before)
 
 pub returns-then-is_tsc1 : goal.returns-then-is_tsc1
 returns-then-is_tsc1 c = record { value = c.refused_at-then-is_tsc1.ensures ∙ field-refused table_bit _ _ 3 refl

@@ -10,15 +10,6 @@ use Rattle.columns.proofs.power.powers_of.Goals as goal
 few : (c : goal.At-loop) (j : ℕ) {e : ℕ} → e ≡ stands c.args.table.now j → e < 2 ^ most_words
 few c j e = rw e (stands-few c.args.m c.args.table.now c.requires.2 c.requires.1 j)
 
-few-x : (c : goal.At-loop) → c.loop.x < 2 ^ most_words
-few-x c = few c c.loop.counter c.loop.invariant.2
-
-few-y : (c : goal.At-loop) → c.loop.y < 2 ^ most_words
-few-y c = few c (c.args.odd + c.loop.counter) c.loop.invariant.3.0
-
-few-z : (c : goal.At-loop) → c.loop.z < 2 ^ most_words
-few-z c = few c (c.args.even + c.loop.counter) c.loop.invariant.4.0
-
 pub entry_after-y-requires : goal.entry_after-y-requires
 entry_after-y-requires c = c.requires
 
@@ -39,34 +30,34 @@ loop-init c = let a = c.args in (
     )
 
 pub overflow_cast-p : goal.overflow_cast-p
-overflow_cast-p c = omega (arith, few-x c.before)
+overflow_cast-p c = omega (arith, (few c c.loop.counter c.loop.invariant.2))
 
 pub bounds-p-x : goal.bounds-p-x
-bounds-p-x c = few-x c.before
+bounds-p-x c = (few c c.loop.counter c.loop.invariant.2)
 
 pub overflow_cast-p-in-loop : goal.overflow_cast-p-in-loop
-overflow_cast-p-in-loop c = omega (arith, few-x c.before)
+overflow_cast-p-in-loop c = omega (arith, (few c c.loop.counter c.loop.invariant.2))
 
 pub bounds-p-x-in-loop : goal.bounds-p-x-in-loop
-bounds-p-x-in-loop c = few-x c.before
+bounds-p-x-in-loop c = (few c c.loop.counter c.loop.invariant.2)
 
 pub overflow_cast-x : goal.overflow_cast-x
-overflow_cast-x c = omega (arith, few-x c.before)
+overflow_cast-x c = omega (arith, (few c c.loop.counter c.loop.invariant.2))
 
 pub bounds-table-x : goal.bounds-table-x
-bounds-table-x c = few-x c.before.before
+bounds-table-x c = (few c c.loop.counter c.loop.invariant.2)
 
 pub overflow_cast-y : goal.overflow_cast-y
-overflow_cast-y c = omega (arith, few-y c.before.before)
+overflow_cast-y c = omega (arith, (few c (c.args.odd + c.loop.counter) c.loop.invariant.3.0))
 
 pub bounds-table-y : goal.bounds-table-y
-bounds-table-y c = few-y c.before.before.before
+bounds-table-y c = (few c (c.args.odd + c.loop.counter) c.loop.invariant.3.0)
 
 pub overflow_cast-z : goal.overflow_cast-z
-overflow_cast-z c = omega (arith, few-z c.before.before.before)
+overflow_cast-z c = omega (arith, (few c (c.args.even + c.loop.counter) c.loop.invariant.4.0))
 
 pub bounds-table-z : goal.bounds-table-z
-bounds-table-z c = few-z c.before.before.before.before
+bounds-table-z c = (few c (c.args.even + c.loop.counter) c.loop.invariant.4.0)
 
 pub loop-preserved : goal.loop-preserved
 loop-preserved c = let l = c.loop in

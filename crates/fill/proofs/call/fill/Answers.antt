@@ -16,54 +16,39 @@ use Rattle.gates.proofs.GateStep.{only-p1}
 use Rattle.fills.proofs.Filling.{refused_call, refused_span, made}
 use Rattle.fill.proofs.call.fill.Goals as goal
 
--- the card as it was accepted
-abbrev given : goal.After-call_refusal-refused → Card
-given o = o.accept-found.result.card
-
--- what is told of the card and the state
-refusal : (o : goal.After-call_refusal-refused) → let a = o.args in o.call_refusal-refused.result ≡ refusal_for a.card.now a.state.now
-refusal o = told _ _ o.accept-found.result o.accept-found.ensures o.call_refusal-refused.ensures
-
 -- past the first test they are not refused
 passing : (c : goal.Else-refused-ne0) → let a = c.args in Clear a.card.now a.state.now (given o)
-passing c = clear _ _ c.accept-found.result c.accept-found.ensures (sym (refusal c.before) ∙ c.if-refused-ne0.false)
+passing c = clear _ _ c.accept-found.result c.accept-found.ensures (sym ((told _ _ c.accept-found.result c.accept-found.ensures c.call_refusal-refused.ensures)) ∙ c.if-refused-ne0.false)
 
 -- the gate formulas are taken for TSC-1's card alone
 asked : (c : goal.Else-refused-ne0) → OnlyTsc1 c.is_tsc1-is_tsc1.result (given o)
 asked c = only-p1 _ _ _ (passing c).card_is c.is_tsc1-is_tsc1.ensures
 
--- past the second the span is not
-fits : (c : goal.Else-told-ne0) → let a = c.args in first_of (span_checks (length a.strip.now) a.place a.count) ≡ 0
-fits c = sym c.span_refusal-told.ensures ∙ c.if-told-ne0.false
-
-inside : (c : goal.Else-told-ne0) → let a = c.args in a.place + a.count ≤ length a.strip.now
-inside c = span_within _ _ _ (fits c)
-
 pub returns-then-refused-ne0 : goal.returns-then-refused-ne0
-returns-then-refused-ne0 c = let a = c.args in let both = refused_call a.card.now a.state.now a.strip.now a.place a.count _ (refusal c.before) c.if-refused-ne0.true in record { answer = both.0; words = both.1; after = both.2; }
+returns-then-refused-ne0 c = let a = c.args in let both = refused_call a.card.now a.state.now a.strip.now a.place a.count _ ((told _ _ c.accept-found.result c.accept-found.ensures c.call_refusal-refused.ensures)) c.if-refused-ne0.true in record { answer = both.0; words = both.1; after = both.2; }
 
 pub returns-then-told-ne0 : goal.returns-then-told-ne0
 returns-then-told-ne0 c = let both = refused_span _ _ _ _ _ (passing c.before.before) _ c.span_refusal-told.ensures c.if-told-ne0.true in record { answer = both.0; words = both.1; after = both.2; }
 
 pub load-held-requires : goal.load-held-requires
-load-held-requires c = few (passing c.before.before.before.before)
+load-held-requires c = few (passing c.before.before.before)
 
 pub offset_bounds-strip-place : goal.offset_bounds-strip-place
-offset_bounds-strip-place c = omega (arith, inside c.before.before.before)
+offset_bounds-strip-place c = omega (arith, (span_within _ _ _ ((sym c.span_refusal-told.ensures ∙ c.if-told-ne0.false))))
 
 pub slice_bounds-fill_words-count : goal.slice_bounds-fill_words-count
-slice_bounds-fill_words-count c = omega (arith, inside c.before.before.before)
+slice_bounds-fill_words-count c = omega (arith, (span_within _ _ _ ((sym c.span_refusal-told.ensures ∙ c.if-told-ne0.false))))
 
 pub slice_bounds-fill_words-start : goal.slice_bounds-fill_words-start
-slice_bounds-fill_words-start c = let h = inside c.before.before in search rules
+slice_bounds-fill_words-start c = let h = (span_within _ _ _ ((sym c.span_refusal-told.ensures ∙ c.if-told-ne0.false))) in search rules
 
 pub fill_words-last-requires : goal.fill_words-last-requires
 fill_words-last-requires c = let k = passing c.before.before.before.before.before in
     let a = c.args in
-    (accepted k, ready k c.load-held.ensures, omega (arith, inside c.before.before.before, ap length (part_rest a.place a.strip.now), length-drop a.place a.strip.now), asked c.before.before)
+    (accepted k, ready k c.load-held.ensures, omega (arith, (span_within _ _ _ ((sym c.span_refusal-told.ensures ∙ c.if-told-ne0.false))), ap length (part_rest a.place a.strip.now), length-drop a.place a.strip.now), asked c.before.before.before.before.before)
 
 pub store-requires : goal.store-requires
-store-requires c = few (passing c.before.before.before.before.before.before.before.before.before.before)
+store-requires c = few (passing c.before.before.before.before.before.before.before.before.before)
 
 pub returns : goal.returns
-returns c = let both = made _ _ _ _ _ (passing c.before.before) (fits c.before.before.before.before.before.before.before.before.before.before) c.load-held.ensures c.fill_words-last.ensures.value c.fill_words-last.ensures.words_after c.store.ensures in record { answer = both.0; words = both.1; after = both.2; }
+returns c = let both = made _ _ _ _ _ (passing c.before.before.before.before.before.before.before.before.before.before.before.before) ((sym c.span_refusal-told.ensures ∙ c.if-told-ne0.false)) c.load-held.ensures c.fill_words-last.ensures.value c.fill_words-last.ensures.words_after c.store.ensures in record { answer = both.0; words = both.1; after = both.2; }

@@ -13,48 +13,28 @@ use Rattle.stepping.proofs.Columns.{sized, cycled}
 use Rattle.generator.proofs.Found.{clear_tsc1}
 use Rattle.generator.proofs.call.draw.Goals as goal
 
-abbrev bytes : goal.After-call_refusal-told → List ℕ
-bytes o = o.args.card.now
-
-abbrev xs : goal.After-call_refusal-told → List ℕ
-xs o = o.args.state.now
-
--- the card as it was accepted
-abbrev given : goal.After-call_refusal-told → Card
-given o = o.accept-found.result.card
-
--- what is told
-refusal : (o : goal.After-call_refusal-told) → o.call_refusal-told.result ≡ refusal_for (bytes o) (xs o)
-refusal o = told (bytes o) (xs o) o.accept-found.result o.accept-found.ensures o.call_refusal-told.ensures
-
 -- past the first test nothing is refused
-passing : (c : goal.Else-told-ne0) → Clear (bytes c.before) (xs c.before) (given c.before)
-passing c = clear (bytes c.before) (xs c.before) c.accept-found.result c.accept-found.ensures (sym (refusal c.before) ∙ c.if-told-ne0.false)
-
--- what the step asks for
-steps : (c : goal.After-powers_of-p) → Steps (given c.before.before.before) c.terms_of-terms.result c.powers_of-p.result.odd c.powers_of-p.result.even c.load-held.result
-steps c =
-    let k = passing c.before.before.before.before.before.before.before.before.before in
-    record { accepted = accepted k; holds = ready k c.load-held.ensures; selects = c.terms_of-terms.ensures; first = c.powers_of-p.ensures.0; second = c.powers_of-p.ensures.1 }
+passing : (c : goal.Else-told-ne0) → Clear c.args.card.now c.args.state.now c.accept-found.result.card
+passing c = clear c.args.card.now c.args.state.now c.accept-found.result c.accept-found.ensures (sym ((told c.args.card.now c.args.state.now c.accept-found.result c.accept-found.ensures c.call_refusal-told.ensures)) ∙ c.if-told-ne0.false)
 
 pub returns-then-told-ne0 : goal.returns-then-told-ne0
-returns-then-told-ne0 c = let both = draw_refused (bytes c.before) (xs c.before) _ (refusal c.before) c.if-told-ne0.true in record { answer = both.0; after = both.1; narrow = both.2; }
+returns-then-told-ne0 c = let both = draw_refused c.args.card.now c.args.state.now _ ((told c.args.card.now c.args.state.now c.accept-found.result c.accept-found.ensures c.call_refusal-told.ensures)) c.if-told-ne0.true in record { answer = both.0; after = both.1; narrow = both.2; }
 
 pub load-held-requires : goal.load-held-requires
-load-held-requires c = few (passing c.before)
+load-held-requires c = few (passing c)
 
 pub store-requires : goal.store-requires
 store-requires c = few (passing c.before.before.before.before.before.before)
 
 -- TSC-1, by its gate formulas
 pub returns-then-is_tsc1 : goal.returns-then-is_tsc1
-returns-then-is_tsc1 c = let e = c.next_output-made.ensures in let both = draw_made (clear_tsc1 (passing c.before.before) c.is_tsc1.ensures c.if-is_tsc1.true) c.load-held.ensures (ap (λ (o : Output). o.word) e) (ap (λ (o : Output). o.state) e) c.store.ensures in record { answer = both.0; after = both.1; narrow = both.2; }
+returns-then-is_tsc1 c = let e = c.next_output-made.ensures in let both = draw_made (clear_tsc1 (passing c.before.before.before.before.before.before.before.before.before) c.is_tsc1.ensures c.if-is_tsc1.true) c.load-held.ensures (ap (λ (o : Output). o.word) e) (ap (λ (o : Output). o.state) e) c.store.ensures in record { answer = both.0; after = both.1; narrow = both.2; }
 
 pub terms_of-terms-requires : goal.terms_of-terms-requires
-terms_of-terms-requires c = sized (given c.before) (accepted (passing c.before.before.before.before))
+terms_of-terms-requires c = sized c.accept-found.result.card (accepted (passing c.before.before.before.before))
 
 pub rotations_of-rotations-requires : goal.rotations_of-rotations-requires
-rotations_of-rotations-requires c = let z = sized (given c.before) (accepted (passing c.before.before.before.before.before.before)) in (z.0, z.1)
+rotations_of-rotations-requires c = let z = sized c.accept-found.result.card (accepted (passing c.before.before.before.before.before.before)) in (z.0, z.1)
 
 pub overflow_cast-found-2 : goal.overflow_cast-found-2
 overflow_cast-found-2 c = omega (arith, c.accept-found.type_inv)
@@ -63,13 +43,13 @@ pub overflow_cast-found-3 : goal.overflow_cast-found-3
 overflow_cast-found-3 c = omega (arith, c.accept-found.type_inv)
 
 pub powers_of-p-requires : goal.powers_of-p-requires
-powers_of-p-requires c = cycled (given c.before) (accepted (passing c.before.before.before.before.before.before.before.before))
+powers_of-p-requires c = cycled c.accept-found.result.card (accepted (passing c.before.before.before.before.before.before.before.before))
 
 pub next_output-drawn-requires : goal.next_output-drawn-requires
-next_output-drawn-requires c = (given c.before.before.before.before.before.before.before.before.before.before.before.before, steps c.before.before, c.rotations_of-rotations.ensures)
+next_output-drawn-requires c = ((c.accept-found.result.card), (let k = passing c.before.before.before.before.before.before.before.before.before in record { accepted = accepted k; holds = ready k c.load-held.ensures; selects = c.terms_of-terms.ensures; first = c.powers_of-p.ensures.0; second = c.powers_of-p.ensures.1 }), c.rotations_of-rotations.ensures)
 
 pub store-requires-2 : goal.store-requires-2
-store-requires-2 c = few (passing c.before.before.before.before.before.before.before.before.before.before.before.before.before.before.before.before)
+store-requires-2 c = few (passing c.before.before.before.before.before.before.before.before.before.before.before.before.before.before)
 
 pub returns : goal.returns
-returns c = let e = c.next_output-drawn.ensures (given c.before.before.before.before.before.before.before.before.before.before.before.before.before.before.before.before.before.before) (steps c.before.before.before.before.before.before.before.before) c.rotations_of-rotations.ensures in let both = draw_made (passing c.before.before) c.load-held.ensures (ap (λ (o : Output). o.word) e) (ap (λ (o : Output). o.state) e) c.store-2.ensures in record { answer = both.0; after = both.1; narrow = both.2; }
+returns c = let e = c.next_output-drawn.ensures c.accept-found.result.card ((let k = passing c.before.before.before.before.before.before.before.before.before in record { accepted = accepted k; holds = ready k c.load-held.ensures; selects = c.terms_of-terms.ensures; first = c.powers_of-p.ensures.0; second = c.powers_of-p.ensures.1 })) c.rotations_of-rotations.ensures in let both = draw_made (passing c.before.before.before.before.before.before.before.before.before.before.before.before.before.before.before.before.before) c.load-held.ensures (ap (λ (o : Output). o.word) e) (ap (λ (o : Output). o.state) e) c.store-2.ensures in record { answer = both.0; after = both.1; narrow = both.2; }

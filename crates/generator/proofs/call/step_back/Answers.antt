@@ -13,39 +13,19 @@ use Rattle.stepping.specs.State.{Undoes}
 use Rattle.stepping.proofs.Columns.{sized, cycled}
 use Rattle.generator.proofs.call.step_back.Goals as goal
 
-abbrev bytes : goal.After-call_refusal-told → List ℕ
-bytes o = o.args.card.now
-
-abbrev xs : goal.After-call_refusal-told → List ℕ
-xs o = o.args.state.now
-
--- the card as it was accepted
-abbrev given : goal.After-call_refusal-told → Card
-given o = o.accept-found.result.card
-
--- what is told
-refusal : (o : goal.After-call_refusal-told) → o.call_refusal-told.result ≡ refusal_for (bytes o) (xs o)
-refusal o = told (bytes o) (xs o) o.accept-found.result o.accept-found.ensures o.call_refusal-told.ensures
-
 -- past the first test nothing is refused
-passing : (c : goal.Else-told-ne0) → Clear (bytes c.before) (xs c.before) (given c.before)
-passing c = clear (bytes c.before) (xs c.before) c.accept-found.result c.accept-found.ensures (sym (refusal c.before) ∙ c.if-told-ne0.false)
-
--- what the step back asks for
-undoes : (c : goal.After-backward-p) → Undoes (given c.before.before.before.before.before) c.terms_of-terms.result c.backward-p.result.odd c.backward-p.result.even c.load-held.result
-undoes c =
-    let k = passing c.before.before.before.before.before in
-    record { accepted = accepted k; holds = ready k c.load-held.ensures; selects = c.terms_of-terms.ensures; first = c.backward-p.ensures.0; second = c.backward-p.ensures.1 }
+passing : (c : goal.Else-told-ne0) → Clear c.args.card.now c.args.state.now c.accept-found.result.card
+passing c = clear c.args.card.now c.args.state.now c.accept-found.result c.accept-found.ensures (sym ((told c.args.card.now c.args.state.now c.accept-found.result c.accept-found.ensures c.call_refusal-told.ensures)) ∙ c.if-told-ne0.false)
 
 pub returns-then-told-ne0 : goal.returns-then-told-ne0
 unfolding stepped_back
-returns-then-told-ne0 c = let both = call_refused (bytes c.before) (xs c.before) (step_back (card_of (bytes c.before)) (xs c.before)) _ _ (refusal c.before) c.if-told-ne0.true in record { answer = both.0; after = both.1; only = both.2; }
+returns-then-told-ne0 c = let both = call_refused c.args.card.now c.args.state.now (step_back (card_of c.args.card.now) c.args.state.now) _ _ ((told c.args.card.now c.args.state.now c.accept-found.result c.accept-found.ensures c.call_refusal-told.ensures)) c.if-told-ne0.true in record { answer = both.0; after = both.1; only = both.2; }
 
 pub load-held-requires : goal.load-held-requires
-load-held-requires c = few (passing c.before)
+load-held-requires c = few (passing c)
 
 pub terms_of-terms-requires : goal.terms_of-terms-requires
-terms_of-terms-requires c = sized (given c.before) (accepted (passing c.before.before))
+terms_of-terms-requires c = sized c.accept-found.result.card (accepted (passing c.before.before))
 
 pub overflow_cast-found-2 : goal.overflow_cast-found-2
 overflow_cast-found-2 c = omega (arith, c.accept-found.type_inv)
@@ -54,13 +34,13 @@ pub overflow_cast-found-3 : goal.overflow_cast-found-3
 overflow_cast-found-3 c = omega (arith, c.accept-found.type_inv)
 
 pub backward-p-requires : goal.backward-p-requires
-backward-p-requires c = cycled (given c.before) (accepted (passing c.before.before.before.before))
+backward-p-requires c = cycled c.accept-found.result.card (accepted (passing c.before.before.before.before))
 
 pub previous_state-previous-requires : goal.previous_state-previous-requires
-previous_state-previous-requires c = undoes c.before.before.before
+previous_state-previous-requires c = (let k = passing c.before.before.before.before.before in record { accepted = accepted k; holds = ready k c.load-held.ensures; selects = c.terms_of-terms.ensures; first = c.backward-p.ensures.0; second = c.backward-p.ensures.1 })
 
 pub store-requires : goal.store-requires
-store-requires c = few (passing c.before.before.before.before.before.before.before.before.before.before.before.before.before)
+store-requires c = few (passing c.before.before.before.before.before.before.before.before.before.before)
 
 pub returns : goal.returns
-returns c = let both = step_back_made (passing c.before.before) c.load-held.ensures c.previous_state-previous.ensures c.store.ensures in record { answer = both.0; after = both.1; only = both.2; }
+returns c = let both = step_back_made (passing c.before.before.before.before.before.before.before.before.before.before.before.before.before) c.load-held.ensures c.previous_state-previous.ensures c.store.ensures in record { answer = both.0; after = both.1; only = both.2; }

@@ -17,45 +17,24 @@ use Rattle.map_pick.specs.Measured.{can_measure}
 use Rattle.map_pick.proofs.Measured.{measurable, told_refused, told_picked}
 use Rattle.map_pick.proofs.call.pick_by_map.Goals as goal
 
--- the places handed over
-abbrev given : goal.After-can_measure → Places
-given m = let a = m.args in placed a.x a.y a.shovels.now a.xs.now a.ys.now
-
--- what has been found of them
-mapped : (m : goal.After-can_measure) → let q = given m in m.on_map-mapped.result ≡ on_map q.x q.y q.xs q.ys
-mapped m =
-    m.on_map-mapped.ensures ∙ rw (read_back m.ranges.x, read_back m.ranges.y)
-
-found : (m : goal.After-can_measure) → let q = given m in m.can_measure.result ≡ can_measure q.shovels q.xs q.ys (on_map q.x q.y q.xs q.ys)
-found m = let q = given m in m.can_measure.ensures ∙ ap (can_measure q.shovels q.xs q.ys) (mapped m)
-
-can : (c : goal.Else-not-can_measure) → let q = given c.before in can_measure q.shovels q.xs q.ys (on_map q.x q.y q.xs q.ys) ≡ true
-can c = sym (found c.before) ∙ not-false _ c.if-not-can_measure.false
-
--- as many times as shovels
-ties-alike : (c : goal.After-marks_of-marks) → let q = given c.before.before in SameTies (distances_of q) (take (length q.xs) c.marks_of-marks.result)
-ties-alike c =
-    let q = given c.before.before in
-    subst (λ (d : List ℕ). SameTies d (take (length q.xs) c.marks_of-marks.result)) (distances_read q.x q.y q.xs q.ys c.ranges.x c.ranges.y) c.marks_of-marks.ensures
-
-as_many : (c : goal.After-marks_of-marks) → let n = length (given c.before.before).xs in length (take n c.marks_of-marks.result) ≡ n
-as_many c = let q = given c.before.before in sym (ties-alike c).size ∙ length-distances q.x q.y q.xs q.ys
+can : (c : goal.Else-not-can_measure) → let q = (let a = c.args in placed a.x a.y a.shovels.now a.xs.now a.ys.now) in can_measure q.shovels q.xs q.ys (on_map q.x q.y q.xs q.ys) ≡ true
+can c = sym ((let q = (let a = c.args in placed a.x a.y a.shovels.now a.xs.now a.ys.now) in c.can_measure.ensures ∙ ap (can_measure q.shovels q.xs q.ys) ((c.on_map-mapped.ensures ∙ rw (read_back c.ranges.x, read_back c.ranges.y))))) ∙ not-false _ c.if-not-can_measure.false
 
 pub returns-then-not-can_measure : goal.returns-then-not-can_measure
-returns-then-not-can_measure c = let q = given c.before.before in
-    let a = c.args in let both = told_refused _ _ q (sym (found c.before.before) ∙ not-true _ c.if-not-can_measure.true)
-    (c.first_refusal.ensures ∙ ap (λ (b : Bool). first_of (call_checks a.card.now a.state.now ++ place_checks q.shovels q.xs q.ys b)) (mapped c.before.before)) in record { answer = both.0; after = both.1; }
+returns-then-not-can_measure c = let q = (let a = c.args in placed a.x a.y a.shovels.now a.xs.now a.ys.now) in
+    let a = c.args in let both = told_refused _ _ q (sym ((let q = (let a = c.args in placed a.x a.y a.shovels.now a.xs.now a.ys.now) in c.can_measure.ensures ∙ ap (can_measure q.shovels q.xs q.ys) ((c.on_map-mapped.ensures ∙ rw (read_back c.ranges.x, read_back c.ranges.y))))) ∙ not-true _ c.if-not-can_measure.true)
+    (c.first_refusal.ensures ∙ ap (λ (b : Bool). first_of (call_checks a.card.now a.state.now ++ place_checks q.shovels q.xs q.ys b)) ((c.on_map-mapped.ensures ∙ rw (read_back c.ranges.x, read_back c.ranges.y)))) in record { answer = both.0; after = both.1; }
 
 pub marks_of-marks-requires : goal.marks_of-marks-requires
-marks_of-marks-requires c = let h = measurable c.args.card.now c.args.state.now (given c.before) (can c) in
+marks_of-marks-requires c = let h = measurable c.args.card.now c.args.state.now ((let a = c.args in placed a.x a.y a.shovels.now a.xs.now a.ys.now)) (can c) in
     (measured_read c.ranges.x c.ranges.y h.0, h.1, h.2)
 
 pub slice_bounds-marks-end : goal.slice_bounds-marks-end
-slice_bounds-marks-end c = let n = length (given c.before.before.before).xs in
-    omega (arith, as_many c.before, length-take n c.marks_of-marks.result)
+slice_bounds-marks-end c = let n = length ((let a = c.args in placed a.x a.y a.shovels.now a.xs.now a.ys.now)).xs in
+    omega (arith, (let q = (let a = c.args in placed a.x a.y a.shovels.now a.xs.now a.ys.now) in sym ((let q = (let a = c.args in placed a.x a.y a.shovels.now a.xs.now a.ys.now) in subst (λ (d : List ℕ). SameTies d (take (length q.xs) c.marks_of-marks.result)) (distances_read q.x q.y q.xs q.ys c.ranges.x c.ranges.y) c.marks_of-marks.ensures)).size ∙ length-distances q.x q.y q.xs q.ys), length-take n c.marks_of-marks.result)
 
 pub slice_bounds-pick-end : goal.slice_bounds-pick-end
-slice_bounds-pick-end c = sym (as_many c.before.before)
+slice_bounds-pick-end c = sym ((let q = (let a = c.args in placed a.x a.y a.shovels.now a.xs.now a.ys.now) in sym ((let q = (let a = c.args in placed a.x a.y a.shovels.now a.xs.now a.ys.now) in subst (λ (d : List ℕ). SameTies d (take (length q.xs) c.marks_of-marks.result)) (distances_read q.x q.y q.xs q.ys c.ranges.x c.ranges.y) c.marks_of-marks.ensures)).size ∙ length-distances q.x q.y q.xs q.ys))
 
 pub returns : goal.returns
-returns c = let both = told_picked _ _ (given c.before.before) (can c.before) (ties-alike c.before.before.before.before.before) c.pick.ensures.answer c.pick.ensures.after in record { answer = both.0; after = both.1; }
+returns c = let both = told_picked _ _ ((let a = c.args in placed a.x a.y a.shovels.now a.xs.now a.ys.now)) (can c.before.before.before.before.before.before) ((let q = (let a = c.args in placed a.x a.y a.shovels.now a.xs.now a.ys.now) in subst (λ (d : List ℕ). SameTies d (take (length q.xs) c.marks_of-marks.result)) (distances_read q.x q.y q.xs q.ys c.ranges.x c.ranges.y) c.marks_of-marks.ensures)) c.pick.ensures.answer c.pick.ensures.after in record { answer = both.0; after = both.1; }

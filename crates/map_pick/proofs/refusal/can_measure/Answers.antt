@@ -6,9 +6,6 @@ use lib.ListN.{length}
 use Rattle.places.specs.Places.{paired}
 use Rattle.map_pick.proofs.refusal.can_measure.Goals as goal
 
-is-pair : (c : goal.Else-not-is_paired) → let a = c.args in paired a.shovels.now a.xs.now a.ys.now ≡ true
-is-pair c = sym c.is_paired.ensures ∙ not-false _ c.if-not-is_paired.false
-
 is_mapped : (c : goal.Else-not-mapped) → c.args.mapped ≡ true
 is_mapped c = not-false c.args.mapped c.if-not-mapped.false
 
@@ -19,7 +16,7 @@ pub returns-then-not-is_paired : goal.returns-then-not-is_paired
 returns-then-not-is_paired c = simp (is_mapped c.before.before, sym c.is_paired.ensures ∙ not-true _ c.if-not-is_paired.true)
 
 pub returns-then-shovels-eq0 : goal.returns-then-shovels-eq0
-returns-then-shovels-eq0 c = simp (is_mapped c.before.before.before, is-pair c.before, le-ltb 0 (length c.args.shovels.now) (omega (arith, c.if-shovels-eq0.true)))
+returns-then-shovels-eq0 c = simp (is_mapped c.before.before.before, (sym c.is_paired.ensures ∙ not-false _ c.if-not-is_paired.false), le-ltb 0 (length c.args.shovels.now) (omega (arith, c.if-shovels-eq0.true)))
 
 pub returns : goal.returns
-returns c = simp (is_mapped c.before.before.before, is-pair c.before, lt-ltb 0 (length c.args.shovels.now) (omega (arith, c.if-shovels-eq0.false)))
+returns c = simp (is_mapped c.before.before.before, (sym c.is_paired.ensures ∙ not-false _ c.if-not-is_paired.false), lt-ltb 0 (length c.args.shovels.now) (omega (arith, c.if-shovels-eq0.false)))

@@ -23,27 +23,10 @@ use Rattle.margins.proofs.Answers.{margin_refused}
 use Rattle.margin.proofs.Found.{Draws, listed, found_nothing, found_counts, found_least}
 use Rattle.margin.proofs.call.margin.Goals as goal
 
--- the card as it was accepted
-abbrev given : goal.After-call_refusal-told → Card
-given o = o.accept-accepted.result.card
-
--- what is told of the card and the state
-told-first : (o : goal.After-call_refusal-told) → let a = o.args in o.call_refusal-told.result ≡ refusal_for a.card.now a.state.now
-told-first o = told _ _ o.accept-accepted.result o.accept-accepted.ensures o.call_refusal-told.ensures
-
--- past the first test they are not refused
-passing : (c : goal.Else-told-ne0) → let a = c.args in Clear a.card.now a.state.now (given o)
-passing c = clear _ _ c.accept-accepted.result c.accept-accepted.ensures (sym (told-first c.before) ∙ c.if-told-ne0.false)
-
--- the second tells of the list, or of nothing
-told-list : (c : goal.After-list_ties-found) → let a = c.args in
-    c.list_ties-found.result.refusal ≡ pick_refusal a.card.now a.state.now a.shovels.now a.times.now
-told-list c = told_later _ _ _ _ (passing c.before.before.before) refl c.list_ties-found.ensures.refusal
-
 -- past it nothing is refused
 going : (c : goal.Else-found-ne0) → let a = c.args in
     Free a.card.now a.state.now a.shovels.now a.times.now (given o) c.list_ties-found.result
-going c = free _ _ _ _ _ _ (passing c.before.before.before) (told-list c.before.before) c.list_ties-found.ensures.found c.if-found-ne0.false
+going c = free _ _ _ _ _ _ ((clear _ _ c.accept-accepted.result c.accept-accepted.ensures (sym ((told _ _ c.accept-accepted.result c.accept-accepted.ensures c.call_refusal-told.ensures)) ∙ c.if-told-ne0.false))) ((told_later _ _ _ _ ((clear _ _ c.accept-accepted.result c.accept-accepted.ensures (sym ((told _ _ c.accept-accepted.result c.accept-accepted.ensures c.call_refusal-told.ensures)) ∙ c.if-told-ne0.false))) refl c.list_ties-found.ensures.refusal)) c.list_ties-found.ensures.found c.if-found-ne0.false
 
 refusal : (bytes xs shovels times : List ℕ) (r : ℕ) → r ≢ 0 → r ≡ pick_refusal bytes xs shovels times → IsMargin bytes xs shovels times (Refused r)
 refusal bytes xs shovels times r ne e = (margin_refused bytes xs shovels times (λ z. ne (e ∙ z)) _).1 (ap Refused e)
@@ -63,13 +46,13 @@ best-is c e =
     subst (BestOf a.shovels.now a.times.now (λ ys. elsewhere c.known_of-known.result a.shovels.now ys ≡ true) (length a.times.now)) e c.least_change-best.ensures
 
 pub returns-then-told-ne0 : goal.returns-then-told-ne0
-returns-then-told-ne0 c = let ne = c.if-told-ne0.true in refusal _ _ _ _ _ ne (told_call _ _ _ _ _ (told-first c.before) ne)
+returns-then-told-ne0 c = let ne = c.if-told-ne0.true in refusal _ _ _ _ _ ne (told_call _ _ _ _ _ ((told _ _ c.accept-accepted.result c.accept-accepted.ensures c.call_refusal-told.ensures)) ne)
 
 pub list_ties-found-requires : goal.list_ties-found-requires
-list_ties-found-requires c = (accepted (passing c.before.before)).narrow
+list_ties-found-requires c = (accepted ((clear _ _ c.accept-accepted.result c.accept-accepted.ensures (sym ((told _ _ c.accept-accepted.result c.accept-accepted.ensures c.call_refusal-told.ensures)) ∙ c.if-told-ne0.false)))).narrow
 
 pub returns-then-found-ne0 : goal.returns-then-found-ne0
-returns-then-found-ne0 c = refusal _ _ _ _ _ c.if-found-ne0.true (told-list c.before.before)
+returns-then-found-ne0 c = refusal _ _ _ _ _ c.if-found-ne0.true ((told_later _ _ _ _ ((clear _ _ c.accept-accepted.result c.accept-accepted.ensures (sym ((told _ _ c.accept-accepted.result c.accept-accepted.ensures c.call_refusal-told.ensures)) ∙ c.if-told-ne0.false))) refl c.list_ties-found.ensures.refusal))
 
 pub load-held-requires : goal.load-held-requires
 load-held-requires c = few (going c).clear
@@ -83,13 +66,13 @@ least_change-best-requires c = listed _ _ _ _ _ _ (going c.before.before) _ (dra
 
 pub told-requires : goal.told-requires
 told-requires c = let f = going c.before.before.before.before.before.before in
-    let l = listed _ _ _ _ _ _ f _ (draws c.before) in
-    let k = found_counts _ _ _ _ _ _ f _ (draws c.before) _ (best-is c.before.before.before c.best-1.given.1) in record { width_le_widest_width = (l.width, l.paired, l.few); place_in_bounds = (k.listed, k.within); }
+    let l = listed _ _ _ _ _ _ f _ (draws c.before.before.before.before) in
+    let k = found_counts _ _ _ _ _ _ f _ (draws c.before.before.before.before) _ (best-is c.before.before.before c.best-1.given.1) in record { width_le_widest_width = (l.width, l.paired, l.few); place_in_bounds = (k.listed, k.within); }
 
 pub returns-in-Nothing : goal.returns-in-Nothing
-returns-in-Nothing c = found_nothing _ _ _ _ _ _ (going c.before.before.before) _ (draws c.before) (best-is c.before.before c.enum_told-1.given.1)
+returns-in-Nothing c = found_nothing _ _ _ _ _ _ (going c.before.before.before.before.before) _ (draws c.before.before.before) (best-is c.before.before c.enum_told-1.given.1)
 
 pub returns-in-Least : goal.returns-in-Least
 returns-in-Least c = let t = c.told.ensures in
-    found_least _ _ _ _ _ _ (going c.before.before.before) _ (draws c.before) _ (best-is c.before.before.before.before c.best-1.given.1) c.told.result
+    found_least _ _ _ _ _ _ (going c.before.before.before.before.before.before.before) _ (draws c.before.before.before.before.before) _ (best-is c.before.before.before.before c.best-1.given.1) c.told.result
     t.change t.shovel.0 t.shovel.1.0 t.shovel.1.1

@@ -34,11 +34,6 @@ known c =
 held : (c : goal.After-leaves_of-leaves) (card : Card) → P c card → Holds card c.args.s
 held c card p = p.2.holds
 
--- the loop leaves the number of the words lent
-size : (c : goal.At-loop-k) → length c.loop-k.words ≡ length c.args.words.now
-size c =
-    row-length (P c.before) c.args.s c.args.count c.args.words.now c.requires.3 (held c.before) c.loop-k.k c.loop-k.held c.loop-k.words c.loop-k.invariant c.args.card (known c.before)
-
 -- what is known of the state that the loop has come to
 now-known : (c : goal.At-loop-k) → (card : Card) → P o card → Known c.terms_of-terms.result c.rotations_of-rotations.result c.leaves_of-leaves.result c.loop-k.held card
 now-known c card p =
@@ -62,13 +57,13 @@ next_in_row-drawn-requires c = let q = now-known c.before c.args.card (known c.b
     (c.args.card, q.0, q.1, q.2, q.3, q.4, q.5)
 
 pub offset_bounds-words-k : goal.offset_bounds-words-k
-offset_bounds-words-k c = omega (arith, size c.before.before, c.loop-k-test.true, c.requires.3, c.good.1.1.1.0)
+offset_bounds-words-k c = omega (arith, (row-length (P c.before) c.args.s c.args.count c.args.words.now c.requires.3 (held c.before) c.loop-k.k c.loop-k.held c.loop-k.words c.loop-k.invariant c.args.card (known c.before)), c.loop-k-test.true, c.requires.3, c.good.1.1.1.0)
 
 pub bounds-words-k : goal.bounds-words-k
-bounds-words-k c = omega (arith, size c.before.before, c.requires.3)
+bounds-words-k c = omega (arith, (row-length (P c.before) c.args.s c.args.count c.args.words.now c.requires.3 (held c.before) c.loop-k.k c.loop-k.held c.loop-k.words c.loop-k.invariant c.args.card (known c.before)), c.requires.3)
 
 pub overflow_add-k : goal.overflow_add-k
-overflow_add-k c = omega (arith, c.loop-k-test.true, size c.before.before.before, c.requires.3, c.good.1.1.1.0)
+overflow_add-k c = omega (arith, c.loop-k-test.true, (row-length (P c.before) c.args.s c.args.count c.args.words.now c.requires.3 (held c.before) c.loop-k.k c.loop-k.held c.loop-k.words c.loop-k.invariant c.args.card (known c.before)), c.requires.3, c.good.1.1.1.0)
 
 pub loop-k-preserved : goal.loop-k-preserved
 loop-k-preserved c = let l = c.loop-k in
@@ -77,7 +72,7 @@ loop-k-preserved c = let l = c.loop-k in
     c.next_in_row-drawn.ensures card q.0 q.1 q.2 q.3 q.4 q.5)
 
 pub shape_of-words : goal.shape_of-words
-shape_of-words c = size c.before
+shape_of-words c = (row-length (P c.before) c.args.s c.args.count c.args.words.now c.requires.3 (held c.before) c.loop-k.k c.loop-k.held c.loop-k.words c.loop-k.invariant c.args.card (known c.before))
 
 pub returns : goal.returns
 returns c = let l = c.loop-k in let both = row-all (P c.before.before) c.args.s c.args.count c.args.words.now c.requires.3 (held c.before.before) l.k l.held l.words l.invariant (omega arith) c.args.card (known c.before.before) in record { value = both.0; words_after = both.1; }

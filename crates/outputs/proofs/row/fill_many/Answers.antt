@@ -26,11 +26,6 @@ known c =
 held : (c : goal.After-rotations_of-rotations) (card : Card) → P c card → Holds card c.args.s
 held c card p = p.0.holds
 
--- the loop leaves the number of the words lent
-size : (c : goal.At-loop-at) → length c.loop-at.words ≡ length c.args.words.now
-size c =
-    row-length (P c.before) c.args.s c.args.count c.args.words.now c.requires.2 (held c.before) c.loop-at.at c.loop-at.held c.loop-at.words c.loop-at.invariant c.args.card (known c.before)
-
 -- what is known of the state that the loop has come to
 now-known : (c : goal.At-loop-at) → (card : Card) → P o card → Known c.terms_of-terms.result c.rotations_of-rotations.result c.powers_of-p.result c.loop-at.held card
 now-known c card p =
@@ -54,13 +49,13 @@ next_output-drawn-requires c = let q = now-known c.before.before.before c.args.c
     (c.args.card, q.0, q.1)
 
 pub offset_bounds-words-at : goal.offset_bounds-words-at
-offset_bounds-words-at c = omega (arith, size c.before.before.before.before, c.loop-at-test.true, c.requires.2, c.good.1.1.1.0)
+offset_bounds-words-at c = omega (arith, (row-length (P c.before) c.args.s c.args.count c.args.words.now c.requires.2 (held c.before) c.loop-at.at c.loop-at.held c.loop-at.words c.loop-at.invariant c.args.card (known c.before)), c.loop-at-test.true, c.requires.2, c.good.1.1.1.0)
 
 pub bounds-words-at : goal.bounds-words-at
-bounds-words-at c = omega (arith, size c.before.before.before.before, c.loop-at-test.true, c.requires.2)
+bounds-words-at c = omega (arith, (row-length (P c.before) c.args.s c.args.count c.args.words.now c.requires.2 (held c.before) c.loop-at.at c.loop-at.held c.loop-at.words c.loop-at.invariant c.args.card (known c.before)), c.loop-at-test.true, c.requires.2)
 
 pub overflow_add-at : goal.overflow_add-at
-overflow_add-at c = omega (arith, c.loop-at-test.true, size c.before.before.before.before.before, c.requires.2, c.good.1.1.1.0)
+overflow_add-at c = omega (arith, c.loop-at-test.true, (row-length (P c.before) c.args.s c.args.count c.args.words.now c.requires.2 (held c.before) c.loop-at.at c.loop-at.held c.loop-at.words c.loop-at.invariant c.args.card (known c.before)), c.requires.2, c.good.1.1.1.0)
 
 pub loop-at-preserved : goal.loop-at-preserved
 loop-at-preserved c = let l = c.loop-at in
@@ -69,7 +64,7 @@ loop-at-preserved c = let l = c.loop-at in
     c.next_output-drawn.ensures card q.0 q.1)
 
 pub shape_of-words : goal.shape_of-words
-shape_of-words c = size c.before
+shape_of-words c = (row-length (P c.before) c.args.s c.args.count c.args.words.now c.requires.2 (held c.before) c.loop-at.at c.loop-at.held c.loop-at.words c.loop-at.invariant c.args.card (known c.before))
 
 pub returns : goal.returns
 returns c = let l = c.loop-at in let both = row-all (P c.before.before) c.args.s c.args.count c.args.words.now c.requires.2 (held c.before.before) l.at l.held l.words l.invariant (omega arith) c.args.card (known c.before.before) in record { value = both.0; words_after = both.1; }

@@ -28,14 +28,6 @@ passed c = sym c.list_refusal-told.ensures ∙ c.if-told-ne0.false
 allowed : (c : goal.Else-told-ne0) → let a = c.args in Allowed a.shovels.now a.times.now
 allowed c = list_allowed _ _ (passed c)
 
--- the second tells of the count of ties, or of nothing
-last : (c : goal.After-ties_refusal-over) → let a = c.args in
-    c.ties_refusal-over.result ≡ first_of (list_checks a.shovels.now a.times.now ++ tie_checks a.n (ties a.times.now))
-last c =
-    let a = c.args in
-    c.ties_refusal-over.ensures ∙ ap (λ (k : ℕ). first_of (tie_checks a.n k)) c.ties_of-k.ensures
-    ∙ sym (first_right (list_checks a.shovels.now a.times.now) _ (passed c.before.before.before))
-
 pub returns-then-told-ne0 : goal.returns-then-told-ne0
 returns-then-told-ne0 c = let a = c.args in
     let e = c.list_refusal-told.ensures in
@@ -48,7 +40,7 @@ pub overflow_cast-k : goal.overflow_cast-k
 overflow_cast-k c = omega (arith, c.ties_of-k.ensures, (ties-few (allowed c.before.before)).1)
 
 pub returns-then-over-ne0 : goal.returns-then-over-ne0
-returns-then-over-ne0 c = let both = told _ _ _ _ c.if-over-ne0.true (last c.before.before) _ c.refused-then-over-ne0.ensures in record { refusal = both.0; found = both.1; }
+returns-then-over-ne0 c = let both = told _ _ _ _ c.if-over-ne0.true ((let a = c.args in c.ties_refusal-over.ensures ∙ ap (λ (k : ℕ). first_of (tie_checks a.n k)) c.ties_of-k.ensures ∙ sym (first_right (list_checks a.shovels.now a.times.now) _ (passed c.before.before.before)))) _ c.refused-then-over-ne0.ensures in record { refusal = both.0; found = both.1; }
 
 pub returns : goal.returns
-returns c = record { refusal = sym c.if-over-ne0.false ∙ last c.before; found = λ z. (c.least_time-least.ensures, c.ties_of-k.ensures); }
+returns c = record { refusal = sym c.if-over-ne0.false ∙ (let a = c.args in c.ties_refusal-over.ensures ∙ ap (λ (k : ℕ). first_of (tie_checks a.n k)) c.ties_of-k.ensures ∙ sym (first_right (list_checks a.shovels.now a.times.now) _ (passed c.before.before.before))); found = λ z. (c.least_time-least.ensures, c.ties_of-k.ensures); }

@@ -24,7 +24,7 @@ returns-then-lacks_room c = let a = c.args in let both = call_small a.card.now a
     c.lacks_room.ensures c.if-lacks_room.true in record { answer = both.0; after = both.1; page = both.2; }
 
 pub load-held-requires : goal.load-held-requires
-load-held-requires c = (roomy c.before).0
+load-held-requires c = (roomy c).0
 
 pub record_tie-requires : goal.record_tie-requires
 record_tie-requires c = roomy c.before.before.before.before.before.before
@@ -33,5 +33,5 @@ pub returns : goal.returns
 returns c = let a = c.args in
     let xs = a.state.now in
     let held = ap (λ (s : State). take (length xs) s.words) c.load-held.ensures ∙ take-filled most_words (length xs) xs refl in
-    let p = c.pick-picked in let both = call_made a.card.now xs a.shovels.now a.times.now a.truck a.page.now (roomy c.before.before.before.before.before.before.before.before.before.before).1 p.ensures.answer p.ensures.after
+    let p = c.pick-picked in let both = call_made a.card.now xs a.shovels.now a.times.now a.truck a.page.now (roomy c.before.before.before.before.before.before.before.before.before).1 p.ensures.answer p.ensures.after
     (c.record_tie.ensures ∙ ap (λ (ws : List ℕ). recorded_on (record_left a.truck ws p.result) a.page.now) held) in record { answer = both.0; after = both.1; page = both.2; }

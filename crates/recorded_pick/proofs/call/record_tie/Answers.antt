@@ -7,21 +7,14 @@ use Rattle.tsc.specs.Constants.{most_words}
 use Rattle.recorded_pick.proofs.Page.{left-tie, left-none}
 use Rattle.recorded_pick.proofs.call.record_tie.Goals as goal
 
--- the words that are recorded
-sized : (s : goal.Start) → length s.args.held.words ≡ most_words
-sized s = search rules
-
-counted : (s : goal.Start) → length (take s.args.m s.args.held.words) ≡ s.args.m
-counted s = length-take-le s.args.m s.args.held.words (omega (arith, sized s, s.requires.0))
-
 pub slice_bounds-words-end : goal.slice_bounds-words-end
-slice_bounds-words-end c = omega (arith, sized c.before.before.before.before.before.before, c.requires.0)
+slice_bounds-words-end c = omega (arith, (search rules), c.requires.0)
 
 pub slice_bounds-put_record-end : goal.slice_bounds-put_record-end
-slice_bounds-put_record-end c = sym (counted c.before.before.before.before.before.before.before)
+slice_bounds-put_record-end c = sym ((length-take-le c.args.m c.args.held.words (omega (arith, (search rules), c.requires.0))))
 
 pub put_record-requires : goal.put_record-requires
-put_record-requires c = (omega (arith, counted c.before.before.before.before.before.before.before.before, c.requires.0), omega (arith, counted c.before.before.before.before.before.before.before.before, c.requires.1))
+put_record-requires c = (omega (arith, (length-take-le c.args.m c.args.held.words (omega (arith, (search rules), c.requires.0))), c.requires.0), omega (arith, (length-take-le c.args.m c.args.held.words (omega (arith, (search rules), c.requires.0))), c.requires.1))
 
 pub returns-then-ties-ne1 : goal.returns-then-ties-ne1
 returns-then-ties-ne1 c = let a = c.args in

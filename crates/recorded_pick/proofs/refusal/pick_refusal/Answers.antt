@@ -6,18 +6,11 @@ use Rattle.draws.proofs.Called.{accepted}
 use Rattle.picks.proofs.Picking.{told_call, told_later}
 use Rattle.recorded_pick.proofs.refusal.pick_refusal.Goals as goal
 
--- what is told of the card and the state; past the test they are not refused
-refusal : (c : goal.After-call_refusal-told) → let a = c.args in c.call_refusal-told.result ≡ refusal_for a.card.now a.state.now
-refusal c = told _ _ c.accept-accepted.result c.accept-accepted.ensures c.call_refusal-told.ensures
-
-passing : (c : goal.Else-told-ne0) → let a = c.args in Clear a.card.now a.state.now c.accept-accepted.result.card
-passing c = clear _ _ c.accept-accepted.result c.accept-accepted.ensures (sym (refusal c.before) ∙ c.if-told-ne0.false)
-
 pub returns-then-told-ne0 : goal.returns-then-told-ne0
-returns-then-told-ne0 c = told_call _ _ _ _ _ (refusal c.before) c.if-told-ne0.true
+returns-then-told-ne0 c = told_call _ _ _ _ _ ((told _ _ c.accept-accepted.result c.accept-accepted.ensures c.call_refusal-told.ensures)) c.if-told-ne0.true
 
 pub list_ties-found-requires : goal.list_ties-found-requires
-list_ties-found-requires c = (accepted (passing c.before)).narrow
+list_ties-found-requires c = (accepted ((clear _ _ c.accept-accepted.result c.accept-accepted.ensures (sym ((told _ _ c.accept-accepted.result c.accept-accepted.ensures c.call_refusal-told.ensures)) ∙ c.if-told-ne0.false)))).narrow
 
 pub returns : goal.returns
-returns c = told_later _ _ _ _ (passing c.before.before) refl c.list_ties-found.ensures.refusal
+returns c = told_later _ _ _ _ ((clear _ _ c.accept-accepted.result c.accept-accepted.ensures (sym ((told _ _ c.accept-accepted.result c.accept-accepted.ensures c.call_refusal-told.ensures)) ∙ c.if-told-ne0.false))) refl c.list_ties-found.ensures.refusal

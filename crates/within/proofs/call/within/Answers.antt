@@ -17,40 +17,28 @@ use Rattle.within.proofs.Sorting.{length_keys}
 use Rattle.within.proofs.Passed.{Free, free, listed_by}
 use Rattle.within.proofs.call.within.Goals as goal
 
--- the places handed over, and the radius
-abbrev given : goal.After-places_refusal-told → Places
-given c = let a = c.args in placed a.x a.y a.shovels.now a.xs.now a.ys.now
-
--- what is told of them
-told : (c : goal.After-places_refusal-told) → c.places_refusal-told.result ≡ first_of (within_checks (given c) c.args.radius)
-told c =
-    let q = given c in
-    let allowed : c.is_allowed-allowed.result ≡ (on_map q.x q.y q.xs q.ys && is_radius c.args.radius) =
-    c.is_allowed-allowed.ensures ∙ rw (read_back c.ranges.x, read_back c.ranges.y, read_back c.ranges.radius) in
-    c.places_refusal-told.ensures ∙ ap (λ (b : Bool). first_of (place_checks q.shovels q.xs q.ys b)) allowed
-
 -- past the test nothing is refused
-passed : (c : goal.Else-told-ne0) → first_of (within_checks (given c.before) c.args.radius) ≡ 0
-passed c = sym (told c.before) ∙ c.if-told-ne0.false
+passed : (c : goal.Else-told-ne0) → first_of (within_checks ((let a = c.args in placed a.x a.y a.shovels.now a.xs.now a.ys.now)) c.args.radius) ≡ 0
+passed c = sym ((let q = (let a = c.args in placed a.x a.y a.shovels.now a.xs.now a.ys.now) in let allowed : c.is_allowed-allowed.result ≡ (on_map q.x q.y q.xs q.ys && is_radius c.args.radius) = c.is_allowed-allowed.ensures ∙ rw (read_back c.ranges.x, read_back c.ranges.y, read_back c.ranges.radius) in c.places_refusal-told.ensures ∙ ap (λ (b : Bool). first_of (place_checks q.shovels q.xs q.ys b)) allowed)) ∙ c.if-told-ne0.false
 
-going : (c : goal.Else-told-ne0) → Free (given c.before) c.args.radius
+going : (c : goal.Else-told-ne0) → Free ((let a = c.args in placed a.x a.y a.shovels.now a.xs.now a.ys.now)) c.args.radius
 going c = free _ _ (passed c)
 
 -- the keys
-keys : (c : goal.After-keys_of-found) → let q = given c.before.before.before in
+keys : (c : goal.After-keys_of-found) → let q = (let a = c.args in placed a.x a.y a.shovels.now a.xs.now a.ys.now) in
     take (length q.xs) c.keys_of-found.result ≡ keys_of q.shovels (distances_of q) (square c.args.radius)
 keys c =
-    let q = given c.before.before.before in
+    let q = (let a = c.args in placed a.x a.y a.shovels.now a.xs.now a.ys.now) in
     let limit = c.squared.ensures ∙ ap square (read_back c.ranges.radius) in
     c.keys_of-found.ensures ∙ ap₂ (keys_of q.shovels) (distances_read q.x q.y q.xs q.ys c.ranges.x c.ranges.y) limit
 
-as_many : (c : goal.After-keys_of-found) → let n = length (given c.before.before.before).xs in length (take n c.keys_of-found.result) ≡ n
+as_many : (c : goal.After-keys_of-found) → let n = length ((let a = c.args in placed a.x a.y a.shovels.now a.xs.now a.ys.now)).xs in length (take n c.keys_of-found.result) ≡ n
 as_many c =
-    let q = given c.before.before.before in
+    let q = (let a = c.args in placed a.x a.y a.shovels.now a.xs.now a.ys.now) in
     ap length (keys c) ∙ length_keys q.shovels (distances_of q) (square c.args.radius) ∙ length-distances q.x q.y q.xs q.ys
 
 pub returns-then-told-ne0 : goal.returns-then-told-ne0
-returns-then-told-ne0 c = c.refused.ensures ∙ within-refused (given c.before) c.args.radius _ c.if-told-ne0.true (told c.before)
+returns-then-told-ne0 c = c.refused.ensures ∙ within-refused ((let a = c.args in placed a.x a.y a.shovels.now a.xs.now a.ys.now)) c.args.radius _ c.if-told-ne0.true ((let q = (let a = c.args in placed a.x a.y a.shovels.now a.xs.now a.ys.now) in let allowed : c.is_allowed-allowed.result ≡ (on_map q.x q.y q.xs q.ys && is_radius c.args.radius) = c.is_allowed-allowed.ensures ∙ rw (read_back c.ranges.x, read_back c.ranges.y, read_back c.ranges.radius) in c.places_refusal-told.ensures ∙ ap (λ (b : Bool). first_of (place_checks q.shovels q.xs q.ys b)) allowed))
 
 pub squared-requires : goal.squared-requires
 squared-requires c = rw (read_back c.ranges.radius) (going c).is_radius_lem
@@ -60,7 +48,7 @@ keys_of-found-requires c = let f = going c.before in
     (measured_read c.ranges.x c.ranges.y f.measurable, f.paired, f.few)
 
 pub slice_bounds-found-end : goal.slice_bounds-found-end
-slice_bounds-found-end c = omega (arith, as_many c, length-take (length (given c.before.before.before).xs) c.keys_of-found.result)
+slice_bounds-found-end c = omega (arith, as_many c, length-take (length ((let a = c.args in placed a.x a.y a.shovels.now a.xs.now a.ys.now)).xs) c.keys_of-found.result)
 
 pub slice_bounds-list_by-end : goal.slice_bounds-list_by-end
 slice_bounds-list_by-end c = sym (as_many c.before)
@@ -70,9 +58,9 @@ list_by-count-requires c = let f = going c.before.before.before.before in
     (as_many c.before.before ∙ sym f.paired, omega (arith, as_many c.before.before, f.few))
 
 pub overflow_cast-result : goal.overflow_cast-result
-overflow_cast-result c = let ks = take (length (given c.before.before.before).xs) c.keys_of-found.result in
-    omega (arith, c.list_by-count.ensures.counted, count_le (length ks) (is_listed ks), as_many c.before.before.before.before, (going c.before.before).few)
+overflow_cast-result c = let ks = take (length ((let a = c.args in placed a.x a.y a.shovels.now a.xs.now a.ys.now)).xs) c.keys_of-found.result in
+    omega (arith, c.list_by-count.ensures.counted, count_le (length ks) (is_listed ks), as_many c.before.before.before.before, (going c.before.before.before.before.before.before).few)
 
 pub returns : goal.returns
 returns c = let l = c.list_by-count.ensures in
-    listed_by (given c.before) c.args.radius (passed c.before.before.before.before.before.before) (λ i. (c.shared_slice_known-1.given i).fits) (keys c.before.before.before.before) l.counted l.after
+    listed_by ((let a = c.args in placed a.x a.y a.shovels.now a.xs.now a.ys.now)) c.args.radius (passed c.before.before.before.before.before.before) (λ i. (c.shared_slice_known-1.given i).fits) (keys c.before.before.before.before) l.counted l.after
