@@ -75,6 +75,4 @@ returns c = let l = c.loop-left in
     let p = l.invariant in
     let s = text (word_bits a.n a.word) in
     let size = length-text (word_bits a.n a.word) ∙ length-word_bits a.n a.word in
-    let all : l.i ≡ a.n = omega (arith, p.places) in record { counted = sym (no_bits l.tally l.left a.word (omega arith)) ∙ p.counted; page = (
-      p.page ∙ ap (over s a.part.now) all ∙ ap (λ (w : List ℕ). w ++ drop a.n a.part.now) (take_all a.n s (omega (arith, size))),
-    ); }
+    let all : l.i ≡ a.n = omega (arith, p.places) in record { counted = sym (no_bits l.tally l.left a.word (omega arith)) ∙ p.counted; page = p.page ∙ ap (over s a.part.now) all ∙ ap (λ (w : List ℕ). w ++ drop a.n a.part.now) (take_all a.n s (omega (arith, size))); }

@@ -23,6 +23,13 @@ module _ {n : ℕ} {strip page₀ page : List ℕ} {t : Tally} {at k : ℕ} (p :
       ap (λ (p : List ℕ). length p) p.written
       ∙ length_front (text (bits_of n (take k strip))) page₀ (n * k) (length-words n strip k p.within) (omega (arith, mul-le-mul_left n p.within, p.room))
 
+  -- word k ends before the last bit, and there is room for it
+  ends : k < length strip → at + n ≤ base
+  ends l = omega (arith, p.place, place_room n k (length strip) l, p.few)
+
+  room : k < length strip → at + n ≤ length page
+  room l = omega (arith, kept, p.place, place_room n k (length strip) l, p.room)
+
 pub loop-k-init : goal.loop-k-init
 loop-k-init c = let p = c.requires in
     let a = c.args in
@@ -101,7 +108,5 @@ returns c = let l = c.loop-k in
     let p = l.invariant in
     let n = a.n in
     let xs = a.strip.now in
-    let all : l.k ≡ length xs = omega (arith, p.within) in record { counted = all_counted n xs l.t l.k all ∙ p.counted; page = (
-      p.written ∙ ap (λ (k : ℕ). text (bits_of n (take k xs)) ++ drop (n * k) a.page.now) all
-          ∙ ap (λ (s : List ℕ). text (bits_of n s) ++ drop (n * length xs) a.page.now) (take_all (length xs) xs (omega arith)),
-    ); }
+    let all : l.k ≡ length xs = omega (arith, p.within) in record { counted = all_counted n xs l.t l.k all ∙ p.counted; page = p.written ∙ ap (λ (k : ℕ). text (bits_of n (take k xs)) ++ drop (n * k) a.page.now) all
+          ∙ ap (λ (s : List ℕ). text (bits_of n s) ++ drop (n * length xs) a.page.now) (take_all (length xs) xs (omega arith)); }

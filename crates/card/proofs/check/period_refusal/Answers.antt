@@ -13,9 +13,7 @@ use Rattle.card_format.proofs.Fields.{few-entries}
 use Rattle.card.proofs.check.period_refusal.Goals as goal
 
 pub first_return-requires : goal.first_return-requires
-first_return-requires c = let e = c.entries-size.ensures in record { size_nonzero = (omega (arith, e, pow_pos c.args.words), omega (arith, e, few-entries c.args.words c.requires.0)); by_index = (
-      λ y l. omega (arith, e, c.requires.1 y (omega (arith, e))),
-    ); }
+first_return-requires c = let e = c.entries-size.ensures in record { size_nonzero = (omega (arith, e, pow_pos c.args.words), omega (arith, e, few-entries c.args.words c.requires.0)); by_index = λ y l. omega (arith, e, c.requires.1 y (omega (arith, e))); }
 
 pub returns-then-first_return-size : goal.returns-then-first_return-size
 unfolding period_checks first_of

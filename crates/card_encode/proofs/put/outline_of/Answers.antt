@@ -24,11 +24,9 @@ pub with_field-o-requires : goal.with_field-o-requires
 with_field-o-requires c = let l = c.loop-k in
     let card = c.args.card in
     let few = c.requires in record { k_lt_field_count = (omega arith, few); map_bound = (
-      (
         omega (arith, l.invariant.1, map_lt l.k (is_written card)),
         omega (arith, l.invariant.2, length_before card l.k field_count l.invariant.0, written-short card few),
-      ),
-    ); }
+      ); }
 
 pub loop-k-preserved : goal.loop-k-preserved
 loop-k-preserved c = let l = c.loop-k in

@@ -25,6 +25,14 @@ module _ (c : lts.Start (low-first-reads.Asked, low-first-reads.Learnt) reads.Pr
   of_size s x es ex =
       numbers-one _ _ (count-one c.args.m c.args.k c.requires.0.0 c.requires.0.1) ∙ ap (λ (v : ℕ). v ∷ []) (ap (λ (s : ℕ). low_first s c.args.part.now) es ∙ sym ex)
 
+  -- its bytes are there
+  room : (s : ℕ) → (field c.args.m c.args.k).size ≡ s → s ≤ length c.args.part.now
+  room s es = omega (arith, c.requires.1, ap (λ (n : ℕ). n * (field c.args.m c.args.k).size) (count-one c.args.m c.args.k c.requires.0.0 c.requires.0.1))
+
+  size_four : c.args.k ≡ constant_bit → (field c.args.m c.args.k).size ≡ 4
+  unfolding field fields
+  size_four e = ap (λ (k : ℕ). (field c.args.m k).size) e
+
 pub bounds-part-0 : goal.bounds-part-0
 bounds-part-0 c = omega (arith, room s 4 (size_four s c.if-k-eq-CONSTANT.true))
 

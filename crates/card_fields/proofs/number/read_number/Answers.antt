@@ -26,16 +26,6 @@ value_as f part v n e = rw (e, n) refl
 there : (c : goal.Else-part-extent_of) → let a = c.args in extent (field a.m a.k) ≤ length a.part.now
 there c = omega (arith, c.extent_of.ensures, c.if-part-extent_of.false)
 
--- then its refusal goes by its number
-by_number : (c : goal.After-number_at-v) → let a = c.args in let f = field a.m a.k in let v = c.number_at-v.result in
-    first_of (part_checks f a.part.now) ≡ cond (not (allowed f (v ∷ []))) 2 (cond (same (v ∷ []) f.absent) 3 0)
-by_number c = part_refusal _ _ _ c.number_at-v.ensures ∙ simp (le-ltb _ _ (there c.before))
-
--- past the second test, by its absent value
-by-absent : (c : goal.Else-not-number_allowed) → let a = c.args in let f = field a.m a.k in
-    first_of (part_checks f a.part.now) ≡ cond (same (c.number_at-v.result ∷ []) f.absent) 3 0
-by-absent c = by_number c.before.before ∙ simp (sym c.number_allowed.ensures ∙ not-false _ c.if-not-number_allowed.false)
-
 pub returns-then-part-extent_of : goal.returns-then-part-extent_of
 returns-then-part-extent_of c = let a = c.args in
     let short : length a.part.now < extent (field a.m a.k) = omega (arith, c.extent_of.ensures, c.if-part-extent_of.true) in
@@ -46,11 +36,11 @@ number_at-v-requires c = let p = c.requires in record { k_lt_field_count = (p.0,
 
 pub returns-then-not-number_allowed : goal.returns-then-not-number_allowed
 returns-then-not-number_allowed c = refused_as _ _ 2 (λ e. absurd (omega arith))
-    (by_number c.before.before ∙ simp (sym c.number_allowed.ensures ∙ not-true _ c.if-not-number_allowed.true))
+    ((part_refusal _ _ _ c.number_at-v.ensures ∙ simp (le-ltb _ _ (there c.before))) ∙ simp (sym c.number_allowed.ensures ∙ not-true _ c.if-not-number_allowed.true))
 
 pub returns-then-is_absent : goal.returns-then-is_absent
-returns-then-is_absent c = refused_as _ _ 3 (λ e. absurd (omega arith)) (by-absent c.before.before ∙ simp (sym c.is_absent.ensures ∙ c.if-is_absent.true))
+returns-then-is_absent c = refused_as _ _ 3 (λ e. absurd (omega arith)) (((part_refusal _ _ _ c.number_at-v.ensures ∙ simp (le-ltb _ _ (there c.before))) ∙ simp (sym c.number_allowed.ensures ∙ not-false _ c.if-not-number_allowed.false)) ∙ simp (sym c.is_absent.ensures ∙ c.if-is_absent.true))
 
 pub returns : goal.returns
 returns c = let n = c.number_at-v in
-    value_as _ _ n.result n.ensures (by-absent c.before.before ∙ simp (sym c.is_absent.ensures ∙ c.if-is_absent.false))
+    value_as _ _ n.result n.ensures (((part_refusal _ _ _ c.number_at-v.ensures ∙ simp (le-ltb _ _ (there c.before))) ∙ simp (sym c.number_allowed.ensures ∙ not-false _ c.if-not-number_allowed.false)) ∙ simp (sym c.is_absent.ensures ∙ c.if-is_absent.false))

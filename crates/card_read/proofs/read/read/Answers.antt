@@ -31,16 +31,10 @@ some c = ones_some c.loop.left (omega arith)
 given : (c : goal.Else-table_missing) → let l = c.loop in missing l.next (count_trailing_zeros 8 l.left) (get_or l.v.numbers 0 0) ≡ false
 given c = sym c.table_missing.ensures ∙ c.if-table_missing.false
 
--- after the loop nothing is left
-ended : (c : goal.After-loop) → let l = c.loop in Rest c.args.card.now 0 l.next l.at l.v
-ended c =
-    let l = c.loop in
-    subst (λ (left : ℕ). Rest c.args.card.now left l.next l.at l.v) (ones_none l.left l.invariant.0.fields.small (omega (arith, l.invariant.1))) l.invariant.0
-
 accepted : (c : goal.Else-told-ne0) (r : Reading) (t : List ℕ) → r ≡ answering 0 (card_from (λ k. get_or c.loop.v.numbers k 0) t) → t ≡ padded (values (bytes o) table_bit) → r ≡ reading (bytes o)
 accepted c r t e d =
     let l = c.loop in
-    e ∙ ap (answering 0) (card_read _ l.at l.v t ((let l = c.loop in end_reached _ l.next l.at l.v (ended c.before.before) l.invariant.2 (sym c.end_refusal-told.ensures ∙ c.if-told-ne0.false))) d) ∙ reading-accepted _ ((let l = c.loop in told_end _ l.next l.at l.v (ended c.before) l.invariant.2 ∙ sym c.end_refusal-told.ensures) ∙ c.if-told-ne0.false)
+    e ∙ ap (answering 0) (card_read _ l.at l.v t ((let l = c.loop in end_reached _ l.next l.at l.v ((let l = c.loop in subst (λ (left : ℕ). Rest c.args.card.now left l.next l.at l.v) (ones_none l.left l.invariant.0.fields.small (omega (arith, l.invariant.1))) l.invariant.0)) l.invariant.2 (sym c.end_refusal-told.ensures ∙ c.if-told-ne0.false))) d) ∙ reading-accepted _ ((let l = c.loop in told_end _ l.next l.at l.v ((let l = c.loop in subst (λ (left : ℕ). Rest c.args.card.now left l.next l.at l.v) (ones_none l.left l.invariant.0.fields.small (omega (arith, l.invariant.1))) l.invariant.0)) l.invariant.2 ∙ sym c.end_refusal-told.ensures) ∙ c.if-told-ne0.false)
 
 -- ---- the needs
 pub refused-requires : goal.refused-requires
@@ -103,18 +97,18 @@ loop-preserved c = let l = c.loop in
     )
 
 pub returns-then-told-ne0 : goal.returns-then-told-ne0
-returns-then-told-ne0 c = c.refused-then-told-ne0.ensures ∙ reading-refused _ _ c.if-told-ne0.true ((let l = c.loop in told_end _ l.next l.at l.v (ended c.before) l.invariant.2 ∙ sym c.end_refusal-told.ensures))
+returns-then-told-ne0 c = c.refused-then-told-ne0.ensures ∙ reading-refused _ _ c.if-told-ne0.true ((let l = c.loop in told_end _ l.next l.at l.v ((let l = c.loop in subst (λ (left : ℕ). Rest c.args.card.now left l.next l.at l.v) (ones_none l.left l.invariant.0.fields.small (omega (arith, l.invariant.1))) l.invariant.0)) l.invariant.2 ∙ sym c.end_refusal-told.ensures))
 
 pub passed-requires : goal.passed-requires
-passed-requires c = (let l = c.loop in byte-values _ (none_first _ ((let l = c.loop in told_end _ l.next l.at l.v (ended c.before) l.invariant.2 ∙ sym c.end_refusal-told.ensures) ∙ c.if-told-ne0.false)) l.at l.v ((let l = c.loop in end_reached _ l.next l.at l.v (ended c.before.before) l.invariant.2 (sym c.end_refusal-told.ensures ∙ c.if-told-ne0.false))))
+passed-requires c = (let l = c.loop in byte-values _ (none_first _ ((let l = c.loop in told_end _ l.next l.at l.v ((let l = c.loop in subst (λ (left : ℕ). Rest c.args.card.now left l.next l.at l.v) (ones_none l.left l.invariant.0.fields.small (omega (arith, l.invariant.1))) l.invariant.0)) l.invariant.2 ∙ sym c.end_refusal-told.ensures) ∙ c.if-told-ne0.false)) l.at l.v ((let l = c.loop in end_reached _ l.next l.at l.v ((let l = c.loop in subst (λ (left : ℕ). Rest c.args.card.now left l.next l.at l.v) (ones_none l.left l.invariant.0.fields.small (omega (arith, l.invariant.1))) l.invariant.0)) l.invariant.2 (sym c.end_refusal-told.ensures ∙ c.if-told-ne0.false))))
 
 pub returns-then-card-eq0-2 : goal.returns-then-card-eq0-2
 returns-then-card-eq0-2 c = accepted c.before.before.before.before _ _ c.passed.ensures (c.absent_table.ensures ∙ table_absent c.args.card.now (rw c.if-card-eq0-2.true refl))
 
 pub passed-requires-2 : goal.passed-requires-2
-passed-requires-2 c = (let l = c.loop in byte-values _ (none_first _ ((let l = c.loop in told_end _ l.next l.at l.v (ended c.before) l.invariant.2 ∙ sym c.end_refusal-told.ensures) ∙ c.if-told-ne0.false)) l.at l.v ((let l = c.loop in end_reached _ l.next l.at l.v (ended c.before.before) l.invariant.2 (sym c.end_refusal-told.ensures ∙ c.if-told-ne0.false))))
+passed-requires-2 c = (let l = c.loop in byte-values _ (none_first _ ((let l = c.loop in told_end _ l.next l.at l.v ((let l = c.loop in subst (λ (left : ℕ). Rest c.args.card.now left l.next l.at l.v) (ones_none l.left l.invariant.0.fields.small (omega (arith, l.invariant.1))) l.invariant.0)) l.invariant.2 ∙ sym c.end_refusal-told.ensures) ∙ c.if-told-ne0.false)) l.at l.v ((let l = c.loop in end_reached _ l.next l.at l.v ((let l = c.loop in subst (λ (left : ℕ). Rest c.args.card.now left l.next l.at l.v) (ones_none l.left l.invariant.0.fields.small (omega (arith, l.invariant.1))) l.invariant.0)) l.invariant.2 (sym c.end_refusal-told.ensures ∙ c.if-told-ne0.false))))
 
 pub returns : goal.returns
 returns c = let l = c.loop in
     let given = eq-eqb (bit table_bit (get_or c.args.card.now 0 0)) 1 (omega (arith, c.if-card-eq0-2.false)) in
-    accepted c.before.before.before _ _ c.passed-2.ensures (table_given _ l.next l.at l.v l.table (ended c.before.before.before.before.before) l.invariant.2 given l.invariant.5)
+    accepted c.before.before.before _ _ c.passed-2.ensures (table_given _ l.next l.at l.v l.table ((let l = c.loop in subst (λ (left : ℕ). Rest c.args.card.now left l.next l.at l.v) (ones_none l.left l.invariant.0.fields.small (omega (arith, l.invariant.1))) l.invariant.0)) l.invariant.2 given l.invariant.5)

@@ -75,21 +75,15 @@ entries_allowed-requires c = (omega arith, sized c)
 
 pub returns-then-not-entries_allowed : goal.returns-then-not-entries_allowed
 returns-then-not-entries_allowed c = record { value = c.refused_at-then-not-entries_allowed.ensures ∙ field-refused table_bit _ _ 2 refl
-          (by_table c.before.before.before ∙ simp (sym c.entries_allowed.ensures ∙ not-true _ c.if-not-entries_allowed.true)); table_after = (
-      table-read c.before.before.before,
-    ); }
+          (by_table c.before.before.before ∙ simp (sym c.entries_allowed.ensures ∙ not-true _ c.if-not-entries_allowed.true)); table_after = table-read c.before.before.before; }
 
 pub is_tsc1-requires : goal.is_tsc1-requires
 is_tsc1-requires c = (omega arith, sized c.before.before)
 
 pub returns-then-is_tsc1 : goal.returns-then-is_tsc1
 returns-then-is_tsc1 c = record { value = c.refused_at-then-is_tsc1.ensures ∙ field-refused table_bit _ _ 3 refl
-          (by-absent c.before.before.before ∙ simp (sym c.is_tsc1.ensures ∙ c.if-is_tsc1.true)); table_after = (
-      table-read c.before.before.before.before.before,
-    ); }
+          (by-absent c.before.before.before ∙ simp (sym c.is_tsc1.ensures ∙ c.if-is_tsc1.true)); table_after = table-read c.before.before.before.before.before; }
 
 pub returns : goal.returns
 returns c = record { value = stored_as _ _ _ c.entries-size.ensures
-          (by-absent c.before.before.before ∙ simp (sym c.is_tsc1.ensures ∙ c.if-is_tsc1.false)); table_after = (
-      table-read c.before.before.before.before.before,
-    ); }
+          (by-absent c.before.before.before ∙ simp (sym c.is_tsc1.ensures ∙ c.if-is_tsc1.false)); table_after = table-read c.before.before.before.before.before; }

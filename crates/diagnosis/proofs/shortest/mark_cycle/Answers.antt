@@ -46,6 +46,4 @@ returns-then-size-steps c = let a = c.args in
 pub returns-then-y-x : goal.returns-then-y-x
 returns-then-y-x c = let a = c.args in
     let l = c.loop-steps in
-    let f = entry_of a.table.now in record { steps = length_is a.size f a.x l.steps l.invariant.3 (omega arith) (sym (ap f l.invariant.2) ∙ c.if-y-x.true); after = (
-      along_next f a.x l.steps a.marks.now l.invariant.4 l.invariant.2,
-    ); }
+    let f = entry_of a.table.now in record { steps = length_is a.size f a.x l.steps l.invariant.3 (omega arith) (sym (ap f l.invariant.2) ∙ c.if-y-x.true); after = along_next f a.x l.steps a.marks.now l.invariant.4 l.invariant.2; }

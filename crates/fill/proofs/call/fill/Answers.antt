@@ -16,22 +16,14 @@ use Rattle.gates.proofs.GateStep.{only-p1}
 use Rattle.fills.proofs.Filling.{refused_call, refused_span, made}
 use Rattle.fill.proofs.call.fill.Goals as goal
 
--- past the first test they are not refused
-passing : (c : goal.Else-refused-ne0) → let a = c.args in Clear a.card.now a.state.now (given o)
-passing c = clear _ _ c.accept-found.result c.accept-found.ensures (sym ((told _ _ c.accept-found.result c.accept-found.ensures c.call_refusal-refused.ensures)) ∙ c.if-refused-ne0.false)
-
--- the gate formulas are taken for TSC-1's card alone
-asked : (c : goal.Else-refused-ne0) → OnlyTsc1 c.is_tsc1-is_tsc1.result (given o)
-asked c = only-p1 _ _ _ (passing c).card_is c.is_tsc1-is_tsc1.ensures
-
 pub returns-then-refused-ne0 : goal.returns-then-refused-ne0
 returns-then-refused-ne0 c = let a = c.args in let both = refused_call a.card.now a.state.now a.strip.now a.place a.count _ ((told _ _ c.accept-found.result c.accept-found.ensures c.call_refusal-refused.ensures)) c.if-refused-ne0.true in record { answer = both.0; words = both.1; after = both.2; }
 
 pub returns-then-told-ne0 : goal.returns-then-told-ne0
-returns-then-told-ne0 c = let both = refused_span _ _ _ _ _ (passing c.before.before) _ c.span_refusal-told.ensures c.if-told-ne0.true in record { answer = both.0; words = both.1; after = both.2; }
+returns-then-told-ne0 c = let both = refused_span _ _ _ _ _ ((clear _ _ c.accept-found.result c.accept-found.ensures (sym ((told _ _ c.accept-found.result c.accept-found.ensures c.call_refusal-refused.ensures)) ∙ c.if-refused-ne0.false))) _ c.span_refusal-told.ensures c.if-told-ne0.true in record { answer = both.0; words = both.1; after = both.2; }
 
 pub load-held-requires : goal.load-held-requires
-load-held-requires c = few (passing c.before.before.before)
+load-held-requires c = few ((clear _ _ c.accept-found.result c.accept-found.ensures (sym ((told _ _ c.accept-found.result c.accept-found.ensures c.call_refusal-refused.ensures)) ∙ c.if-refused-ne0.false)))
 
 pub offset_bounds-strip-place : goal.offset_bounds-strip-place
 offset_bounds-strip-place c = omega (arith, (span_within _ _ _ ((sym c.span_refusal-told.ensures ∙ c.if-told-ne0.false))))
@@ -43,12 +35,12 @@ pub slice_bounds-fill_words-start : goal.slice_bounds-fill_words-start
 slice_bounds-fill_words-start c = let h = (span_within _ _ _ ((sym c.span_refusal-told.ensures ∙ c.if-told-ne0.false))) in search rules
 
 pub fill_words-last-requires : goal.fill_words-last-requires
-fill_words-last-requires c = let k = passing c.before.before.before.before.before in
+fill_words-last-requires c = let k = (clear _ _ c.accept-found.result c.accept-found.ensures (sym ((told _ _ c.accept-found.result c.accept-found.ensures c.call_refusal-refused.ensures)) ∙ c.if-refused-ne0.false)) in
     let a = c.args in
-    (accepted k, ready k c.load-held.ensures, omega (arith, (span_within _ _ _ ((sym c.span_refusal-told.ensures ∙ c.if-told-ne0.false))), ap length (part_rest a.place a.strip.now), length-drop a.place a.strip.now), asked c.before.before.before.before.before)
+    (accepted k, ready k c.load-held.ensures, omega (arith, (span_within _ _ _ ((sym c.span_refusal-told.ensures ∙ c.if-told-ne0.false))), ap length (part_rest a.place a.strip.now), length-drop a.place a.strip.now), (only-p1 _ _ _ ((clear _ _ c.accept-found.result c.accept-found.ensures (sym ((told _ _ c.accept-found.result c.accept-found.ensures c.call_refusal-refused.ensures)) ∙ c.if-refused-ne0.false))).card_is c.is_tsc1-is_tsc1.ensures))
 
 pub store-requires : goal.store-requires
-store-requires c = few (passing c.before.before.before.before.before.before.before.before.before)
+store-requires c = few ((clear _ _ c.accept-found.result c.accept-found.ensures (sym ((told _ _ c.accept-found.result c.accept-found.ensures c.call_refusal-refused.ensures)) ∙ c.if-refused-ne0.false)))
 
 pub returns : goal.returns
-returns c = let both = made _ _ _ _ _ (passing c.before.before.before.before.before.before.before.before.before.before.before.before) ((sym c.span_refusal-told.ensures ∙ c.if-told-ne0.false)) c.load-held.ensures c.fill_words-last.ensures.value c.fill_words-last.ensures.words_after c.store.ensures in record { answer = both.0; words = both.1; after = both.2; }
+returns c = let both = made _ _ _ _ _ ((clear _ _ c.accept-found.result c.accept-found.ensures (sym ((told _ _ c.accept-found.result c.accept-found.ensures c.call_refusal-refused.ensures)) ∙ c.if-refused-ne0.false))) ((sym c.span_refusal-told.ensures ∙ c.if-told-ne0.false)) c.load-held.ensures c.fill_words-last.ensures.value c.fill_words-last.ensures.words_after c.store.ensures in record { answer = both.0; words = both.1; after = both.2; }

@@ -12,6 +12,9 @@ module _ (card : Card) (t : Rotations) (s : State) (f : Filters card t s) where
   number : t.filter ≡ card.filter
   number = ap (λ (a : Rotations). a.filter) f.rotations
 
+  bits : t.width.bits ≡ card.width
+  bits = ap (λ (a : Rotations). a.width.bits) f.rotations
+
 pub filter_2-requires : goal.filter_2-requires
 filter_2-requires c = let card = c.requires.0 in
     let f = c.requires.1 in let both = chosen card c.args.t c.args.s rotations2 f (rw (eq-eqb card.filter 2 (sym (number card _ _ f) ∙ c.if-t-eq2.true))) in record { has_rotations = both.0; by_index = both.1; }

@@ -18,6 +18,12 @@ module _ (card : Card) (t : Rotations) (s : State) (f : Filters card t s) where
   words : t.words ≡ card.words
   words = ap (λ (a : Rotations). a.words) f.rotations
 
+  bits : t.width.bits ≡ card.width
+  bits = ap (λ (a : Rotations). a.width.bits) f.rotations
+
+  further_there : filter_words < card.words → HasFurther t
+  further_there l = rw f.rotations ((f.width.0, f.width.1, refl), simp (lt-ltb filter_words card.words l) refl)
+
 pub filtered_by-word-requires : goal.filtered_by-word-requires
 filtered_by-word-requires c = c.requires
 
@@ -29,9 +35,7 @@ pub with_further-requires : goal.with_further-requires
 with_further-requires c = let card = c.requires.0 in
     let f = c.requires.1 in
     let e = bits card c.args.t c.args.s f in
-    let x : ℕ → ℕ = λ k. get_or c.args.s.words k 0 in record { has_further = (further_there card c.args.t c.args.s f (omega (arith, words card c.args.t c.args.s f)), rw (e, c.filtered_by-word.ensures card f) (filtered_lt card x)); by_index = (
-      rw e f.words,
-    ); }
+    let x : ℕ → ℕ = λ k. get_or c.args.s.words k 0 in record { has_further = (further_there card c.args.t c.args.s f (omega (arith, words card c.args.t c.args.s f)), rw (e, c.filtered_by-word.ensures card f) (filtered_lt card x)); by_index = rw e f.words; }
 
 pub returns : goal.returns
 unfolding word

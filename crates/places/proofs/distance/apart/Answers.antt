@@ -13,6 +13,13 @@ module _ (s : goal.Start) where
   seen : read s.args.a -ℤ read s.args.b ≡ s.args.a -ℤ s.args.b
   seen = rw (read_back s.ranges.a, read_back s.ranges.b)
 
+  small : nat_abs (s.args.a -ℤ s.args.b) ≤ most_apart
+  small = apart_le s.args.a s.args.b s.requires.0 s.requires.1
+
+  of_result : (r : ℤ) → r ≡ read s.args.a -ℤ read s.args.b → read r ≡ s.args.a -ℤ s.args.b
+  of_result r e =
+      let same : r ≡ s.args.a -ℤ s.args.b = e ∙ seen in ap read same ∙ read_back (small_fits _ small)
+
 pub minus-requires : goal.minus-requires
 minus-requires c = subst (SFits w32) (sym (seen c)) (small_fits _ (small c))
 

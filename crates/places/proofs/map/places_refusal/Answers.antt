@@ -20,20 +20,17 @@ even : (shovels : List ℕ) (xs ys : List ℤ) (allowed : Bool) → paired shove
 unfolding place_checks first_of
 even shovels xs ys allowed e = rw e refl
 
-is-pair : (c : goal.Else-not-is_paired) → let a = c.args in paired a.shovels.now a.xs.now a.ys.now ≡ true
-is-pair c = sym c.is_paired.ensures ∙ not-false _ c.if-not-is_paired.false
-
 pub returns-then-not-is_paired : goal.returns-then-not-is_paired
 returns-then-not-is_paired c = uneven _ _ _ _ (sym c.is_paired.ensures ∙ not-true _ c.if-not-is_paired.true)
 
 pub returns-then-told-ne0 : goal.returns-then-told-ne0
 returns-then-told-ne0 c = let e = c.numbers_refusal-told.ensures in
-    e ∙ sym (even _ _ _ _ (is-pair c.before.before) ∙ first-left (number_checks c.args.shovels.now) _ (λ z. c.if-told-ne0.true (e ∙ z)))
+    e ∙ sym (even _ _ _ _ ((sym c.is_paired.ensures ∙ not-false _ c.if-not-is_paired.false)) ∙ first-left (number_checks c.args.shovels.now) _ (λ z. c.if-told-ne0.true (e ∙ z)))
 
 pub returns-then-not-allowed : goal.returns-then-not-allowed
 unfolding first_of
-returns-then-not-allowed c = sym ((even _ _ _ _ (is-pair c.before.before) ∙ first_right (number_checks c.args.shovels.now) _ (sym c.numbers_refusal-told.ensures ∙ c.if-told-ne0.false)) ∙ simp c.if-not-allowed.true)
+returns-then-not-allowed c = sym ((even _ _ _ _ ((sym c.is_paired.ensures ∙ not-false _ c.if-not-is_paired.false)) ∙ first_right (number_checks c.args.shovels.now) _ (sym c.numbers_refusal-told.ensures ∙ c.if-told-ne0.false)) ∙ simp c.if-not-allowed.true)
 
 pub returns : goal.returns
 unfolding first_of
-returns c = sym ((even _ _ _ _ (is-pair c.before.before) ∙ first_right (number_checks c.args.shovels.now) _ (sym c.numbers_refusal-told.ensures ∙ c.if-told-ne0.false)) ∙ simp c.if-not-allowed.false)
+returns c = sym ((even _ _ _ _ ((sym c.is_paired.ensures ∙ not-false _ c.if-not-is_paired.false)) ∙ first_right (number_checks c.args.shovels.now) _ (sym c.numbers_refusal-told.ensures ∙ c.if-told-ne0.false)) ∙ simp c.if-not-allowed.false)
