@@ -6,9 +6,10 @@ use Rattle.tsc.specs.declared.Card.{Card}
 use Rattle.tsc.specs.Constants.{most_words}
 use Rattle.card_format.proofs.Verdict.{accepted_card, accepting-passed}
 use Rattle.inspect.proofs.print_card.Goals as goal
+use Rattle.inspect.proofs.print_card.Goals.{After-struct_known-then-found-eq0-1}
 
 -- an accepted card has no more words than a state
-few : (c : goal.After-struct_known-then-found-eq0-1) → c.accept-found.result.card.words ≤ most_words
+few : (c : After-struct_known-then-found-eq0-1) → c.accept-found.result.card.words ≤ most_words
 few c =
     let bytes = c.args.card.now in
     let p = accepting-passed bytes _ c.accept-found.ensures c.if-found-eq0.true in
@@ -18,4 +19,4 @@ pub slice_bounds-state-end : goal.slice_bounds-state-end
 slice_bounds-state-end c = few c
 
 pub slice_bounds-print_draws-end : goal.slice_bounds-print_draws-end
-slice_bounds-print_draws-end c = sym (length-take-le _ _ (few c.before))
+slice_bounds-print_draws-end c = sym (length-take-le _ _ (few (goal.at.slice_bounds-print_draws-end c).After-struct_known-then-found-eq0-1))

@@ -5,6 +5,7 @@ use native.Mathlib.Omega.{arith}
 use lib.ListN.{length, take, drop, length-drop}
 use lib.Seq.{length-take-le}
 use Rattle.inspect.proofs.read_all.Goals as goal
+use Rattle.inspect.proofs.read_all.Goals.{After-struct_known-in-loop-at-1}
 
 -- what one more read puts behind the first `at` bytes stands in the slice too
 more_fits : (bytes rest : List ℕ) (at more : ℕ) → at ≤ length bytes → more ≤ length rest → length rest ≡ length (take (length bytes - at) (drop at bytes))
@@ -14,7 +15,7 @@ more_fits bytes rest at more a m e =
     omega (arith, m, e, l, length-take-le (length bytes - at) (drop at bytes) (omega (arith, l)))
 
 -- the place after the read, in the slice given back
-reached : (c : goal.After-struct_known-in-loop-at-1) → let l = c.loop-at in l.at + c.read_once-more.result.length ≤ length l.bytes
+reached : (c : After-struct_known-in-loop-at-1) → let l = c.loop-at in l.at + c.read_once-more.result.length ≤ length l.bytes
 reached c =
     let l = c.loop-at in
     more_fits l.bytes c.read_once-more.new.1.0 l.at _ l.invariant.0 c.read_once-more.ensures.0 c.bytes-1.given.0

@@ -12,7 +12,7 @@ returns-then-strip-gt-MOST_STRIP_WORDS c = simp (lt-ltb most_strip_words _ c.if-
 
 pub returns-then-not-all_fit : goal.returns-then-not-all_fit
 unfolding strip_checks first_of
-returns-then-not-all_fit c = simp (le-ltb most_strip_words _ c.if-strip-gt-MOST_STRIP_WORDS.false, sym c.all_fit.ensures ∙ not-true _ c.if-not-all_fit.true)
+returns-then-not-all_fit c = simp (le-ltb most_strip_words _ c.if-strip-gt-MOST_STRIP_WORDS.false, sym c.all_fit.ensures ∙ c.if-not-all_fit.true)
 
 pub overflow_mul-n : goal.overflow_mul-n
 overflow_mul-n c = record { fits = lt_of_le_of_lt (mul-le-mul (le_of_lt c.ranges.n.fits) c.if-strip-gt-MOST_STRIP_WORDS.false) (lit< tt) }
@@ -21,7 +21,7 @@ pub returns-then-room-n : goal.returns-then-room-n
 unfolding strip_checks first_of
 returns-then-room-n c = simp (
       le-ltb most_strip_words _ c.if-strip-gt-MOST_STRIP_WORDS.false,
-      sym c.all_fit.ensures ∙ not-false _ c.if-not-all_fit.false,
+      sym c.all_fit.ensures ∙ c.if-not-all_fit.false,
       lt-ltb _ _ c.if-room-n.true,
     )
 
@@ -29,6 +29,6 @@ pub returns : goal.returns
 unfolding strip_checks first_of
 returns c = simp (
       le-ltb most_strip_words _ c.if-strip-gt-MOST_STRIP_WORDS.false,
-      sym c.all_fit.ensures ∙ not-false _ c.if-not-all_fit.false,
+      sym c.all_fit.ensures ∙ c.if-not-all_fit.false,
       le-ltb _ _ c.if-room-n.false,
     )

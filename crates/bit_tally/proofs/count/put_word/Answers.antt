@@ -39,7 +39,7 @@ pub bounds-part-i : goal.bounds-part-i
 bounds-part-i c = let p = c.loop-left.invariant in omega (arith, kept p, p.places, p.room)
 
 pub with_bit-tally-requires : goal.with_bit-tally-requires
-with_bit-tally-requires c = let l = c.loop-left in (narrow c.before, room_less l.tally l.left 1 (omega arith) l.invariant.bits)
+with_bit-tally-requires c = let l = c.loop-left in (narrow (goal.at.with_bit-tally-requires c).After-bit_of-bit, room_less l.tally l.left 1 (omega arith) l.invariant.bits)
 
 pub overflow_add-i : goal.overflow_add-i
 overflow_add-i c = let p = c.loop-left.invariant in omega (arith, p.places, p.narrow)

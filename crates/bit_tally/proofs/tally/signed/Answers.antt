@@ -9,9 +9,10 @@ use mir.Val.{SFits, to_z}
 use Rattle.bit_tally.specs.Tally.{base}
 use Rattle.bit_tally.proofs.Signed.{sum_fits}
 use Rattle.bit_tally.proofs.tally.signed.Goals as goal
+use Rattle.bit_tally.proofs.tally.signed.Goals.{Start}
 
 -- the difference, as it is read
-difference : (c : goal.Start) → to_z w32 c.args.sum -ℤ pos base ≡ sub_ℕ c.args.sum base
+difference : (c : Start) → to_z w32 c.args.sum -ℤ pos base ≡ sub_ℕ c.args.sum base
 difference c = ap (λ (z : ℤ). z -ℤ pos base) (to_z_pos w32 (lt_of_le_of_lt c.requires (lit< tt)))
 
 pub overflow_sub-result : goal.overflow_sub-result

@@ -14,24 +14,32 @@ use Rattle.candidates.specs.Best.{attempted}
 use Rattle.tie_others.proofs.Joined.{others-least}
 use Rattle.candidates.proofs.Attempts.{placed_either, placed_next, placed-sound, best_found}
 use Rattle.candidates.proofs.search.try_shovel.Goals as goal
+use Rattle.candidates.proofs.search.try_shovel.Goals.{Start}
 
-tried : (s : goal.Start) (v : ℕ) (best : Best) → Placed (length s.args.shovels.now) best
+-- the best change so far is of the list, and so is each that is tried
+placed : (s : Start) → Placed (length s.args.shovels.now) s.args.best
+placed s = subst (λ (n : ℕ). Placed n s.args.best) (sym s.requires.several.0.1.paired) (placed-sound _ _ _ _ s.requires.best_of.sound)
+
+listed : (s : Start) → s.args.i < length s.args.shovels.now
+listed s = omega (arith, s.requires.several.1, s.requires.several.0.1.paired)
+
+tried : (s : Start) (v : ℕ) (best : Best) → Placed (length s.args.shovels.now) best
     → Placed (length s.args.shovels.now) (attempted s.args.known s.args.shovels.now s.args.times.now (change_to s.args.times.now s.args.i v) best)
-tried s v best p = placed_next s.args.known s.args.shovels.now s.args.times.now _ (change_to s.args.times.now s.args.i v) best ((omega (arith, s.requires.several.1, s.requires.several.0.1.paired))) p
+tried s v best p = placed_next s.args.known s.args.shovels.now s.args.times.now _ (change_to s.args.times.now s.args.i v) best (listed s) p
 
-placed_below : (s : goal.Start) (x : ℕ) → Placed (length s.args.shovels.now) (cond (eqb x 0 || ltb (get_or s.args.times.now s.args.i 0) x) s.args.best
+placed_below : (s : Start) (x : ℕ) → Placed (length s.args.shovels.now) (cond (eqb x 0 || ltb (get_or s.args.times.now s.args.i 0) x) s.args.best
     (attempted s.args.known s.args.shovels.now s.args.times.now (change_to s.args.times.now s.args.i (x - 1)) s.args.best))
-placed_below s x = placed_either _ (eqb x 0 || ltb (get_or s.args.times.now s.args.i 0) x) s.args.best _ ((subst (λ (n : ℕ). Placed n s.args.best) (sym s.requires.several.0.1.paired) (placed-sound _ _ _ _ s.requires.best_of.sound))) (tried s (x - 1) s.args.best ((subst (λ (n : ℕ). Placed n s.args.best) (sym s.requires.several.0.1.paired) (placed-sound _ _ _ _ s.requires.best_of.sound))))
+placed_below s x = placed_either _ (eqb x 0 || ltb (get_or s.args.times.now s.args.i 0) x) s.args.best _ (placed s) (tried s (x - 1) s.args.best (placed s))
 
 pub attempt_below-below-requires : goal.attempt_below-below-requires
-attempt_below-below-requires c = record { several = (c.requires.several.0, c.requires.several.1, (subst (λ (n : ℕ). Placed n c.args.best) (sym c.requires.several.0.1.paired) (placed-sound _ _ _ _ c.requires.best_of.sound))); others = c.others_of-o.ensures; }
+attempt_below-below-requires c = record { several = (c.requires.several.0, c.requires.several.1, placed (goal.at.attempt_below-below-requires c).Start); others = c.others_of-o.ensures; }
 
 pub attempt-at-requires : goal.attempt-at-requires
-attempt-at-requires c = let o = c.others_of-o in record { several = (c.requires.several.0, c.requires.several.1, subst (Placed _) (sym c.attempt_below-below.ensures) (placed_below c.before.before.before.before.before o.result.time)); others = o.ensures; }
+attempt-at-requires c = let o = c.others_of-o in record { several = (c.requires.several.0, c.requires.several.1, subst (Placed _) (sym c.attempt_below-below.ensures) (placed_below (goal.at.attempt-at-requires c).Start o.result.time)); others = o.ensures; }
 
 pub attempt_above-requires : goal.attempt_above-requires
 attempt_above-requires c = let o = c.others_of-o in
-    let below = subst (Placed _) (sym c.attempt_below-below.ensures) (placed_below c.before.before.before.before.before.before o.result.time) in record { several = (c.requires.several.0, c.requires.several.1, subst (Placed _) (sym c.attempt-at.ensures) (tried c.before.before.before.before.before.before o.result.time _ below)); others = o.ensures; }
+    let below = subst (Placed _) (sym c.attempt_below-below.ensures) (placed_below (goal.at.attempt_above-requires c).Start o.result.time) in record { several = (c.requires.several.0, c.requires.several.1, subst (Placed _) (sym c.attempt-at.ensures) (tried (goal.at.attempt_above-requires c).Start o.result.time _ below)); others = o.ensures; }
 
 pub returns : goal.returns
 returns c = let a = c.args in

@@ -15,6 +15,7 @@ use Rattle.card_format.proofs.Writing.{range_words, length-field_bytes, extent-f
 use Rattle.card_encode.proofs.FieldBytes.{field_bytes-one}
 use borrow.Author.Rules.{rules}
 use Rattle.card_encode.proofs.put.put_field.Goals as goal
+use Rattle.card_encode.proofs.put.put_field.Goals.{After-extent_of-size, Else-not-is_written}
 
 -- the table's bytes are its entries
 table_bytes : (card : Card) (k size : ℕ) → k ≡ table_bit → length card.table ≡ 2 ^ most_words → in_range card ≡ true → is_written card k ≡ true
@@ -26,22 +27,31 @@ table_bytes card k size t z r w e =
 
 -- ---- what is known at a place of the code
 -- past the first test the field is written
-is : (c : goal.Else-not-is_written) → let a = c.args in is_written a.card a.k ≡ true
-is c = sym c.is_written.ensures ∙ not-false _ c.if-not-is_written.false
+is : (c : Else-not-is_written) → let a = c.args in is_written a.card a.k ≡ true
+is c = sym c.is_written.ensures ∙ c.if-not-is_written.false
+
+-- with its whole extent
+whole : (c : After-extent_of-size) → let a = c.args in c.extent_of-size.result ≡ length (field_bytes a.card a.k)
+whole c =
+    let a = c.args in
+    c.extent_of-size.ensures ∙ sym (length-field_bytes a.card a.k ∙ rw ((sym c.is_written.ensures ∙ c.if-not-is_written.false)) refl)
+
+sized : (c : After-extent_of-size) → length c.args.card.table ≡ 2 ^ most_words
+sized c = search rules
 
 -- the bytes that are put at the start of the part are the field's
-put : (c : goal.After-extent_of-size) → let a = c.args in let n = c.extent_of-size.result in let b = field_bytes a.card a.k in
+put : (c : After-extent_of-size) → let a = c.args in let n = c.extent_of-size.result in let b = field_bytes a.card a.k in
     (xs ys : List ℕ) → ys ≡ xs ++ drop n a.part.now → xs ≡ b → (n ≡ length b) × (ys ≡ b ++ drop (length b) a.part.now)
 put c xs ys e d =
     let a = c.args in
-    ((let a = c.args in c.extent_of-size.ensures ∙ sym (length-field_bytes a.card a.k ∙ rw (is c.before) refl)), e ∙ ap₂ (λ (xs : List ℕ) (n : ℕ). xs ++ drop n a.part.now) d ((let a = c.args in c.extent_of-size.ensures ∙ sym (length-field_bytes a.card a.k ∙ rw (is c.before) refl))))
+    (whole c, e ∙ ap₂ (λ (xs : List ℕ) (n : ℕ). xs ++ drop n a.part.now) d (whole c))
 
 -- ---- the needs
 pub is_written-requires : goal.is_written-requires
 is_written-requires c = (c.requires.k_lt_field_count.0, range_words c.args.card c.requires.k_lt_field_count.1)
 
 pub returns-then-not-is_written : goal.returns-then-not-is_written
-returns-then-not-is_written c = let a = c.args in let both = rw (field_bytes-none a.card a.k (sym c.is_written.ensures ∙ not-true _ c.if-not-is_written.true)) (refl, refl) in record { value = both.0; part_after = both.1; }
+returns-then-not-is_written c = let a = c.args in let both = rw (field_bytes-none a.card a.k (sym c.is_written.ensures ∙ c.if-not-is_written.true)) (refl, refl) in record { value = both.0; part_after = both.1; }
 
 pub extent_of-size-requires : goal.extent_of-size-requires
 extent_of-size-requires c = (c.requires.k_lt_field_count.0, range_words c.args.card c.requires.k_lt_field_count.1)
@@ -49,18 +59,18 @@ extent_of-size-requires c = (c.requires.k_lt_field_count.0, range_words c.args.c
 pub put_table-requires : goal.put_table-requires
 put_table-requires c = (
       omega (arith, c.extent_of-size.ensures, extent-few c.args.card.words (range_words c.args.card c.requires.k_lt_field_count.1) c.args.k c.requires.k_lt_field_count.0),
-      (search rules),
-      omega (arith, (let a = c.args in c.extent_of-size.ensures ∙ sym (length-field_bytes a.card a.k ∙ rw (is c.before) refl)), c.requires.k_in_bounds),
+      sized (goal.at.put_table-requires c).After-extent_of-size,
+      omega (arith, whole (goal.at.put_table-requires c).After-extent_of-size, c.requires.k_in_bounds),
     )
 
 pub returns-then-k-eq-TABLE : goal.returns-then-k-eq-TABLE
-returns-then-k-eq-TABLE c = let both = put c.before.before.before.before.before.before _ _ c.put_table.ensures
-    (table_bytes c.args.card c.args.k c.extent_of-size.result c.if-k-eq-TABLE.true ((search rules)) c.requires.k_lt_field_count.1 (is c.before.before.before.before.before.before.before) c.extent_of-size.ensures) in record { value = both.0; part_after = both.1; }
+returns-then-k-eq-TABLE c = let both = put (goal.at.returns-then-k-eq-TABLE c).After-extent_of-size _ _ c.put_table.ensures
+    (table_bytes c.args.card c.args.k c.extent_of-size.result c.if-k-eq-TABLE.true (sized (goal.at.returns-then-k-eq-TABLE c).After-extent_of-size) c.requires.k_lt_field_count.1 (is (goal.at.returns-then-k-eq-TABLE c).Else-not-is_written) c.extent_of-size.ensures) in record { value = both.0; part_after = both.1; }
 
 pub put_number-requires : goal.put_number-requires
-put_number-requires c = omega (arith, (let a = c.args in c.extent_of-size.ensures ∙ sym (length-field_bytes a.card a.k ∙ rw (is c.before) refl)), c.requires.k_in_bounds)
+put_number-requires c = omega (arith, whole (goal.at.put_number-requires c).After-extent_of-size, c.requires.k_in_bounds)
 
 pub returns : goal.returns
-returns c = let n = c.number_of in let both = put c.before.before.before.before.before.before _ _ c.put_number.ensures
+returns c = let n = c.number_of in let both = put (goal.at.returns c).After-extent_of-size _ _ c.put_number.ensures
     (ap (low_bytes n.result) c.extent_of-size.ensures
-    ∙ sym (field_bytes-one c.args.card c.args.k n.result c.requires.k_lt_field_count.0 c.if-k-eq-TABLE.false n.ensures (is c.before.before.before.before.before.before.before))) in record { value = both.0; part_after = both.1; }
+    ∙ sym (field_bytes-one c.args.card c.args.k n.result c.requires.k_lt_field_count.0 c.if-k-eq-TABLE.false n.ensures (is (goal.at.returns c).Else-not-is_written))) in record { value = both.0; part_after = both.1; }

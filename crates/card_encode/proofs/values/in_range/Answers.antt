@@ -21,11 +21,11 @@ field_allowed-requires c = (omega arith, λ p. words-allowed c.args.card (every_
 
 pub returns-then-not-field_allowed : goal.returns-then-not-field_allowed
 unfolding in_range
-returns-then-not-field_allowed c = rw (every_not field_count _ c.loop-k.k (omega arith) (sym c.field_allowed.ensures ∙ not-true _ c.if-not-field_allowed.true)) refl
+returns-then-not-field_allowed c = rw (every_not field_count _ c.loop-k.k (omega arith) (sym c.field_allowed.ensures ∙ c.if-not-field_allowed.true)) refl
 
 pub loop-k-preserved : goal.loop-k-preserved
 unfolding every
-loop-k-preserved c = (omega arith, rw add-one (simp (c.loop-k.invariant.1, sym c.field_allowed.ensures ∙ not-false _ c.if-not-field_allowed.false)))
+loop-k-preserved c = (omega arith, rw add-one (simp (c.loop-k.invariant.1, sym c.field_allowed.ensures ∙ c.if-not-field_allowed.false)))
 
 pub unused_clear-requires : goal.unused_clear-requires
 unused_clear-requires c = let l = c.loop-k in

@@ -1,14 +1,12 @@
 use mathlib.Core.Path.{◌≡◌, sym, ap, ◌∙◌}
 use mathlib.Core.List.{List, [], ◌∷◌}
-use Prim.Native.Nat.{ℕ, ◌+◌, ◌*◌, ◌≤◌}
+use Prim.Native.Nat.{ℕ, ◌+◌, ◌*◌, ◌≤◌, ◌<◌}
+use mathlib.Core.Logic.{◌≢◌}
 use native.Mathlib.Omega.{arith}
 use lib.ListN.{length, get_or}
 use Rattle.cycle.specs.Notation.{sum}
-use Rattle.card_format.specs.Fields.{field, fields, constant_bit, numbers}
+use Rattle.card_format.specs.Fields.{field, fields, field_count, table_bit, constant_bit, extent, numbers}
 use Rattle.card_format.proofs.Fields.{low_first, numbers-one, count-one, size-one}
-use Rattle.card_fields.proofs.number.number_at.Reads as reads
-use Rattle.card_fields.proofs.number.number_at.Lts as lts
-use Rattle.card_fields.proofs.number.low_first.Reads as low-first-reads
 use Rattle.card_fields.proofs.number.number_at.Goals as goal
 
 four : (part : List ℕ) → get_or part 0 0 + get_or part 1 0 * 256 + get_or part 2 0 * 65536 + get_or part 3 0 * 16777216 ≡ low_first 4 part
@@ -19,40 +17,40 @@ one : (part : List ℕ) → get_or part 0 0 ≡ low_first 1 part
 unfolding sum
 one part = omega arith
 
-module _ (c : lts.Start (low-first-reads.Asked, low-first-reads.Learnt) reads.Pre reads.Post) where
+module _ (k m : ℕ) (part : List ℕ) (numeric : (k < field_count) × (k ≢ table_bit)) (there : extent (field m k) ≤ length part) where
   -- the field's number, by its size
-  of_size : (s x : ℕ) → (field c.args.m c.args.k).size ≡ s → x ≡ low_first s c.args.part.now → numbers (field c.args.m c.args.k) c.args.part.now ≡ x ∷ []
+  of_size : (s x : ℕ) → (field m k).size ≡ s → x ≡ low_first s part → numbers (field m k) part ≡ x ∷ []
   of_size s x es ex =
-      numbers-one _ _ (count-one c.args.m c.args.k c.requires.0.0 c.requires.0.1) ∙ ap (λ (v : ℕ). v ∷ []) (ap (λ (s : ℕ). low_first s c.args.part.now) es ∙ sym ex)
+      numbers-one _ _ (count-one m k numeric.0 numeric.1) ∙ ap (λ (v : ℕ). v ∷ []) (ap (λ (s : ℕ). low_first s part) es ∙ sym ex)
 
   -- its bytes are there
-  room : (s : ℕ) → (field c.args.m c.args.k).size ≡ s → s ≤ length c.args.part.now
-  room s es = omega (arith, c.requires.1, ap (λ (n : ℕ). n * (field c.args.m c.args.k).size) (count-one c.args.m c.args.k c.requires.0.0 c.requires.0.1))
+  room : (s : ℕ) → (field m k).size ≡ s → s ≤ length part
+  room s es = omega (arith, there, ap (λ (n : ℕ). n * (field m k).size) (count-one m k numeric.0 numeric.1))
 
-  size_four : c.args.k ≡ constant_bit → (field c.args.m c.args.k).size ≡ 4
+  size_four : k ≡ constant_bit → (field m k).size ≡ 4
   unfolding field fields
-  size_four e = ap (λ (k : ℕ). (field c.args.m k).size) e
+  size_four e = ap (λ (j : ℕ). (field m j).size) e
 
 pub bounds-part-0 : goal.bounds-part-0
-bounds-part-0 c = omega (arith, room s 4 (size_four s c.if-k-eq-CONSTANT.true))
+bounds-part-0 c = omega (arith, room c.args.k c.args.m c.args.part.now c.requires.k_lt_field_count c.requires.k_in_bounds 4 (size_four c.args.k c.args.m c.args.part.now c.requires.k_lt_field_count c.requires.k_in_bounds c.if-k-eq-CONSTANT.true))
 
 pub bounds-part-1 : goal.bounds-part-1
-bounds-part-1 c = omega (arith, room s 4 (size_four s c.if-k-eq-CONSTANT.true))
+bounds-part-1 c = omega (arith, room c.args.k c.args.m c.args.part.now c.requires.k_lt_field_count c.requires.k_in_bounds 4 (size_four c.args.k c.args.m c.args.part.now c.requires.k_lt_field_count c.requires.k_in_bounds c.if-k-eq-CONSTANT.true))
 
 pub bounds-part-2 : goal.bounds-part-2
-bounds-part-2 c = omega (arith, room s 4 (size_four s c.if-k-eq-CONSTANT.true))
+bounds-part-2 c = omega (arith, room c.args.k c.args.m c.args.part.now c.requires.k_lt_field_count c.requires.k_in_bounds 4 (size_four c.args.k c.args.m c.args.part.now c.requires.k_lt_field_count c.requires.k_in_bounds c.if-k-eq-CONSTANT.true))
 
 pub bounds-part-3 : goal.bounds-part-3
-bounds-part-3 c = omega (arith, room s 4 (size_four s c.if-k-eq-CONSTANT.true))
+bounds-part-3 c = omega (arith, room c.args.k c.args.m c.args.part.now c.requires.k_lt_field_count c.requires.k_in_bounds 4 (size_four c.args.k c.args.m c.args.part.now c.requires.k_lt_field_count c.requires.k_in_bounds c.if-k-eq-CONSTANT.true))
 
 pub returns-then-k-eq-CONSTANT : goal.returns-then-k-eq-CONSTANT
-returns-then-k-eq-CONSTANT c = of_size s 4 _ (size_four s c.if-k-eq-CONSTANT.true) (c.low_first.ensures ∙ four c.args.part.now)
+returns-then-k-eq-CONSTANT c = of_size c.args.k c.args.m c.args.part.now c.requires.k_lt_field_count c.requires.k_in_bounds 4 _ (size_four c.args.k c.args.m c.args.part.now c.requires.k_lt_field_count c.requires.k_in_bounds c.if-k-eq-CONSTANT.true) (c.low_first.ensures ∙ four c.args.part.now)
 
 pub bounds-part-0-2 : goal.bounds-part-0-2
-bounds-part-0-2 c = omega (arith, room s 1 (size-one c.args.m c.args.k c.requires.k_lt_field_count.0 c.requires.k_lt_field_count.1 c.if-k-eq-CONSTANT.false))
+bounds-part-0-2 c = omega (arith, room c.args.k c.args.m c.args.part.now c.requires.k_lt_field_count c.requires.k_in_bounds 1 (size-one c.args.m c.args.k c.requires.k_lt_field_count.0 c.requires.k_lt_field_count.1 c.if-k-eq-CONSTANT.false))
 
 pub overflow_cast-result : goal.overflow_cast-result
 overflow_cast-result c = omega (arith, c.shared_slice_known-1.given 0)
 
 pub returns : goal.returns
-returns c = of_size s 1 _ (size-one c.args.m c.args.k c.requires.k_lt_field_count.0 c.requires.k_lt_field_count.1 c.if-k-eq-CONSTANT.false) (one c.args.part.now)
+returns c = of_size c.args.k c.args.m c.args.part.now c.requires.k_lt_field_count c.requires.k_in_bounds 1 _ (size-one c.args.m c.args.k c.requires.k_lt_field_count.0 c.requires.k_lt_field_count.1 c.if-k-eq-CONSTANT.false) (one c.args.part.now)

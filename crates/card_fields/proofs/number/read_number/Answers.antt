@@ -13,6 +13,7 @@ use Rattle.card_format.proofs.Fields.{part_refusal}
 use Rattle.card_fields.specs.declared.number.Number.TheVariants.{Value, Refused}
 use Rattle.card_fields.specs.Number.{number_read}
 use Rattle.card_fields.proofs.number.read_number.Goals as goal
+use Rattle.card_fields.proofs.number.read_number.Goals.{Else-part-extent_of}
 
 refused_as : (f : Field) (part : List ℕ) (r : ℕ) → r ≢ 0 → first_of (part_checks f part) ≡ r → Refused r ≡ number_read f part
 unfolding number_read
@@ -23,7 +24,7 @@ unfolding number_read
 value_as f part v n e = rw (e, n) refl
 
 -- past the first test, the field's bytes are there
-there : (c : goal.Else-part-extent_of) → let a = c.args in extent (field a.m a.k) ≤ length a.part.now
+there : (c : Else-part-extent_of) → let a = c.args in extent (field a.m a.k) ≤ length a.part.now
 there c = omega (arith, c.extent_of.ensures, c.if-part-extent_of.false)
 
 pub returns-then-part-extent_of : goal.returns-then-part-extent_of
@@ -36,11 +37,11 @@ number_at-v-requires c = let p = c.requires in record { k_lt_field_count = (p.0,
 
 pub returns-then-not-number_allowed : goal.returns-then-not-number_allowed
 returns-then-not-number_allowed c = refused_as _ _ 2 (λ e. absurd (omega arith))
-    ((part_refusal _ _ _ c.number_at-v.ensures ∙ simp (le-ltb _ _ (there c.before))) ∙ simp (sym c.number_allowed.ensures ∙ not-true _ c.if-not-number_allowed.true))
+    ((part_refusal _ _ _ c.number_at-v.ensures ∙ simp (le-ltb _ _ (there (goal.at.returns-then-not-number_allowed c).Else-part-extent_of))) ∙ simp (sym c.number_allowed.ensures ∙ c.if-not-number_allowed.true))
 
 pub returns-then-is_absent : goal.returns-then-is_absent
-returns-then-is_absent c = refused_as _ _ 3 (λ e. absurd (omega arith)) (((part_refusal _ _ _ c.number_at-v.ensures ∙ simp (le-ltb _ _ (there c.before))) ∙ simp (sym c.number_allowed.ensures ∙ not-false _ c.if-not-number_allowed.false)) ∙ simp (sym c.is_absent.ensures ∙ c.if-is_absent.true))
+returns-then-is_absent c = refused_as _ _ 3 (λ e. absurd (omega arith)) (((part_refusal _ _ _ c.number_at-v.ensures ∙ simp (le-ltb _ _ (there (goal.at.returns-then-is_absent c).Else-part-extent_of))) ∙ simp (sym c.number_allowed.ensures ∙ c.if-not-number_allowed.false)) ∙ simp (sym c.is_absent.ensures ∙ c.if-is_absent.true))
 
 pub returns : goal.returns
 returns c = let n = c.number_at-v in
-    value_as _ _ n.result n.ensures (((part_refusal _ _ _ c.number_at-v.ensures ∙ simp (le-ltb _ _ (there c.before))) ∙ simp (sym c.number_allowed.ensures ∙ not-false _ c.if-not-number_allowed.false)) ∙ simp (sym c.is_absent.ensures ∙ c.if-is_absent.false))
+    value_as _ _ n.result n.ensures (((part_refusal _ _ _ c.number_at-v.ensures ∙ simp (le-ltb _ _ (there (goal.at.returns c).Else-part-extent_of))) ∙ simp (sym c.number_allowed.ensures ∙ c.if-not-number_allowed.false)) ∙ simp (sym c.is_absent.ensures ∙ c.if-is_absent.false))

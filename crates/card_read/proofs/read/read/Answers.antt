@@ -22,19 +22,60 @@ use Rattle.card_read.proofs.Reader.{Reached, Rest, reached-map, rest_gap, rest_h
 use Rattle.card_read.proofs.Table.{table_to, table_start, table_length, rest_table, table_given, table_absent}
 use lib.Dec.{lit<}
 use Rattle.card_read.proofs.read.read.Goals as goal
+use Rattle.card_read.proofs.read.read.Goals.{After-end_refusal-told, After-loop, After-read_field-v, At-loop, Else-table_missing, Else-told-ne0, In-loop}
+
+-- ---- what is known at a place of the code
+-- the card's bytes, seen from the loop
+abbrev bytes : At-loop → List ℕ
+bytes c = c.args.card.now
 
 -- within the loop a field is left
-some : (c : goal.In-loop) → 0 < c.loop.left
+some : (c : In-loop) → 0 < c.loop.left
 some c = ones_some c.loop.left (omega arith)
 
 -- past the table's test, none is missing before the next field
-given : (c : goal.Else-table_missing) → let l = c.loop in missing l.next (count_trailing_zeros 8 l.left) (get_or l.v.numbers 0 0) ≡ false
+given : (c : Else-table_missing) → let l = c.loop in missing l.next (count_trailing_zeros 8 l.left) (get_or l.v.numbers 0 0) ≡ false
 given c = sym c.table_missing.ensures ∙ c.if-table_missing.false
 
-accepted : (c : goal.Else-told-ne0) (r : Reading) (t : List ℕ) → r ≡ answering 0 (card_from (λ k. get_or c.loop.v.numbers k 0) t) → t ≡ padded (values (bytes o) table_bit) → r ≡ reading (bytes o)
+-- a field's reader had the bytes from the field's start on
+told : (c : After-read_field-v) → let l = c.loop in
+    let k = count_trailing_zeros 8 l.left in let part = drop l.at (bytes o) in
+    (c.read_field-v.result ≡ field_read k part l.v) × (c.read_field-v.new.1.1.1.0 ≡ table_read k part l.v l.table)
+told c =
+    let l = c.loop in
+    let k = count_trailing_zeros 8 l.left in
+    let rest = part_rest l.at c.args.card.now in (
+      c.read_field-v.ensures.value ∙ ap (λ (part : List ℕ). field_read k part l.v) rest,
+      c.read_field-v.ensures.used_in_bounds.1 ∙ ap (λ (part : List ℕ). table_read k part l.v l.table) rest,
+    )
+
+-- after the loop nothing is left
+ended : (c : After-loop) → let l = c.loop in Rest c.args.card.now 0 l.next l.at l.v
+ended c =
+    let l = c.loop in
+    subst (λ (left : ℕ). Rest c.args.card.now left l.next l.at l.v) (ones_none l.left l.invariant.0.fields.small (omega (arith, l.invariant.1))) l.invariant.0
+
+-- and the end's refusal is the form's
+end-told : (c : After-end_refusal-told) → first_of (form_checks c.args.card.now) ≡ c.end_refusal-told.result
+end-told c =
+    let l = c.loop in
+    told_end _ l.next l.at l.v ((let l = c.loop in subst (λ (left : ℕ). Rest c.args.card.now left l.next l.at l.v) (ones_none l.left l.invariant.0.fields.small (omega (arith, l.invariant.1))) l.invariant.0)) l.invariant.2 ∙ sym c.end_refusal-told.ensures
+
+-- where that is none, all fields are read
+passed : (c : Else-told-ne0) → let l = c.loop in Reached c.args.card.now field_count l.at l.v
+passed c =
+    let l = c.loop in
+    end_reached _ l.next l.at l.v ((let l = c.loop in subst (λ (left : ℕ). Rest c.args.card.now left l.next l.at l.v) (ones_none l.left l.invariant.0.fields.small (omega (arith, l.invariant.1))) l.invariant.0)) l.invariant.2 (sym c.end_refusal-told.ensures ∙ c.if-told-ne0.false)
+
+-- so the card is that of the numbers and of a table that is the card's
+low : (c : Else-told-ne0) → let v = c.loop.v in
+    (k : ℕ) → k < field_count → k ≢ table_bit → k ≢ constant_bit → get_or v.numbers k 0 < 256
+low c = let l = c.loop in byte-values _ (none_first _ ((let l = c.loop in told_end _ l.next l.at l.v ((let l = c.loop in subst (λ (left : ℕ). Rest c.args.card.now left l.next l.at l.v) (ones_none l.left l.invariant.0.fields.small (omega (arith, l.invariant.1))) l.invariant.0)) l.invariant.2 ∙ sym c.end_refusal-told.ensures) ∙ c.if-told-ne0.false)) l.at l.v (passed c)
+
+accepted : (c : Else-told-ne0) (r : Reading) (t : List ℕ) → r ≡ answering 0 (card_from (λ k. get_or c.loop.v.numbers k 0) t) → t ≡ padded (values (bytes o) table_bit) → r ≡ reading (bytes o)
 accepted c r t e d =
     let l = c.loop in
-    e ∙ ap (answering 0) (card_read _ l.at l.v t ((let l = c.loop in end_reached _ l.next l.at l.v ((let l = c.loop in subst (λ (left : ℕ). Rest c.args.card.now left l.next l.at l.v) (ones_none l.left l.invariant.0.fields.small (omega (arith, l.invariant.1))) l.invariant.0)) l.invariant.2 (sym c.end_refusal-told.ensures ∙ c.if-told-ne0.false))) d) ∙ reading-accepted _ ((let l = c.loop in told_end _ l.next l.at l.v ((let l = c.loop in subst (λ (left : ℕ). Rest c.args.card.now left l.next l.at l.v) (ones_none l.left l.invariant.0.fields.small (omega (arith, l.invariant.1))) l.invariant.0)) l.invariant.2 ∙ sym c.end_refusal-told.ensures) ∙ c.if-told-ne0.false)
+    e ∙ ap (answering 0) (card_read _ l.at l.v t (passed c) d) ∙ reading-accepted _ ((let l = c.loop in told_end _ l.next l.at l.v ((let l = c.loop in subst (λ (left : ℕ). Rest c.args.card.now left l.next l.at l.v) (ones_none l.left l.invariant.0.fields.small (omega (arith, l.invariant.1))) l.invariant.0)) l.invariant.2 ∙ sym c.end_refusal-told.ensures) ∙ c.if-told-ne0.false)
 
 -- ---- the needs
 pub refused-requires : goal.refused-requires
@@ -68,7 +109,7 @@ returns-then-table_missing c = let l = c.loop in
 
 pub read_field-v-requires : goal.read_field-v-requires
 read_field-v-requires c = let l = c.loop in (
-      (rest_here _ l.left l.next l.at l.v l.invariant.0 (some c.before.before.before.before.before) (given c.before.before)).1,
+      (rest_here _ l.left l.next l.at l.v l.invariant.0 (some (goal.at.read_field-v-requires c).In-loop) (given (goal.at.read_field-v-requires c).Else-table_missing)).1,
       words-few _ l.next l.at l.v l.invariant.0.reached,
       l.invariant.4,
     )
@@ -76,39 +117,39 @@ read_field-v-requires c = let l = c.loop in (
 pub returns-then-v-ne0 : goal.returns-then-v-ne0
 returns-then-v-ne0 c = let l = c.loop in
     c.refused-then-v-ne0.ensures ∙ reading-refused _ _ c.if-v-ne0.true
-    (rest_refused _ l.left l.next l.at l.v _ l.invariant.0 (some c.before.before.before.before.before.before.before.before) (given c.before.before.before.before.before) ((let l = c.loop in let k = count_trailing_zeros 8 l.left in let rest = part_rest l.at c.args.card.now in ( c.read_field-v.ensures.value ∙ ap (λ (part : List ℕ). field_read k part l.v) rest, c.read_field-v.ensures.used_in_bounds.1 ∙ ap (λ (part : List ℕ). table_read k part l.v l.table) rest, ))).0 c.if-v-ne0.true)
+    (rest_refused _ l.left l.next l.at l.v _ l.invariant.0 (some (goal.at.returns-then-v-ne0 c).In-loop) (given (goal.at.returns-then-v-ne0 c).Else-table_missing) (told (goal.at.returns-then-v-ne0 c).After-read_field-v).0 c.if-v-ne0.true)
 
 pub overflow_add-next : goal.overflow_add-next
 overflow_add-next c = omega (arith, trailing_le 8 c.loop.left)
 
 pub overflow_sub-left : goal.overflow_sub-left
-overflow_sub-left c = some c.before.before.before.before.before.before.before
+overflow_sub-left c = some (goal.at.overflow_sub-left c).In-loop
 
 pub loop-preserved : goal.loop-preserved
 loop-preserved c = let l = c.loop in
-    let low = lowest_one l.left (some c.before.before.before.before.before.before.before) l.invariant.0.fields.small in
-    let r = (let l = c.loop in let k = count_trailing_zeros 8 l.left in let rest = part_rest l.at c.args.card.now in ( c.read_field-v.ensures.value ∙ ap (λ (part : List ℕ). field_read k part l.v) rest, c.read_field-v.ensures.used_in_bounds.1 ∙ ap (λ (part : List ℕ). table_read k part l.v l.table) rest, )) in (
-      rest_next _ l.left l.next l.at l.v _ l.invariant.0 (some c.before.before.before.before.before.before.before) (given c.before.before.before.before) r.0 c.if-v-ne0.false,
+    let low = lowest_one l.left (some (goal.at.loop-preserved c).In-loop) l.invariant.0.fields.small in
+    let r = told (goal.at.loop-preserved c).After-read_field-v in (
+      rest_next _ l.left l.next l.at l.v _ l.invariant.0 (some (goal.at.loop-preserved c).In-loop) (given (goal.at.loop-preserved c).Else-table_missing) r.0 c.if-v-ne0.false,
       omega (arith, low.count, l.invariant.1),
       omega (arith, low.within),
       omega arith,
       ap (λ (t : List ℕ). length t) r.1 ∙ table_length _ _ l.v l.table (words-few _ l.next l.at l.v l.invariant.0.reached) l.invariant.4,
-      rest_table _ l.left l.next l.at l.v _ l.table _ l.invariant.0 (some c.before.before.before.before.before.before.before) (given c.before.before.before.before) r.0 c.if-v-ne0.false l.invariant.5 r.1,
+      rest_table _ l.left l.next l.at l.v _ l.table _ l.invariant.0 (some (goal.at.loop-preserved c).In-loop) (given (goal.at.loop-preserved c).Else-table_missing) r.0 c.if-v-ne0.false l.invariant.5 r.1,
     )
 
 pub returns-then-told-ne0 : goal.returns-then-told-ne0
-returns-then-told-ne0 c = c.refused-then-told-ne0.ensures ∙ reading-refused _ _ c.if-told-ne0.true ((let l = c.loop in told_end _ l.next l.at l.v ((let l = c.loop in subst (λ (left : ℕ). Rest c.args.card.now left l.next l.at l.v) (ones_none l.left l.invariant.0.fields.small (omega (arith, l.invariant.1))) l.invariant.0)) l.invariant.2 ∙ sym c.end_refusal-told.ensures))
+returns-then-told-ne0 c = c.refused-then-told-ne0.ensures ∙ reading-refused _ _ c.if-told-ne0.true (end-told (goal.at.returns-then-told-ne0 c).After-end_refusal-told)
 
 pub passed-requires : goal.passed-requires
-passed-requires c = (let l = c.loop in byte-values _ (none_first _ ((let l = c.loop in told_end _ l.next l.at l.v ((let l = c.loop in subst (λ (left : ℕ). Rest c.args.card.now left l.next l.at l.v) (ones_none l.left l.invariant.0.fields.small (omega (arith, l.invariant.1))) l.invariant.0)) l.invariant.2 ∙ sym c.end_refusal-told.ensures) ∙ c.if-told-ne0.false)) l.at l.v ((let l = c.loop in end_reached _ l.next l.at l.v ((let l = c.loop in subst (λ (left : ℕ). Rest c.args.card.now left l.next l.at l.v) (ones_none l.left l.invariant.0.fields.small (omega (arith, l.invariant.1))) l.invariant.0)) l.invariant.2 (sym c.end_refusal-told.ensures ∙ c.if-told-ne0.false))))
+passed-requires c = low (goal.at.passed-requires c).Else-told-ne0
 
 pub returns-then-card-eq0-2 : goal.returns-then-card-eq0-2
-returns-then-card-eq0-2 c = accepted c.before.before.before.before _ _ c.passed.ensures (c.absent_table.ensures ∙ table_absent c.args.card.now (rw c.if-card-eq0-2.true refl))
+returns-then-card-eq0-2 c = accepted (goal.at.returns-then-card-eq0-2 c).Else-told-ne0 _ _ c.passed.ensures (c.absent_table.ensures ∙ table_absent (bytes (goal.at.returns-then-card-eq0-2 c).At-loop) (rw c.if-card-eq0-2.true refl))
 
 pub passed-requires-2 : goal.passed-requires-2
-passed-requires-2 c = (let l = c.loop in byte-values _ (none_first _ ((let l = c.loop in told_end _ l.next l.at l.v ((let l = c.loop in subst (λ (left : ℕ). Rest c.args.card.now left l.next l.at l.v) (ones_none l.left l.invariant.0.fields.small (omega (arith, l.invariant.1))) l.invariant.0)) l.invariant.2 ∙ sym c.end_refusal-told.ensures) ∙ c.if-told-ne0.false)) l.at l.v ((let l = c.loop in end_reached _ l.next l.at l.v ((let l = c.loop in subst (λ (left : ℕ). Rest c.args.card.now left l.next l.at l.v) (ones_none l.left l.invariant.0.fields.small (omega (arith, l.invariant.1))) l.invariant.0)) l.invariant.2 (sym c.end_refusal-told.ensures ∙ c.if-told-ne0.false))))
+passed-requires-2 c = low (goal.at.passed-requires-2 c).Else-told-ne0
 
 pub returns : goal.returns
 returns c = let l = c.loop in
-    let given = eq-eqb (bit table_bit (get_or c.args.card.now 0 0)) 1 (omega (arith, c.if-card-eq0-2.false)) in
-    accepted c.before.before.before _ _ c.passed-2.ensures (table_given _ l.next l.at l.v l.table ((let l = c.loop in subst (λ (left : ℕ). Rest c.args.card.now left l.next l.at l.v) (ones_none l.left l.invariant.0.fields.small (omega (arith, l.invariant.1))) l.invariant.0)) l.invariant.2 given l.invariant.5)
+    let given = eq-eqb (bit table_bit (get_or (bytes (goal.at.returns c).At-loop) 0 0)) 1 (omega (arith, c.if-card-eq0-2.false)) in
+    accepted (goal.at.returns c).Else-told-ne0 _ _ c.passed-2.ensures (table_given _ l.next l.at l.v l.table (ended (goal.at.returns c).After-loop) l.invariant.2 given l.invariant.5)

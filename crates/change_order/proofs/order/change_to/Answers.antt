@@ -6,12 +6,13 @@ use borrow.Author.Rules.{rules}
 use borrow.Author.Tests.{lt-ltb, le-ltb}
 use Rattle.changes.specs.declared.Change.{Change}
 use Rattle.change_order.proofs.order.change_to.Goals as goal
+use Rattle.change_order.proofs.order.change_to.Goals.{Start}
 
-abbrev at : goal.Start → Bool → ℕ → Change
+abbrev at : Start → Bool → ℕ → Change
 at c raised seconds = record { place = c.args.i; raised = raised; seconds = seconds }
 
 pub returns-then-t-v : goal.returns-then-t-v
-returns-then-t-v c = ap₂ (at c.before) (sym (lt-ltb _ _ c.if-t-v.true)) (omega arith)
+returns-then-t-v c = ap₂ (at (goal.at.returns-then-t-v c).Start) (sym (lt-ltb _ _ c.if-t-v.true)) (omega arith)
 
 pub returns : goal.returns
-returns c = ap₂ (at c.before) (sym (le-ltb _ _ c.if-t-v.false)) (omega arith)
+returns c = ap₂ (at (goal.at.returns c).Start) (sym (le-ltb _ _ c.if-t-v.false)) (omega arith)

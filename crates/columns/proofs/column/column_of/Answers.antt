@@ -9,15 +9,16 @@ use Rattle.tsc.specs.Columns.{column}
 use Rattle.words.proofs.Words.{words_from, words-none, words_next}
 use Rattle.columns.proofs.Placed.{column-few}
 use Rattle.columns.proofs.column.column_of.Goals as goal
+use Rattle.columns.proofs.column.column_of.Goals.{After-bit_of}
 
 -- a column has a bit for each word: room enough for one more
-few : (c : goal.After-bit_of) → c.loop-k.c < 2 ^ most_words
+few : (c : After-bit_of) → c.loop-k.c < 2 ^ most_words
 few c =
     let a = c.args in
     let l = c.loop-k in
     rw l.invariant.4 (column-few a.i l.k a.count a.s.words l.invariant.1 l.invariant.3)
 
-one : (c : goal.After-bit_of) → c.bit_of.result < 2
+one : (c : After-bit_of) → c.bit_of.result < 2
 one c = rw c.bit_of.ensures (bit_lt c.args.i _)
 
 pub loop-k-init : goal.loop-k-init

@@ -16,16 +16,17 @@ use Rattle.columns.specs.Replace.{with_column}
 use Rattle.columns.proofs.Placed.{placed, above_lt, length-with_column, get_or-with_column, with_column_rest}
 use Rattle.columns.proofs.column.with_column.Invariants.{picked}
 use Rattle.columns.proofs.column.with_column.Goals as goal
+use Rattle.columns.proofs.column.with_column.Goals.{After-join}
 
-abbrev word : goal.After-join → ℕ
+abbrev word : After-join → ℕ
 word c = c.loop-k.k
 
 -- the column that is put in
-abbrev column : goal.After-join → ℕ
+abbrev column : After-join → ℕ
 column c = let a = c.args in picked a.i a.selector a.odd a.even
 
 -- the bit that a word gets
-here : (c : goal.After-join) → c.join.result ≡ bit (word c) (column c) * 2 ^ c.args.i
+here : (c : After-join) → c.join.result ≡ bit (word c) (column c) * 2 ^ c.args.i
 here c =
     let a = c.args in
     let k = word c in
@@ -37,7 +38,7 @@ here c =
     ∙ ap (λ (b : ℕ). b * 2 ^ a.i) (cond_ap (bit k) (eqb (bit a.i a.selector) 1) a.odd a.even)
 
 -- and the word then
-written : (c : goal.After-join) → let a = c.args in
+written : (c : After-join) → let a = c.args in
     get_or a.s.words (word c) 0 + c.join.result ≡ get_or (with_column a.count a.i (column c) a.s.words) (word c) 0
 written c =
     let a = c.args in

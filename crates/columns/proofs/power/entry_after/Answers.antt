@@ -9,9 +9,10 @@ use Rattle.words.specs.declared.arithmetic.Width.{Width}
 use Rattle.words.proofs.Reduced.{width_is}
 use Rattle.columns.proofs.Powers.{stands, stands-few, stands_next}
 use Rattle.columns.proofs.power.entry_after.Goals as goal
+use Rattle.columns.proofs.power.entry_after.Goals.{In-loop}
 
 -- y is an entry of the table
-few : (c : goal.In-loop) → c.loop.y < 2 ^ most_words
+few : (c : In-loop) → c.loop.y < 2 ^ most_words
 few c =
     rw c.loop.invariant.2 (stands-few c.args.m c.args.table.now c.requires.2 c.requires.1 c.loop.counter)
 
@@ -27,7 +28,7 @@ pub overflow_cast-y : goal.overflow_cast-y
 overflow_cast-y c = omega (arith, few c)
 
 pub bounds-table-y : goal.bounds-table-y
-bounds-table-y c = few c.before
+bounds-table-y c = few (goal.at.bounds-table-y c).In-loop
 
 pub loop-preserved : goal.loop-preserved
 loop-preserved c = let l = c.loop in

@@ -12,19 +12,20 @@ use Rattle.words.proofs.Masks.{cond_ap}
 use Rattle.columns.specs.Replace.{with_column, image_of}
 use Rattle.columns.proofs.Placed.{column-few}
 use Rattle.columns.proofs.replace.replace_column.Goals as goal
+use Rattle.columns.proofs.replace.replace_column.Goals.{After-column_of-c}
 
 -- the column is an entry of the table
-few : (c : goal.After-column_of-c) → c.column_of-c.result < 2 ^ most_words
+few : (c : After-column_of-c) → c.column_of-c.result < 2 ^ most_words
 few c =
     let a = c.args in
     let four : length a.s.words ≡ most_words = search rules in
     rw c.column_of-c.ensures (column-few a.i 0 a.count a.s.words c.requires.i_lt_widest_width.1 four)
 
 pub bounds-odd-c : goal.bounds-odd-c
-bounds-odd-c c = few c.before
+bounds-odd-c c = few (goal.at.bounds-odd-c c).After-column_of-c
 
 pub bounds-even-c : goal.bounds-even-c
-bounds-even-c c = few c.before.before.before.before
+bounds-even-c c = few (goal.at.bounds-even-c c).After-column_of-c
 
 pub returns : goal.returns
 returns c = let a = c.args in

@@ -10,21 +10,22 @@ use Rattle.completions.proofs.Least.{fixed_chosen, pair_of, pair_chosen, cycle-c
 use Rattle.diagnosis.specs.Marks.{entry_of}
 use Rattle.diagnosis.proofs.Chosen.{alone, both, way}
 use Rattle.diagnosis.proofs.least.least_set.Goals as goal
+use Rattle.diagnosis.proofs.least.least_set.Goals.{After-partner, Else-i-size, Else-x-size}
 
 -- ---- what is known at a place of the code
 -- no place is its own entry
-moves : (c : goal.Else-x-size) → let a = c.args in a.size ≤ first a.size (is_fixed (entry_of a.table.now))
+moves : (c : Else-x-size) → let a = c.args in a.size ≤ first a.size (is_fixed (entry_of a.table.now))
 moves c = omega (arith, c.fixed_point-x.ensures, c.if-x-size.false)
 
 -- the pair
-pair : (c : goal.After-partner) → let a = c.args in FirstPair a.size (entry_of a.table.now) c.first_clash-i.result c.partner.result
+pair : (c : After-partner) → let a = c.args in FirstPair a.size (entry_of a.table.now) c.first_clash-i.result c.partner.result
 pair c =
     let a = c.args in
     let t = c.requires.0 in
-    pair_of a.size (entry_of a.table.now) t.large t.below (moves c.before.before.before) _ _ c.first_clash-i.ensures c.if-i-size.true c.partner.ensures
+    pair_of a.size (entry_of a.table.now) t.large t.below ((omega (arith, c.fixed_point-x.ensures, c.if-x-size.false))) _ _ c.first_clash-i.ensures c.if-i-size.true c.partner.ensures
 
 -- past the pairs no entry stands twice
-once : (c : goal.Else-i-size) → let a = c.args in Injective a.size (entry_of a.table.now)
+once : (c : Else-i-size) → let a = c.args in Injective a.size (entry_of a.table.now)
 once c =
     let a = c.args in
     let f = entry_of a.table.now in
@@ -62,7 +63,7 @@ bounds-marks-partner c = omega (arith, c.requires.0.fits, (pair c).below)
 pub returns-then-i-size : goal.returns-then-i-size
 returns-then-i-size c = let a = c.args in
     let t = c.requires.0 in
-    (pair_chosen a.size (entry_of a.table.now) t.large t.below (moves c.before.before.before) _ _ (pair c) _
+    (pair_chosen a.size (entry_of a.table.now) t.large t.below (moves (goal.at.returns-then-i-size c).Else-x-size) _ _ (pair c) _
     (both a.size t.fits _ c.no_marks-marks.ensures _ _ c.if-i-size.true (pair c).below)).0
 
 pub shortest-start-requires : goal.shortest-start-requires
@@ -77,5 +78,5 @@ returns c = let a = c.args in
     let t = c.requires.0 in
     let s = c.shortest-start in
     let m = c.mark_cycle in
-    (cycle-chosen a.size f t.large t.below (once c.before.before.before) c.requires.1 s.result s.ensures _
+    (cycle-chosen a.size f t.large t.below (once (goal.at.returns c).Else-i-size) c.requires.1 s.result s.ensures _
     (way a.size t.fits _ c.no_marks-marks.ensures f t.below s.result s.ensures.below m.result _ m.ensures.steps m.ensures.after)).0

@@ -13,6 +13,15 @@ use Rattle.diagnosis.specs.Marks.{entry_of}
 use Rattle.diagnosis.proofs.Tables.{inside}
 use Rattle.completions.proofs.Clashes.{clashing, not_clashing}
 use Rattle.diagnosis.proofs.pair.first_clash.Goals as goal
+use Rattle.diagnosis.proofs.pair.first_clash.Goals.{After-y-1}
+
+-- the entry is a place, and its count is known
+placed : (c : After-y-1) → entry_of c.args.table.now c.loop-x.x < 2 ^ most_words
+placed c = inside _ _ c.requires c.loop-x.x c.loop-x-test.true
+
+used : (c : After-y-1) → let a = c.args in let f = entry_of a.table.now in let v = f c.loop-x.x in
+    get_or c.uses_of-counts.result v 0 ≡ uses a.size f v
+used c = c.uses_of-counts.ensures _
 
 pub uses_of-counts-requires : goal.uses_of-counts-requires
 uses_of-counts-requires c = c.requires
@@ -24,22 +33,22 @@ pub bounds-table-x : goal.bounds-table-x
 bounds-table-x c = omega (arith, c.requires.fits)
 
 pub overflow_cast-y : goal.overflow_cast-y
-overflow_cast-y c = omega (arith, (inside _ _ c.requires c.loop-x.x c.loop-x-test.true))
+overflow_cast-y c = omega (arith, placed c)
 
 pub offset_bounds-counts-y : goal.offset_bounds-counts-y
-offset_bounds-counts-y c = omega (arith, (inside _ _ c.requires c.loop-x.x c.loop-x-test.true))
+offset_bounds-counts-y c = omega (arith, placed c)
 
 pub bounds-counts-y : goal.bounds-counts-y
-bounds-counts-y c = (inside _ _ c.requires c.loop-x.x c.loop-x-test.true)
+bounds-counts-y c = placed c
 
 pub returns-then-counts-y-gt1 : goal.returns-then-counts-y-gt1
 returns-then-counts-y-gt1 c = let a = c.args in
     let l = c.loop-x in
     sym (first_is _ _ l.x c.loop-x-test.true l.invariant.1
-    (clashing a.size (entry_of a.table.now) l.x (inl (omega (arith, (c.uses_of-counts.ensures _), c.if-counts-y-gt1.true)))))
+    (clashing a.size (entry_of a.table.now) l.x (inl (omega (arith, used (goal.at.returns-then-counts-y-gt1 c).After-y-1, c.if-counts-y-gt1.true)))))
 
 pub bounds-table-y : goal.bounds-table-y
-bounds-table-y c = (inside _ _ c.requires c.loop-x.x c.loop-x-test.true)
+bounds-table-y c = placed (goal.at.bounds-table-y c).After-y-1
 
 pub overflow_cast-table : goal.overflow_cast-table
 overflow_cast-table c = let t = c.requires in
@@ -58,7 +67,7 @@ pub loop-x-preserved : goal.loop-x-preserved
 loop-x-preserved c = let a = c.args in
     let l = c.loop-x in
     let f = entry_of a.table.now in
-    let once : uses a.size f (f l.x) ≤ 1 = omega (arith, (c.uses_of-counts.ensures _), c.if-counts-y-gt1.false) in
+    let once : uses a.size f (f l.x) ≤ 1 = omega (arith, used (goal.at.loop-x-preserved c).After-y-1, c.if-counts-y-gt1.false) in
     (omega arith, extend (λ (j : ℕ). clashes a.size f j ≡ false) _ l.invariant.1 (not_clashing a.size f l.x once c.if-table-y.false))
 
 pub returns : goal.returns

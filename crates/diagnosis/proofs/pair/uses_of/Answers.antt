@@ -12,9 +12,10 @@ use Rattle.diagnosis.specs.Marks.{entry_of}
 use Rattle.diagnosis.proofs.Tables.{inside}
 use Rattle.diagnosis.proofs.Marking.{uses-none, uses_next}
 use Rattle.diagnosis.proofs.pair.uses_of.Goals as goal
+use Rattle.diagnosis.proofs.pair.uses_of.Goals.{After-v-1}
 
 -- the entry has its count
-placed : (c : goal.After-v-1) → entry_of c.args.table.now c.loop-x.x < 2 ^ most_words
+placed : (c : After-v-1) → entry_of c.args.table.now c.loop-x.x < 2 ^ most_words
 placed c = inside _ _ c.requires c.loop-x.x c.loop-x-test.true
 
 pub loop-x-init : goal.loop-x-init

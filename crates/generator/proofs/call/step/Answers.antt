@@ -13,27 +13,48 @@ use Rattle.stepping.specs.State.{Steps}
 use Rattle.stepping.proofs.Columns.{sized, cycled, terms_width}
 use Rattle.generator.proofs.Found.{clear_tsc1}
 use Rattle.generator.proofs.call.step.Goals as goal
+use Rattle.generator.proofs.call.step.Goals.{After-call_refusal-told, After-powers_of-p, Else-told-ne0}
+
+abbrev bytes : After-call_refusal-told → List ℕ
+bytes o = o.args.card.now
+
+abbrev xs : After-call_refusal-told → List ℕ
+xs o = o.args.state.now
+
+-- the card as it was accepted
+abbrev given : After-call_refusal-told → Card
+given o = o.accept-found.result.card
+
+-- what is told
+refusal : (o : After-call_refusal-told) → o.call_refusal-told.result ≡ refusal_for (bytes o) (xs o)
+refusal o = told (bytes o) (xs o) o.accept-found.result o.accept-found.ensures o.call_refusal-told.ensures
 
 -- past the first test nothing is refused
-passing : (c : goal.Else-told-ne0) → Clear c.args.card.now c.args.state.now c.accept-found.result.card
-passing c = clear c.args.card.now c.args.state.now c.accept-found.result c.accept-found.ensures (sym ((told c.args.card.now c.args.state.now c.accept-found.result c.accept-found.ensures c.call_refusal-told.ensures)) ∙ c.if-told-ne0.false)
+passing : (c : Else-told-ne0) → Clear c.args.card.now c.args.state.now c.accept-found.result.card
+passing c = clear c.args.card.now c.args.state.now c.accept-found.result c.accept-found.ensures (sym ((told (bytes c) (xs c) c.accept-found.result c.accept-found.ensures c.call_refusal-told.ensures)) ∙ c.if-told-ne0.false)
+
+-- what the step asks for
+steps : (c : After-powers_of-p) → Steps c.accept-found.result.card c.terms_of-terms.result c.powers_of-p.result.odd c.powers_of-p.result.even c.load-held.result
+steps c =
+    let k = (clear c.args.card.now c.args.state.now c.accept-found.result c.accept-found.ensures (sym ((told (bytes c) (xs c) c.accept-found.result c.accept-found.ensures c.call_refusal-told.ensures)) ∙ c.if-told-ne0.false)) in
+    record { accepted = accepted k; holds = ready k c.load-held.ensures; selects = c.terms_of-terms.ensures; first = c.powers_of-p.ensures.0; second = c.powers_of-p.ensures.1 }
 
 pub returns-then-told-ne0 : goal.returns-then-told-ne0
 unfolding stepped
-returns-then-told-ne0 c = let both = call_refused c.args.card.now c.args.state.now (step (card_of c.args.card.now) c.args.state.now) _ _ ((told c.args.card.now c.args.state.now c.accept-found.result c.accept-found.ensures c.call_refusal-told.ensures)) c.if-told-ne0.true in record { answer = both.0; after = both.1; undone = both.2; }
+returns-then-told-ne0 c = let both = call_refused (bytes (goal.at.returns-then-told-ne0 c).After-call_refusal-told) (xs (goal.at.returns-then-told-ne0 c).After-call_refusal-told) (step (card_of (bytes (goal.at.returns-then-told-ne0 c).After-call_refusal-told)) (xs (goal.at.returns-then-told-ne0 c).After-call_refusal-told)) _ _ (refusal (goal.at.returns-then-told-ne0 c).After-call_refusal-told) c.if-told-ne0.true in record { answer = both.0; after = both.1; undone = both.2; }
 
 pub load-held-requires : goal.load-held-requires
 load-held-requires c = few (passing c)
 
 pub store-requires : goal.store-requires
-store-requires c = few (passing c.before.before.before.before.before)
+store-requires c = few (passing (goal.at.store-requires c).Else-told-ne0)
 
 -- TSC-1, by its gate formulas
 pub returns-then-is_tsc1 : goal.returns-then-is_tsc1
-returns-then-is_tsc1 c = let both = step_made (clear_tsc1 (passing c.before.before.before.before.before.before.before.before) c.is_tsc1.ensures c.if-is_tsc1.true) c.load-held.ensures c.next_state.ensures c.store.ensures in record { answer = both.0; after = both.1; undone = both.2; }
+returns-then-is_tsc1 c = let both = step_made (clear_tsc1 (passing (goal.at.returns-then-is_tsc1 c).Else-told-ne0) c.is_tsc1.ensures c.if-is_tsc1.true) c.load-held.ensures c.next_state.ensures c.store.ensures in record { answer = both.0; after = both.1; undone = both.2; }
 
 pub terms_of-terms-requires : goal.terms_of-terms-requires
-terms_of-terms-requires c = sized c.accept-found.result.card (accepted (passing c.before.before.before.before))
+terms_of-terms-requires c = sized (given (goal.at.terms_of-terms-requires c).After-call_refusal-told) (accepted (passing (goal.at.terms_of-terms-requires c).Else-told-ne0))
 
 pub overflow_cast-found-2 : goal.overflow_cast-found-2
 overflow_cast-found-2 c = omega (arith, c.accept-found.type_inv)
@@ -42,13 +63,13 @@ pub overflow_cast-found-3 : goal.overflow_cast-found-3
 overflow_cast-found-3 c = omega (arith, c.accept-found.type_inv)
 
 pub powers_of-p-requires : goal.powers_of-p-requires
-powers_of-p-requires c = cycled c.accept-found.result.card (accepted (passing c.before.before.before.before.before.before))
+powers_of-p-requires c = cycled (given (goal.at.powers_of-p-requires c).After-call_refusal-told) (accepted (passing (goal.at.powers_of-p-requires c).Else-told-ne0))
 
 pub next_state-next-requires : goal.next_state-next-requires
-next_state-next-requires c = let st = (let k = passing c.before.before.before.before.before.before.before in record { accepted = accepted k; holds = ready k c.load-held.ensures; selects = c.terms_of-terms.ensures; first = c.powers_of-p.ensures.0; second = c.powers_of-p.ensures.1 }) in terms_width c.accept-found.result.card _ st.accepted st.selects
+next_state-next-requires c = let st = steps (goal.at.next_state-next-requires c).After-powers_of-p in terms_width (given (goal.at.next_state-next-requires c).After-call_refusal-told) _ st.accepted st.selects
 
 pub store-requires-2 : goal.store-requires-2
-store-requires-2 c = few (passing c.before.before.before.before.before.before.before.before.before.before.before)
+store-requires-2 c = few (passing (goal.at.store-requires-2 c).Else-told-ne0)
 
 pub returns : goal.returns
-returns c = let st = c.next_state-next.ensures c.accept-found.result.card ((let k = passing c.before.before.before.before.before.before.before in record { accepted = accepted k; holds = ready k c.load-held.ensures; selects = c.terms_of-terms.ensures; first = c.powers_of-p.ensures.0; second = c.powers_of-p.ensures.1 })) in let both = step_made (passing c.before.before.before.before.before.before.before.before.before.before.before.before.before.before) c.load-held.ensures st c.store-2.ensures in record { answer = both.0; after = both.1; undone = both.2; }
+returns c = let st = c.next_state-next.ensures (given (goal.at.returns c).After-call_refusal-told) (steps (goal.at.returns c).After-powers_of-p) in let both = step_made (passing (goal.at.returns c).Else-told-ne0) c.load-held.ensures st c.store-2.ensures in record { answer = both.0; after = both.1; undone = both.2; }

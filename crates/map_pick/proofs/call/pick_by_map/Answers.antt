@@ -16,25 +16,47 @@ use Rattle.places.proofs.Places.{measured_read, distances_read}
 use Rattle.map_pick.specs.Measured.{can_measure}
 use Rattle.map_pick.proofs.Measured.{measurable, told_refused, told_picked}
 use Rattle.map_pick.proofs.call.pick_by_map.Goals as goal
+use Rattle.map_pick.proofs.call.pick_by_map.Goals.{After-can_measure, After-marks_of-marks, Else-not-can_measure}
 
-can : (c : goal.Else-not-can_measure) → let q = (let a = c.args in placed a.x a.y a.shovels.now a.xs.now a.ys.now) in can_measure q.shovels q.xs q.ys (on_map q.x q.y q.xs q.ys) ≡ true
-can c = sym ((let q = (let a = c.args in placed a.x a.y a.shovels.now a.xs.now a.ys.now) in c.can_measure.ensures ∙ ap (can_measure q.shovels q.xs q.ys) ((c.on_map-mapped.ensures ∙ rw (read_back c.ranges.x, read_back c.ranges.y))))) ∙ not-false _ c.if-not-can_measure.false
+-- the places handed over
+abbrev given : After-can_measure → Places
+given m = let a = m.args in placed a.x a.y a.shovels.now a.xs.now a.ys.now
+
+-- what has been found of them
+mapped : (m : After-can_measure) → let q = given m in m.on_map-mapped.result ≡ on_map q.x q.y q.xs q.ys
+mapped m =
+    m.on_map-mapped.ensures ∙ rw (read_back m.ranges.x, read_back m.ranges.y)
+
+found : (m : After-can_measure) → let q = given m in m.can_measure.result ≡ can_measure q.shovels q.xs q.ys (on_map q.x q.y q.xs q.ys)
+found m = let q = given m in m.can_measure.ensures ∙ ap (can_measure q.shovels q.xs q.ys) (mapped m)
+
+can : (c : Else-not-can_measure) → let q = (let a = c.args in placed a.x a.y a.shovels.now a.xs.now a.ys.now) in can_measure q.shovels q.xs q.ys (on_map q.x q.y q.xs q.ys) ≡ true
+can c = sym ((let q = given c in c.can_measure.ensures ∙ ap (can_measure q.shovels q.xs q.ys) (mapped c))) ∙ c.if-not-can_measure.false
+
+-- as many times as shovels
+ties-alike : (c : After-marks_of-marks) → let q = (let a = c.args in placed a.x a.y a.shovels.now a.xs.now a.ys.now) in SameTies (distances_of q) (take (length q.xs) c.marks_of-marks.result)
+ties-alike c =
+    let q = (let a = c.args in placed a.x a.y a.shovels.now a.xs.now a.ys.now) in
+    subst (λ (d : List ℕ). SameTies d (take (length q.xs) c.marks_of-marks.result)) (distances_read q.x q.y q.xs q.ys c.ranges.x c.ranges.y) c.marks_of-marks.ensures
+
+as_many : (c : After-marks_of-marks) → let n = length ((let a = c.args in placed a.x a.y a.shovels.now a.xs.now a.ys.now)).xs in length (take n c.marks_of-marks.result) ≡ n
+as_many c = let q = (let a = c.args in placed a.x a.y a.shovels.now a.xs.now a.ys.now) in sym (ties-alike c).size ∙ length-distances q.x q.y q.xs q.ys
 
 pub returns-then-not-can_measure : goal.returns-then-not-can_measure
-returns-then-not-can_measure c = let q = (let a = c.args in placed a.x a.y a.shovels.now a.xs.now a.ys.now) in
-    let a = c.args in let both = told_refused _ _ q (sym ((let q = (let a = c.args in placed a.x a.y a.shovels.now a.xs.now a.ys.now) in c.can_measure.ensures ∙ ap (can_measure q.shovels q.xs q.ys) ((c.on_map-mapped.ensures ∙ rw (read_back c.ranges.x, read_back c.ranges.y))))) ∙ not-true _ c.if-not-can_measure.true)
-    (c.first_refusal.ensures ∙ ap (λ (b : Bool). first_of (call_checks a.card.now a.state.now ++ place_checks q.shovels q.xs q.ys b)) ((c.on_map-mapped.ensures ∙ rw (read_back c.ranges.x, read_back c.ranges.y)))) in record { answer = both.0; after = both.1; }
+returns-then-not-can_measure c = let q = given (goal.at.returns-then-not-can_measure c).After-can_measure in
+    let a = c.args in let both = told_refused _ _ q (sym (found (goal.at.returns-then-not-can_measure c).After-can_measure) ∙ c.if-not-can_measure.true)
+    (c.first_refusal.ensures ∙ ap (λ (b : Bool). first_of (call_checks a.card.now a.state.now ++ place_checks q.shovels q.xs q.ys b)) (mapped (goal.at.returns-then-not-can_measure c).After-can_measure)) in record { answer = both.0; after = both.1; }
 
 pub marks_of-marks-requires : goal.marks_of-marks-requires
-marks_of-marks-requires c = let h = measurable c.args.card.now c.args.state.now ((let a = c.args in placed a.x a.y a.shovels.now a.xs.now a.ys.now)) (can c) in
+marks_of-marks-requires c = let h = measurable c.args.card.now c.args.state.now (given (goal.at.marks_of-marks-requires c).After-can_measure) (can c) in
     (measured_read c.ranges.x c.ranges.y h.0, h.1, h.2)
 
 pub slice_bounds-marks-end : goal.slice_bounds-marks-end
-slice_bounds-marks-end c = let n = length ((let a = c.args in placed a.x a.y a.shovels.now a.xs.now a.ys.now)).xs in
-    omega (arith, (let q = (let a = c.args in placed a.x a.y a.shovels.now a.xs.now a.ys.now) in sym ((let q = (let a = c.args in placed a.x a.y a.shovels.now a.xs.now a.ys.now) in subst (λ (d : List ℕ). SameTies d (take (length q.xs) c.marks_of-marks.result)) (distances_read q.x q.y q.xs q.ys c.ranges.x c.ranges.y) c.marks_of-marks.ensures)).size ∙ length-distances q.x q.y q.xs q.ys), length-take n c.marks_of-marks.result)
+slice_bounds-marks-end c = let n = length (given (goal.at.slice_bounds-marks-end c).After-can_measure).xs in
+    omega (arith, as_many (goal.at.slice_bounds-marks-end c).After-marks_of-marks, length-take n c.marks_of-marks.result)
 
 pub slice_bounds-pick-end : goal.slice_bounds-pick-end
-slice_bounds-pick-end c = sym ((let q = (let a = c.args in placed a.x a.y a.shovels.now a.xs.now a.ys.now) in sym ((let q = (let a = c.args in placed a.x a.y a.shovels.now a.xs.now a.ys.now) in subst (λ (d : List ℕ). SameTies d (take (length q.xs) c.marks_of-marks.result)) (distances_read q.x q.y q.xs q.ys c.ranges.x c.ranges.y) c.marks_of-marks.ensures)).size ∙ length-distances q.x q.y q.xs q.ys))
+slice_bounds-pick-end c = sym (as_many (goal.at.slice_bounds-pick-end c).After-marks_of-marks)
 
 pub returns : goal.returns
-returns c = let both = told_picked _ _ ((let a = c.args in placed a.x a.y a.shovels.now a.xs.now a.ys.now)) (can c.before.before.before.before.before.before) ((let q = (let a = c.args in placed a.x a.y a.shovels.now a.xs.now a.ys.now) in subst (λ (d : List ℕ). SameTies d (take (length q.xs) c.marks_of-marks.result)) (distances_read q.x q.y q.xs q.ys c.ranges.x c.ranges.y) c.marks_of-marks.ensures)) c.pick.ensures.answer c.pick.ensures.after in record { answer = both.0; after = both.1; }
+returns c = let both = told_picked _ _ (given (goal.at.returns c).After-can_measure) (can (goal.at.returns c).Else-not-can_measure) (ties-alike (goal.at.returns c).After-marks_of-marks) c.pick.ensures.answer c.pick.ensures.after in record { answer = both.0; after = both.1; }

@@ -10,20 +10,21 @@ use Rattle.tries.specs.declared.row.Ranked.{Ranked}
 use Rattle.tries.specs.Tries.{ranked}
 use Rattle.changes.proofs.Listing.{length-changed}
 use Rattle.margin.proofs.changed.told.Goals as goal
+use Rattle.margin.proofs.changed.told.Goals.{After-changed_times-list}
 
 -- the changed times are as many
-size : (c : goal.After-changed_times-list) → let n = length c.args.times.now in length (take n c.changed_times-list.result) ≡ n
+size : (c : After-changed_times-list) → let n = length c.args.times.now in length (take n c.changed_times-list.result) ≡ n
 size c = ap length c.changed_times-list.ensures ∙ length-changed _ _
 
 pub slice_bounds-pick_by-end : goal.slice_bounds-pick_by-end
-slice_bounds-pick_by-end c = sym (size c.before)
+slice_bounds-pick_by-end c = sym (size (goal.at.slice_bounds-pick_by-end c).After-changed_times-list)
 
 pub pick_by-p-requires : goal.pick_by-p-requires
-pick_by-p-requires c = let n = size c.before in
+pick_by-p-requires c = let n = size (goal.at.pick_by-p-requires c).After-changed_times-list in
     (c.requires.width_le_widest_width.0, c.requires.width_le_widest_width.1 ∙ sym n, omega (arith, n, c.requires.place_in_bounds.0), omega (arith, n, c.requires.width_le_widest_width.2))
 
 pub overflow_cast-result : goal.overflow_cast-result
-overflow_cast-result c = omega (arith, c.pick_by-p.ensures.ties.0, ties_le (take (length c.args.times.now) c.changed_times-list.result), size c.before.before.before.before, c.requires.width_le_widest_width.2)
+overflow_cast-result c = omega (arith, c.pick_by-p.ensures.ties.0, ties_le (take (length c.args.times.now) c.changed_times-list.result), size (goal.at.overflow_cast-result c).After-changed_times-list, c.requires.width_le_widest_width.2)
 
 pub returns : goal.returns
 returns c = let a = c.args in

@@ -8,6 +8,11 @@ use Rattle.tie_others.proofs.Joined.{others-few}
 use Rattle.outcomes.proofs.Outcomes.{outcome-below, outcome-at, outcome-above}
 use borrow.Author.Rules.{rules}
 use Rattle.outcomes.proofs.outcome.outcome_of.Goals as goal
+use Rattle.outcomes.proofs.outcome.outcome_of.Goals.{Start}
+
+-- the others' ties are no more than shovels
+few : (s : Start) → let a = s.args in (a.o.ties ≤ length a.times.now) × (a.o.lower ≤ length a.times.now)
+few s = let a = s.args in others-few a.shovels.now a.times.now a.i _ _ a.o s.requires.others
 
 pub returns-then-v-o : goal.returns-then-v-o
 returns-then-v-o c = let a = c.args in
@@ -16,12 +21,12 @@ returns-then-v-o c = let a = c.args in
     record { ties = h.ties; tie = h.tie; rank = c.count-lower.ensures ∙ h.rank }
 
 pub overflow_add-result : goal.overflow_add-result
-overflow_add-result c = omega (arith, ((let a = c.args in others-few a.shovels.now a.times.now a.i _ _ a.o c.requires.others)).0, c.requires.several.0.1.few)
+overflow_add-result c = omega (arith, (few (goal.at.overflow_add-result c).Start).0, c.requires.several.0.1.few)
 
 pub overflow_add-result-then-v-o-2 : goal.overflow_add-result-then-v-o-2
 overflow_add-result-then-v-o-2 c = let a = c.args in
     let one : c.count-lower.result ≤ 1 = rw c.count-lower.ensures (one_le (ltb (get_or a.shovels.now a.i 0) (get_or a.shovels.now a.known.chosen 0))) in
-    omega (arith, ((let a = c.args in others-few a.shovels.now a.times.now a.i _ _ a.o c.requires.others)).1, c.requires.several.0.1.few, one)
+    omega (arith, (few (goal.at.overflow_add-result-then-v-o-2 c).Start).1, c.requires.several.0.1.few, one)
 
 pub returns-then-v-o-2 : goal.returns-then-v-o-2
 returns-then-v-o-2 c = let a = c.args in

@@ -13,23 +13,29 @@ use Rattle.stepping.proofs.Columns.{sized, cycled}
 use Rattle.outputs.proofs.Written.{Row, row-none, row-holds, row-length, row_next, row-all, steps-at}
 use Rattle.outputs.proofs.row.fill_many.Invariants.{Known}
 use Rattle.outputs.proofs.row.fill_many.Goals as goal
+use Rattle.outputs.proofs.row.fill_many.Goals.{After-rotations_of-rotations, At-loop-at}
 
 -- what is known there
-abbrev P : goal.After-rotations_of-rotations → Card → Type 0
+abbrev P : After-rotations_of-rotations → Card → Type 0
 P c = Known c.terms_of-terms.result c.rotations_of-rotations.result c.powers_of-p.result c.args.s
 
-known : (c : goal.After-rotations_of-rotations) → P c c.args.card
+known : (c : After-rotations_of-rotations) → P c c.args.card
 known c =
     let p = c.powers_of-p.ensures in
     (record { accepted = c.requires.0; holds = c.requires.1; selects = c.terms_of-terms.ensures; first = p.0; second = p.1 }, c.rotations_of-rotations.ensures)
 
-held : (c : goal.After-rotations_of-rotations) (card : Card) → P c card → Holds card c.args.s
+held : (c : After-rotations_of-rotations) (card : Card) → P c card → Holds card c.args.s
 held c card p = p.0.holds
 
+-- the loop leaves the number of the words lent
+size : (c : At-loop-at) → length c.loop-at.words ≡ length c.args.words.now
+size c =
+    row-length ((Known c.terms_of-terms.result c.rotations_of-rotations.result c.powers_of-p.result c.args.s)) c.args.s c.args.count c.args.words.now c.requires.2 (held c.before) c.loop-at.at c.loop-at.held c.loop-at.words c.loop-at.invariant c.args.card ((let p = c.powers_of-p.ensures in (record { accepted = c.requires.0; holds = c.requires.1; selects = c.terms_of-terms.ensures; first = p.0; second = p.1 }, c.rotations_of-rotations.ensures)))
+
 -- what is known of the state that the loop has come to
-now-known : (c : goal.At-loop-at) → (card : Card) → P o card → Known c.terms_of-terms.result c.rotations_of-rotations.result c.powers_of-p.result c.loop-at.held card
+now-known : (c : At-loop-at) → (card : Card) → P o card → Known c.terms_of-terms.result c.rotations_of-rotations.result c.powers_of-p.result c.loop-at.held card
 now-known c card p =
-    let h = row-holds (P c.before) c.args.s c.args.count c.args.words.now c.requires.2 (held c.before) c.loop-at.at c.loop-at.held c.loop-at.words c.loop-at.invariant card p in
+    let h = row-holds ((Known c.terms_of-terms.result c.rotations_of-rotations.result c.powers_of-p.result c.args.s)) c.args.s c.args.count c.args.words.now c.requires.2 (held c.before) c.loop-at.at c.loop-at.held c.loop-at.words c.loop-at.invariant card p in
     (steps-at card _ _ _ _ _ p.0 h, p.1)
 
 pub powers_of-p-requires : goal.powers_of-p-requires
@@ -45,26 +51,26 @@ pub loop-at-init : goal.loop-at-init
 loop-at-init c = row-none (P c) c.args.s c.args.count c.args.words.now c.requires.2 (held c)
 
 pub next_output-drawn-requires : goal.next_output-drawn-requires
-next_output-drawn-requires c = let q = now-known c.before.before.before c.args.card (known c.before.before.before.before) in
+next_output-drawn-requires c = let q = now-known (goal.at.next_output-drawn-requires c).At-loop-at c.args.card (known (goal.at.next_output-drawn-requires c).After-rotations_of-rotations) in
     (c.args.card, q.0, q.1)
 
 pub offset_bounds-words-at : goal.offset_bounds-words-at
-offset_bounds-words-at c = omega (arith, (row-length (P c.before) c.args.s c.args.count c.args.words.now c.requires.2 (held c.before) c.loop-at.at c.loop-at.held c.loop-at.words c.loop-at.invariant c.args.card (known c.before)), c.loop-at-test.true, c.requires.2, c.good.1.1.1.0)
+offset_bounds-words-at c = omega (arith, size (goal.at.offset_bounds-words-at c).At-loop-at, c.loop-at-test.true, c.requires.2, c.good.1.1.1.0)
 
 pub bounds-words-at : goal.bounds-words-at
-bounds-words-at c = omega (arith, (row-length (P c.before) c.args.s c.args.count c.args.words.now c.requires.2 (held c.before) c.loop-at.at c.loop-at.held c.loop-at.words c.loop-at.invariant c.args.card (known c.before)), c.loop-at-test.true, c.requires.2)
+bounds-words-at c = omega (arith, size (goal.at.bounds-words-at c).At-loop-at, c.loop-at-test.true, c.requires.2)
 
 pub overflow_add-at : goal.overflow_add-at
-overflow_add-at c = omega (arith, c.loop-at-test.true, (row-length (P c.before) c.args.s c.args.count c.args.words.now c.requires.2 (held c.before) c.loop-at.at c.loop-at.held c.loop-at.words c.loop-at.invariant c.args.card (known c.before)), c.requires.2, c.good.1.1.1.0)
+overflow_add-at c = omega (arith, c.loop-at-test.true, size (goal.at.overflow_add-at c).At-loop-at, c.requires.2, c.good.1.1.1.0)
 
 pub loop-at-preserved : goal.loop-at-preserved
 loop-at-preserved c = let l = c.loop-at in
-    row_next (P c.before.before.before.before.before.before) c.args.s c.args.count c.args.words.now c.requires.2 (held c.before.before.before.before.before.before) l.at l.held l.words l.invariant c.loop-at-test.true _ (λ card p.
-    let q = now-known c.before.before.before.before.before card p in
+    row_next (P (goal.at.loop-at-preserved c).After-rotations_of-rotations) c.args.s c.args.count c.args.words.now c.requires.2 (held (goal.at.loop-at-preserved c).After-rotations_of-rotations) l.at l.held l.words l.invariant c.loop-at-test.true _ (λ card p.
+    let q = now-known (goal.at.loop-at-preserved c).At-loop-at card p in
     c.next_output-drawn.ensures card q.0 q.1)
 
 pub shape_of-words : goal.shape_of-words
-shape_of-words c = (row-length (P c.before) c.args.s c.args.count c.args.words.now c.requires.2 (held c.before) c.loop-at.at c.loop-at.held c.loop-at.words c.loop-at.invariant c.args.card (known c.before))
+shape_of-words c = size (goal.at.shape_of-words c).At-loop-at
 
 pub returns : goal.returns
-returns c = let l = c.loop-at in let both = row-all (P c.before.before) c.args.s c.args.count c.args.words.now c.requires.2 (held c.before.before) l.at l.held l.words l.invariant (omega arith) c.args.card (known c.before.before) in record { value = both.0; words_after = both.1; }
+returns c = let l = c.loop-at in let both = row-all (P (goal.at.returns c).After-rotations_of-rotations) c.args.s c.args.count c.args.words.now c.requires.2 (held (goal.at.returns c).After-rotations_of-rotations) l.at l.held l.words l.invariant (omega arith) c.args.card (known (goal.at.returns c).After-rotations_of-rotations) in record { value = both.0; words_after = both.1; }

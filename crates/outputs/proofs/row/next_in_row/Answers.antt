@@ -17,9 +17,10 @@ use Rattle.stepping.specs.State.{used, holding, Steps}
 use Rattle.stepping.proofs.Columns.{terms_width, step_made}
 use Rattle.outputs.proofs.Made.{after_filters, output-made}
 use Rattle.outputs.proofs.row.next_in_row.Goals as goal
+use Rattle.outputs.proofs.row.next_in_row.Goals.{After-replace_columns-after}
 
 -- the columns put through the table are those of the step
-after : (c : goal.After-replace_columns-after) (card : Card) (odd even : List ℕ) → let a = c.args in Steps card a.terms odd even a.s → card.words ≤ few_words
+after : (c : After-replace_columns-after) (card : Card) (odd even : List ℕ) → let a = c.args in Steps card a.terms odd even a.s → card.words ≤ few_words
     → HasLeaves odd even a.leaves → c.replace_columns-after.result ≡ holding (step card (used card a.s))
 after c card odd even st few leaves =
     let a = c.args in
@@ -37,6 +38,6 @@ filtered_by-requires c = let p = c.requires in
 
 pub returns : goal.returns
 returns c card odd even st e few leaves = let a = c.args in
-    let made = after c.before card odd even st few leaves in
+    let made = after (goal.at.returns c).After-replace_columns-after card odd even st few leaves in
     let filters = after_filters card a.s _ made a.rotations st.accepted e in
     output-made card a.s _ made _ (c.filtered_by.ensures card filters ∙ sym (word-filtered card _ (λ k l. filters.past k (omega arith))))

@@ -15,6 +15,7 @@ use Rattle.samples.specs.Samples.{tie_checks}
 use Rattle.picks.proofs.Picking.{ties-few}
 use Rattle.pick.specs.declared.listing.Listing.{Listing}
 use Rattle.pick.proofs.listing.list_ties.Goals as goal
+use Rattle.pick.proofs.listing.list_ties.Goals.{After-ties_refusal-over, Else-told-ne0}
 
 -- a refusal is told
 told : (shovels times : List ℕ) (n r : ℕ) → r ≢ 0 → r ≡ first_of (list_checks shovels times ++ tie_checks n (ties times)) → (l : Listing) → l ≡ record { refusal = r; least = 0; ties = 0 }
@@ -22,11 +23,19 @@ told : (shovels times : List ℕ) (n r : ℕ) → r ≢ 0 → r ≡ first_of (li
 told shovels times n r ne e l q = let s = ap (λ (l : Listing). l.refusal) q in (s ∙ e, λ z. absurd (ne (sym s ∙ z)))
 
 -- past the first test the list is not refused
-passed : (c : goal.Else-told-ne0) → let a = c.args in first_of (list_checks a.shovels.now a.times.now) ≡ 0
+passed : (c : Else-told-ne0) → let a = c.args in first_of (list_checks a.shovels.now a.times.now) ≡ 0
 passed c = sym c.list_refusal-told.ensures ∙ c.if-told-ne0.false
 
-allowed : (c : goal.Else-told-ne0) → let a = c.args in Allowed a.shovels.now a.times.now
+allowed : (c : Else-told-ne0) → let a = c.args in Allowed a.shovels.now a.times.now
 allowed c = list_allowed _ _ (passed c)
+
+-- the second tells of the count of ties, or of nothing
+last : (c : After-ties_refusal-over) → let a = c.args in
+    c.ties_refusal-over.result ≡ first_of (list_checks a.shovels.now a.times.now ++ tie_checks a.n (ties a.times.now))
+last c =
+    let a = c.args in
+    c.ties_refusal-over.ensures ∙ ap (λ (k : ℕ). first_of (tie_checks a.n k)) c.ties_of-k.ensures
+    ∙ sym (first_right (list_checks a.shovels.now a.times.now) _ ((sym c.list_refusal-told.ensures ∙ c.if-told-ne0.false)))
 
 pub returns-then-told-ne0 : goal.returns-then-told-ne0
 returns-then-told-ne0 c = let a = c.args in
@@ -37,10 +46,10 @@ pub least_time-least-requires : goal.least_time-least-requires
 least_time-least-requires c = (allowed c).some
 
 pub overflow_cast-k : goal.overflow_cast-k
-overflow_cast-k c = omega (arith, c.ties_of-k.ensures, (ties-few (allowed c.before.before)).1)
+overflow_cast-k c = omega (arith, c.ties_of-k.ensures, (ties-few (allowed (goal.at.overflow_cast-k c).Else-told-ne0)).1)
 
 pub returns-then-over-ne0 : goal.returns-then-over-ne0
-returns-then-over-ne0 c = let both = told _ _ _ _ c.if-over-ne0.true ((let a = c.args in c.ties_refusal-over.ensures ∙ ap (λ (k : ℕ). first_of (tie_checks a.n k)) c.ties_of-k.ensures ∙ sym (first_right (list_checks a.shovels.now a.times.now) _ (passed c.before.before.before)))) _ c.refused-then-over-ne0.ensures in record { refusal = both.0; found = both.1; }
+returns-then-over-ne0 c = let both = told _ _ _ _ c.if-over-ne0.true (last (goal.at.returns-then-over-ne0 c).After-ties_refusal-over) _ c.refused-then-over-ne0.ensures in record { refusal = both.0; found = both.1; }
 
 pub returns : goal.returns
-returns c = record { refusal = sym c.if-over-ne0.false ∙ (let a = c.args in c.ties_refusal-over.ensures ∙ ap (λ (k : ℕ). first_of (tie_checks a.n k)) c.ties_of-k.ensures ∙ sym (first_right (list_checks a.shovels.now a.times.now) _ (passed c.before.before.before))); found = λ z. (c.least_time-least.ensures, c.ties_of-k.ensures); }
+returns c = record { refusal = sym c.if-over-ne0.false ∙ last (goal.at.returns c).After-ties_refusal-over; found = λ z. (c.least_time-least.ensures, c.ties_of-k.ensures); }

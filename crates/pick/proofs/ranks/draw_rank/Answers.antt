@@ -10,6 +10,11 @@ use Rattle.stepping.specs.State.{Holds}
 use Rattle.stepping.proofs.Holding.{holds}
 use Rattle.pick.proofs.Passed.{rank_made}
 use Rattle.pick.proofs.ranks.draw_rank.Goals as goal
+use Rattle.pick.proofs.ranks.draw_rank.Goals.{Start}
+
+-- the words lent are no more than a state has
+few : (s : Start) → length s.args.state.now ≤ most_words
+few s = omega (arith, s.requires.2.0, s.requires.0.few)
 
 pub tsc1_rank-requires : goal.tsc1_rank-requires
 tsc1_rank-requires c = let p = c.requires in
@@ -19,14 +24,14 @@ pub returns-then-is_tsc1 : goal.returns-then-is_tsc1
 returns-then-is_tsc1 c = let both = rw (c.requires.1 c.if-is_tsc1.true) c.tsc1_rank.ensures in record { drawn = both.0; after = both.1; }
 
 pub load-held-requires : goal.load-held-requires
-load-held-requires c = (omega (arith, c.requires.2.0, c.requires.0.few))
+load-held-requires c = few (goal.at.load-held-requires c).Start
 
 pub draw_rank-drawn-requires : goal.draw_rank-drawn-requires
 draw_rank-drawn-requires c = let p = c.requires in
     (p.0, subst (Holds c.args.card) (sym c.load-held.ensures) (holds c.args.card c.args.state.now p.2), p.3, p.4)
 
 pub store-requires : goal.store-requires
-store-requires c = (omega (arith, c.requires.2.0, c.requires.0.few))
+store-requires c = few (goal.at.store-requires c).Start
 
 pub returns : goal.returns
 returns c = let both = rank_made c.args.card c.args.state.now _ c.requires.2 c.load-held.ensures c.draw_rank-drawn.ensures c.store.ensures in record { drawn = both.0; after = both.1; }

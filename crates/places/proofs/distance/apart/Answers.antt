@@ -7,9 +7,10 @@ use Rattle.places.specs.Places.{most_apart}
 use Rattle.places.proofs.Signed.{small_fits, read, read_back}
 use Rattle.places.proofs.Distances.{apart_le}
 use Rattle.places.proofs.distance.apart.Goals as goal
+use Rattle.places.proofs.distance.apart.Goals.{Start}
 
 -- the difference, as it is read, and its size
-module _ (s : goal.Start) where
+module _ (s : Start) where
   seen : read s.args.a -ℤ read s.args.b ≡ s.args.a -ℤ s.args.b
   seen = rw (read_back s.ranges.a, read_back s.ranges.b)
 

@@ -7,9 +7,10 @@ use mir.Syntax.{w64}
 use mir.Val.{Fits}
 use Rattle.places.proofs.Signed.{read, read_back}
 use Rattle.places.proofs.distance.whole.Goals as goal
+use Rattle.places.proofs.distance.whole.Goals.{Start}
 
 -- what the machine reads back is not negative either
-read_pos : (c : goal.Start) → pos 0 ≤ℤ read c.args.z
+read_pos : (c : Start) → pos 0 ≤ℤ read c.args.z
 read_pos c = subst (λ (z : ℤ). pos 0 ≤ℤ z) (sym (read_back c.ranges.z)) c.requires
 
 pub overflow_cast-result : goal.overflow_cast-result

@@ -18,12 +18,12 @@ unfolding all_on_map
 returns-then-not-is_on_map c = let cs = c.args.cs.now in
     let l = c.loop-i in
     sym (every_not (length cs) (λ i. is_on_map (get_or cs i (pos 0))) l.i (omega arith)
-    (rw (read_back (given c.is_on_map-arg-1.given)) at (sym c.is_on_map.ensures ∙ not-true _ c.if-not-is_on_map.true)))
+    (rw (read_back (given c.is_on_map-arg-1.given)) at (sym c.is_on_map.ensures ∙ c.if-not-is_on_map.true)))
 
 pub loop-i-preserved : goal.loop-i-preserved
 loop-i-preserved c = let cs = c.args.cs.now in
     let l = c.loop-i in
-    let here = rw (read_back (given c.is_on_map-arg-1.given)) at (sym c.is_on_map.ensures ∙ not-false _ c.if-not-is_on_map.false) in
+    let here = rw (read_back (given c.is_on_map-arg-1.given)) at (sym c.is_on_map.ensures ∙ c.if-not-is_on_map.false) in
     (omega arith, extend (λ (j : ℕ). is_on_map (get_or cs j (pos 0)) ≡ true) l.i l.invariant.1 here)
 
 pub returns : goal.returns

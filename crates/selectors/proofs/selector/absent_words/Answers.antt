@@ -4,9 +4,10 @@ use Rattle.tsc.specs.Constants.{most_words}
 use Rattle.words.proofs.Words.{Below, below_next}
 use Rattle.selectors.proofs.Masked.{AbsentAt, absent_mask}
 use Rattle.selectors.proofs.selector.absent_words.Goals as goal
+use Rattle.selectors.proofs.selector.absent_words.Goals.{Start}
 
 -- 2^m - 1, as it is made
-present : (c : goal.Start) → let m = c.args.m in (1 ≤ 1 * 2 ^ m % 2 ^ 32) × (1 * 2 ^ m % 2 ^ 32 - 1 ≡ 2 ^ m - 1)
+present : (c : Start) → let m = c.args.m in (1 ≤ 1 * 2 ^ m % 2 ^ 32) × (1 * 2 ^ m % 2 ^ 32 - 1 ≡ 2 ^ m - 1)
 present c =
     let m = c.args.m in
     let most = pow_mono {i = m} {j = most_words} c.requires in
@@ -21,7 +22,7 @@ loop-k-init c = (omega arith, omega arith, λ j l. absurd (omega arith))
 pub loop-k-preserved : goal.loop-k-preserved
 loop-k-preserved c = let m = c.args.m in
     let l = c.loop-k in
-    let made = absent_mask 32 m l.k c.spread.result (omega arith) (λ i h. c.spread.ensures i h ∙ ap (bit l.k) (present c.before.before.before).1) in
+    let made = absent_mask 32 m l.k c.spread.result (omega arith) (λ i h. c.spread.ensures i h ∙ ap (bit l.k) (present (goal.at.loop-k-preserved c).Start).1) in
     (omega arith, simp length-set l.invariant.1, below_next (AbsentAt m) l.k _ l.absent (omega arith) l.invariant.2 made)
 
 pub returns : goal.returns

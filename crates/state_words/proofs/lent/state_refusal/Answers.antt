@@ -10,8 +10,8 @@ returns-then-state-m c = simp (ne_eqb _ _ c.if-state-m.true)
 
 pub returns-then-not-all_fit : goal.returns-then-not-all_fit
 unfolding state_checks first_of
-returns-then-not-all_fit c = simp (eq-eqb _ _ c.if-state-m.false, sym c.all_fit.ensures ∙ not-true _ c.if-not-all_fit.true)
+returns-then-not-all_fit c = simp (eq-eqb _ _ c.if-state-m.false, sym c.all_fit.ensures ∙ c.if-not-all_fit.true)
 
 pub returns : goal.returns
 unfolding state_checks first_of
-returns c = simp (eq-eqb _ _ c.if-state-m.false, sym c.all_fit.ensures ∙ not-false _ c.if-not-all_fit.false)
+returns c = simp (eq-eqb _ _ c.if-state-m.false, sym c.all_fit.ensures ∙ c.if-not-all_fit.false)

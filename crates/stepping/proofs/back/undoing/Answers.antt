@@ -7,9 +7,10 @@ use Rattle.tsc.specs.Constants.{most_words}
 use Rattle.words.specs.declared.arithmetic.Width.{Width}
 use Rattle.words.proofs.Reduced.{width_is}
 use Rattle.stepping.proofs.back.undoing.Goals as goal
+use Rattle.stepping.proofs.back.undoing.Goals.{After-reduce}
 
 -- whole rounds left out
-reduced : (c : goal.After-reduce) → let a = c.args in c.reduce.result ≡ a.times % 2 ^ a.m
+reduced : (c : After-reduce) → let a = c.args in c.reduce.result ≡ a.times % 2 ^ a.m
 reduced c = let times = c.args.times in c.reduce.ensures ∙ ap (λ (w : Width). times % 2 ^ w.bits) c.width_of.ensures
 
 pub entries-requires : goal.entries-requires

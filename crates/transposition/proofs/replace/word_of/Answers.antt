@@ -10,9 +10,10 @@ use Rattle.transposition.specs.Groups.{group_count}
 use Rattle.transposition.proofs.Filled.{Filled, filled_none, filled_next, filled_bits}
 use Rattle.transposition.proofs.replace.word_of.Invariants.{rows}
 use Rattle.transposition.proofs.replace.word_of.Goals as goal
+use Rattle.transposition.proofs.replace.word_of.Goals.{After-loop-i}
 
 -- all bytes
-all : (c : goal.After-loop-i) → let a = c.args in
+all : (c : After-loop-i) → let a = c.args in
     Filled group_count (rows a.groups a.k) c.loop-i.x
 all c =
     let a = c.args in

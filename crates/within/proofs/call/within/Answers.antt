@@ -16,51 +16,64 @@ use Rattle.within.specs.Sorting.{keys_of, is_listed}
 use Rattle.within.proofs.Sorting.{length_keys}
 use Rattle.within.proofs.Passed.{Free, free, listed_by}
 use Rattle.within.proofs.call.within.Goals as goal
+use Rattle.within.proofs.call.within.Goals.{After-keys_of-found, After-places_refusal-told, Else-told-ne0}
+
+-- the places handed over, and the radius
+abbrev given : After-places_refusal-told → Places
+given c = let a = c.args in placed a.x a.y a.shovels.now a.xs.now a.ys.now
+
+-- what is told of them
+told : (c : After-places_refusal-told) → c.places_refusal-told.result ≡ first_of (within_checks (given c) c.args.radius)
+told c =
+    let q = given c in
+    let allowed : c.is_allowed-allowed.result ≡ (on_map q.x q.y q.xs q.ys && is_radius c.args.radius) =
+    c.is_allowed-allowed.ensures ∙ rw (read_back c.ranges.x, read_back c.ranges.y, read_back c.ranges.radius) in
+    c.places_refusal-told.ensures ∙ ap (λ (b : Bool). first_of (place_checks q.shovels q.xs q.ys b)) allowed
 
 -- past the test nothing is refused
-passed : (c : goal.Else-told-ne0) → first_of (within_checks ((let a = c.args in placed a.x a.y a.shovels.now a.xs.now a.ys.now)) c.args.radius) ≡ 0
-passed c = sym ((let q = (let a = c.args in placed a.x a.y a.shovels.now a.xs.now a.ys.now) in let allowed : c.is_allowed-allowed.result ≡ (on_map q.x q.y q.xs q.ys && is_radius c.args.radius) = c.is_allowed-allowed.ensures ∙ rw (read_back c.ranges.x, read_back c.ranges.y, read_back c.ranges.radius) in c.places_refusal-told.ensures ∙ ap (λ (b : Bool). first_of (place_checks q.shovels q.xs q.ys b)) allowed)) ∙ c.if-told-ne0.false
+passed : (c : Else-told-ne0) → first_of (within_checks ((let a = c.args in placed a.x a.y a.shovels.now a.xs.now a.ys.now)) c.args.radius) ≡ 0
+passed c = sym ((let q = given c in let allowed : c.is_allowed-allowed.result ≡ (on_map q.x q.y q.xs q.ys && is_radius c.args.radius) = c.is_allowed-allowed.ensures ∙ rw (read_back c.ranges.x, read_back c.ranges.y, read_back c.ranges.radius) in c.places_refusal-told.ensures ∙ ap (λ (b : Bool). first_of (place_checks q.shovels q.xs q.ys b)) allowed)) ∙ c.if-told-ne0.false
 
-going : (c : goal.Else-told-ne0) → Free ((let a = c.args in placed a.x a.y a.shovels.now a.xs.now a.ys.now)) c.args.radius
+going : (c : Else-told-ne0) → Free ((let a = c.args in placed a.x a.y a.shovels.now a.xs.now a.ys.now)) c.args.radius
 going c = free _ _ (passed c)
 
 -- the keys
-keys : (c : goal.After-keys_of-found) → let q = (let a = c.args in placed a.x a.y a.shovels.now a.xs.now a.ys.now) in
+keys : (c : After-keys_of-found) → let q = (let a = c.args in placed a.x a.y a.shovels.now a.xs.now a.ys.now) in
     take (length q.xs) c.keys_of-found.result ≡ keys_of q.shovels (distances_of q) (square c.args.radius)
 keys c =
     let q = (let a = c.args in placed a.x a.y a.shovels.now a.xs.now a.ys.now) in
     let limit = c.squared.ensures ∙ ap square (read_back c.ranges.radius) in
     c.keys_of-found.ensures ∙ ap₂ (keys_of q.shovels) (distances_read q.x q.y q.xs q.ys c.ranges.x c.ranges.y) limit
 
-as_many : (c : goal.After-keys_of-found) → let n = length ((let a = c.args in placed a.x a.y a.shovels.now a.xs.now a.ys.now)).xs in length (take n c.keys_of-found.result) ≡ n
+as_many : (c : After-keys_of-found) → let n = length ((let a = c.args in placed a.x a.y a.shovels.now a.xs.now a.ys.now)).xs in length (take n c.keys_of-found.result) ≡ n
 as_many c =
     let q = (let a = c.args in placed a.x a.y a.shovels.now a.xs.now a.ys.now) in
     ap length (keys c) ∙ length_keys q.shovels (distances_of q) (square c.args.radius) ∙ length-distances q.x q.y q.xs q.ys
 
 pub returns-then-told-ne0 : goal.returns-then-told-ne0
-returns-then-told-ne0 c = c.refused.ensures ∙ within-refused ((let a = c.args in placed a.x a.y a.shovels.now a.xs.now a.ys.now)) c.args.radius _ c.if-told-ne0.true ((let q = (let a = c.args in placed a.x a.y a.shovels.now a.xs.now a.ys.now) in let allowed : c.is_allowed-allowed.result ≡ (on_map q.x q.y q.xs q.ys && is_radius c.args.radius) = c.is_allowed-allowed.ensures ∙ rw (read_back c.ranges.x, read_back c.ranges.y, read_back c.ranges.radius) in c.places_refusal-told.ensures ∙ ap (λ (b : Bool). first_of (place_checks q.shovels q.xs q.ys b)) allowed))
+returns-then-told-ne0 c = c.refused.ensures ∙ within-refused (given (goal.at.returns-then-told-ne0 c).After-places_refusal-told) c.args.radius _ c.if-told-ne0.true (told (goal.at.returns-then-told-ne0 c).After-places_refusal-told)
 
 pub squared-requires : goal.squared-requires
 squared-requires c = rw (read_back c.ranges.radius) (going c).is_radius_lem
 
 pub keys_of-found-requires : goal.keys_of-found-requires
-keys_of-found-requires c = let f = going c.before in
+keys_of-found-requires c = let f = going (goal.at.keys_of-found-requires c).Else-told-ne0 in
     (measured_read c.ranges.x c.ranges.y f.measurable, f.paired, f.few)
 
 pub slice_bounds-found-end : goal.slice_bounds-found-end
-slice_bounds-found-end c = omega (arith, as_many c, length-take (length ((let a = c.args in placed a.x a.y a.shovels.now a.xs.now a.ys.now)).xs) c.keys_of-found.result)
+slice_bounds-found-end c = omega (arith, as_many c, length-take (length (given (goal.at.slice_bounds-found-end c).After-places_refusal-told).xs) c.keys_of-found.result)
 
 pub slice_bounds-list_by-end : goal.slice_bounds-list_by-end
-slice_bounds-list_by-end c = sym (as_many c.before)
+slice_bounds-list_by-end c = sym (as_many (goal.at.slice_bounds-list_by-end c).After-keys_of-found)
 
 pub list_by-count-requires : goal.list_by-count-requires
-list_by-count-requires c = let f = going c.before.before.before.before in
-    (as_many c.before.before ∙ sym f.paired, omega (arith, as_many c.before.before, f.few))
+list_by-count-requires c = let f = going (goal.at.list_by-count-requires c).Else-told-ne0 in
+    (as_many (goal.at.list_by-count-requires c).After-keys_of-found ∙ sym f.paired, omega (arith, as_many (goal.at.list_by-count-requires c).After-keys_of-found, f.few))
 
 pub overflow_cast-result : goal.overflow_cast-result
-overflow_cast-result c = let ks = take (length ((let a = c.args in placed a.x a.y a.shovels.now a.xs.now a.ys.now)).xs) c.keys_of-found.result in
-    omega (arith, c.list_by-count.ensures.counted, count_le (length ks) (is_listed ks), as_many c.before.before.before.before, (going c.before.before.before.before.before.before).few)
+overflow_cast-result c = let ks = take (length (given (goal.at.overflow_cast-result c).After-places_refusal-told).xs) c.keys_of-found.result in
+    omega (arith, c.list_by-count.ensures.counted, count_le (length ks) (is_listed ks), as_many (goal.at.overflow_cast-result c).After-keys_of-found, (going (goal.at.overflow_cast-result c).Else-told-ne0).few)
 
 pub returns : goal.returns
 returns c = let l = c.list_by-count.ensures in
-    listed_by ((let a = c.args in placed a.x a.y a.shovels.now a.xs.now a.ys.now)) c.args.radius (passed c.before.before.before.before.before.before) (λ i. (c.shared_slice_known-1.given i).fits) (keys c.before.before.before.before) l.counted l.after
+    listed_by (given (goal.at.returns c).After-places_refusal-told) c.args.radius (passed (goal.at.returns c).Else-told-ne0) (λ i. (c.shared_slice_known-1.given i).fits) (keys (goal.at.returns c).After-keys_of-found) l.counted l.after

@@ -3,9 +3,10 @@ use Rattle.tsc.specs.Word.{◌⋘◌}
 use Rattle.tsc.proofs.Word.{rotate_lt}
 use Rattle.cycle.proofs.Bits.{mod_pow_mod}
 use Rattle.words.proofs.arithmetic.rotate_left.Goals as goal
+use Rattle.words.proofs.arithmetic.rotate_left.Goals.{After-struct_known-1}
 
 -- the two parts of the rotated word, before they are added
-turned : (c : goal.After-struct_known-1) → let a = c.args in
+turned : (c : After-struct_known-1) → let a = c.args in
     c.reduce.result + a.x / 2 / 2 ^ (a.w.bits - 1 - a.places) ≡ ◌⋘◌ a.w.bits a.x a.places
 unfolding ◌⋘◌
 turned c =
