@@ -19,4 +19,4 @@ pub overflow_sub-result : goal.overflow_sub-result
 overflow_sub-result c = subst (SFits w32) (sym (difference c)) (sum_fits c.args.sum c.requires)
 
 pub returns : goal.returns
-returns c = to_z-of_z (sub-result c) ∙ difference c
+returns c = to_z-of_z (overflow_sub-result c) ∙ difference c

@@ -61,7 +61,7 @@ by_table c =
 -- past the second test its entries are allowed
 by-absent : (c : Else-not-entries_allowed) → let a = c.args in let m = get_or a.v.numbers 0 0 in
     first_of (part_checks (field m table_bit) a.part.now) ≡ cond (same (take (2 ^ m) c.put_entries.new.1.1.0) tsc1_table) 3 0
-by-absent c = (let a = c.args in let size = 2 ^ get_or a.v.numbers 0 0 in let h = (omega (arith, c.entries-size.ensures, c.if-part-size.false)) in table_refusal _ a.part.now h _ (ap (take size) (over-table c) ∙ take_at (take size a.part.now) _ size (length-take-le size a.part.now h))) ∙ simp (sym c.entries_allowed.ensures ∙ c.if-not-entries_allowed.false)
+by-absent c = (let a = c.args in let size = 2 ^ get_or a.v.numbers 0 0 in let h = (omega (arith, c.entries-size.ensures, c.if-part-size.false)) in table_refusal _ a.part.now h _ (ap (take size) ((let a = c.args in c.put_entries.ensures ∙ ap (over a.part.now a.table.now) c.entries-size.ensures)) ∙ take_at (take size a.part.now) _ size (length-take-le size a.part.now h))) ∙ simp (sym c.entries_allowed.ensures ∙ c.if-not-entries_allowed.false)
 
 -- ---- the needs
 pub bounds-v-0 : goal.bounds-v-0

@@ -48,7 +48,7 @@ returned c =
 -- the table is no single cycle
 broken : (c : Else-first_return-size) → SingleCycle c.entries-size.result (entry_of c.read-found.result.card.table) 0 → ⊥
 broken c s =
-    let t = (let (s, e) = (reading-sound _ _ c.read-found.ensures c.if-found-ne0.false) in let formed = sound_card _ s in subst (λ (card : Card). TableOf c.entries-size.result card.table) (sym e) (subst (λ (n : ℕ). TableOf n (card_of c.args.card.now).table) (sym (size c)) (record { large = pow_mono formed.words; fits = few-entries _ (words-sound _ s); below = formed.entries }))) in
+    let t = (let (s, e) = (reading-sound _ _ c.read-found.ensures c.if-found-ne0.false) in let formed = sound_card _ s in subst (λ (card : Card). TableOf c.entries-size.result card.table) (sym e) (subst (λ (n : ℕ). TableOf n (card_of c.args.card.now).table) (sym ((c.entries-size.ensures ∙ ap (λ (card : Card). 2 ^ card.words) ((reading-sound _ _ c.read-found.ensures c.if-found-ne0.false)).1))) (record { large = pow_mono formed.words; fits = few-entries _ (words-sound _ s); below = formed.entries }))) in
     c.if-first_return-size.false (c.first_return.ensures ∙ (first_return_cycle _ _ (omega (arith, t.large)) t.below).1 s)
 
 -- ---- the needs

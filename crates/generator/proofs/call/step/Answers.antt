@@ -31,12 +31,12 @@ refusal o = told (bytes o) (xs o) o.accept-found.result o.accept-found.ensures o
 
 -- past the first test nothing is refused
 passing : (c : Else-told-ne0) → Clear c.args.card.now c.args.state.now c.accept-found.result.card
-passing c = clear c.args.card.now c.args.state.now c.accept-found.result c.accept-found.ensures (sym ((told (bytes c) (xs c) c.accept-found.result c.accept-found.ensures c.call_refusal-told.ensures)) ∙ c.if-told-ne0.false)
+passing c = clear c.args.card.now c.args.state.now c.accept-found.result c.accept-found.ensures (sym ((told c.args.card.now c.args.state.now c.accept-found.result c.accept-found.ensures c.call_refusal-told.ensures)) ∙ c.if-told-ne0.false)
 
 -- what the step asks for
 steps : (c : After-powers_of-p) → Steps c.accept-found.result.card c.terms_of-terms.result c.powers_of-p.result.odd c.powers_of-p.result.even c.load-held.result
 steps c =
-    let k = (clear c.args.card.now c.args.state.now c.accept-found.result c.accept-found.ensures (sym ((told (bytes c) (xs c) c.accept-found.result c.accept-found.ensures c.call_refusal-told.ensures)) ∙ c.if-told-ne0.false)) in
+    let k = (clear c.args.card.now c.args.state.now c.accept-found.result c.accept-found.ensures (sym ((told c.args.card.now c.args.state.now c.accept-found.result c.accept-found.ensures c.call_refusal-told.ensures)) ∙ c.if-told-ne0.false)) in
     record { accepted = accepted k; holds = ready k c.load-held.ensures; selects = c.terms_of-terms.ensures; first = c.powers_of-p.ensures.0; second = c.powers_of-p.ensures.1 }
 
 pub returns-then-told-ne0 : goal.returns-then-told-ne0

@@ -31,7 +31,7 @@ found : (m : After-can_measure) → let q = given m in m.can_measure.result ≡ 
 found m = let q = given m in m.can_measure.ensures ∙ ap (can_measure q.shovels q.xs q.ys) (mapped m)
 
 can : (c : Else-not-can_measure) → let q = (let a = c.args in placed a.x a.y a.shovels.now a.xs.now a.ys.now) in can_measure q.shovels q.xs q.ys (on_map q.x q.y q.xs q.ys) ≡ true
-can c = sym ((let q = given c in c.can_measure.ensures ∙ ap (can_measure q.shovels q.xs q.ys) (mapped c))) ∙ c.if-not-can_measure.false
+can c = sym ((let q = (let a = c.args in placed a.x a.y a.shovels.now a.xs.now a.ys.now) in c.can_measure.ensures ∙ ap (can_measure q.shovels q.xs q.ys) ((c.on_map-mapped.ensures ∙ rw (read_back c.ranges.x, read_back c.ranges.y))))) ∙ c.if-not-can_measure.false
 
 -- as many times as shovels
 ties-alike : (c : After-marks_of-marks) → let q = (let a = c.args in placed a.x a.y a.shovels.now a.xs.now a.ys.now) in SameTies (distances_of q) (take (length q.xs) c.marks_of-marks.result)

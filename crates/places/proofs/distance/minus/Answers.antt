@@ -7,4 +7,4 @@ pub overflow_sub-result : goal.overflow_sub-result
 overflow_sub-result c = simp (to_z-of_z c.ranges.a, to_z-of_z c.ranges.b) c.requires
 
 pub returns : goal.returns
-returns c = to_z-of_z (sub-result c) ∙ (λ i. to_z-of_z c.ranges.a i -ℤ to_z-of_z c.ranges.b i)
+returns c = to_z-of_z (overflow_sub-result c) ∙ (λ i. to_z-of_z c.ranges.a i -ℤ to_z-of_z c.ranges.b i)

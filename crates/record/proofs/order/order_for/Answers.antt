@@ -25,7 +25,7 @@ facts c = known _ (whole c)
 
 truck-is : (c : After-half_at) → c.half_at.result ≡ (record_of c.args.bytes.now).truck
 unfolding record_of
-truck-is c = c.half_at.ensures ∙ sym (truck-bytes _ ((known _ (whole c))).low)
+truck-is c = c.half_at.ensures ∙ sym (truck-bytes _ ((known _ ((sym c.is_whole.ensures ∙ c.if-not-is_whole.false)))).low)
 
 pub returns-then-not-is_whole : goal.returns-then-not-is_whole
 returns-then-not-is_whole c = let both = alike _ _ (order_torn _ _ (sym c.is_whole.ensures ∙ c.if-not-is_whole.true)) in record { answer = both.0; alone = both.1; }

@@ -32,7 +32,7 @@ told c =
 
 -- past the test nothing is refused
 passed : (c : Else-told-ne0) → first_of (within_checks ((let a = c.args in placed a.x a.y a.shovels.now a.xs.now a.ys.now)) c.args.radius) ≡ 0
-passed c = sym ((let q = given c in let allowed : c.is_allowed-allowed.result ≡ (on_map q.x q.y q.xs q.ys && is_radius c.args.radius) = c.is_allowed-allowed.ensures ∙ rw (read_back c.ranges.x, read_back c.ranges.y, read_back c.ranges.radius) in c.places_refusal-told.ensures ∙ ap (λ (b : Bool). first_of (place_checks q.shovels q.xs q.ys b)) allowed)) ∙ c.if-told-ne0.false
+passed c = sym ((let q = (let a = c.args in placed a.x a.y a.shovels.now a.xs.now a.ys.now) in let allowed : c.is_allowed-allowed.result ≡ (on_map q.x q.y q.xs q.ys && is_radius c.args.radius) = c.is_allowed-allowed.ensures ∙ rw (read_back c.ranges.x, read_back c.ranges.y, read_back c.ranges.radius) in c.places_refusal-told.ensures ∙ ap (λ (b : Bool). first_of (place_checks q.shovels q.xs q.ys b)) allowed)) ∙ c.if-told-ne0.false
 
 going : (c : Else-told-ne0) → Free ((let a = c.args in placed a.x a.y a.shovels.now a.xs.now a.ys.now)) c.args.radius
 going c = free _ _ (passed c)
