@@ -13,7 +13,7 @@ use Rattle.card_format.proofs.Fields.{part_refusal}
 use Rattle.card_fields.specs.declared.number.Number.TheVariants.{Value, Refused}
 use Rattle.card_fields.specs.Number.{number_read}
 use Rattle.card_fields.proofs.number.read_number.Goals as goal
-use Rattle.card_fields.proofs.number.read_number.Goals.{Else-part-extent_of}
+use Rattle.card_fields.proofs.number.read_number.Goals.{After-number_at-v, Else-not-number_allowed, Else-part-extent_of}
 
 refused_as : (f : Field) (part : List ℕ) (r : ℕ) → r ≢ 0 → first_of (part_checks f part) ≡ r → Refused r ≡ number_read f part
 unfolding number_read
@@ -27,6 +27,24 @@ value_as f part v n e = rw (e, n) refl
 there : (c : Else-part-extent_of) → let a = c.args in extent (field a.m a.k) ≤ length a.part.now
 there c = omega (arith, c.extent_of.ensures, c.if-part-extent_of.false)
 
+-- then its refusal goes by its number
+numbered : (f : Field) (part : List ℕ) (v : ℕ) → numbers f part ≡ v ∷ [] → extent f ≤ length part
+    → first_of (part_checks f part) ≡ cond (not (allowed f (v ∷ []))) 2 (cond (same (v ∷ []) f.absent) 3 0)
+numbered f part v e l = part_refusal _ _ _ e ∙ simp (le-ltb _ _ l)
+
+by_number : (c : After-number_at-v) → let a = c.args in let f = field a.m a.k in let v = c.number_at-v.result in
+    first_of (part_checks f a.part.now) ≡ cond (not (allowed f (v ∷ []))) 2 (cond (same (v ∷ []) f.absent) 3 0)
+by_number c =
+    let fits : extent (field c.args.m c.args.k) ≤ length c.args.part.now = omega (arith, c.extent_of.ensures, c.if-part-extent_of.false) in
+    numbered _ _ _ c.number_at-v.ensures fits
+
+-- past the second test, by its absent value
+by-absent : (c : Else-not-number_allowed) → let a = c.args in let f = field a.m a.k in
+    first_of (part_checks f a.part.now) ≡ cond (same (c.number_at-v.result ∷ []) f.absent) 3 0
+by-absent c =
+    let fits : extent (field c.args.m c.args.k) ≤ length c.args.part.now = omega (arith, c.extent_of.ensures, c.if-part-extent_of.false) in
+    numbered _ _ _ c.number_at-v.ensures fits ∙ simp (sym c.number_allowed.ensures ∙ c.if-not-number_allowed.false)
+
 pub returns-then-part-extent_of : goal.returns-then-part-extent_of
 returns-then-part-extent_of c = let a = c.args in
     let short : length a.part.now < extent (field a.m a.k) = omega (arith, c.extent_of.ensures, c.if-part-extent_of.true) in
@@ -37,11 +55,11 @@ number_at-v-requires c = let p = c.requires in record { k_lt_field_count = (p.0,
 
 pub returns-then-not-number_allowed : goal.returns-then-not-number_allowed
 returns-then-not-number_allowed c = refused_as _ _ 2 (λ e. absurd (omega arith))
-    ((part_refusal _ _ _ c.number_at-v.ensures ∙ simp (le-ltb _ _ (there (goal.at.returns-then-not-number_allowed c).Else-part-extent_of))) ∙ simp (sym c.number_allowed.ensures ∙ c.if-not-number_allowed.true))
+    (by_number (goal.at.returns-then-not-number_allowed c).After-number_at-v ∙ simp (sym c.number_allowed.ensures ∙ c.if-not-number_allowed.true))
 
 pub returns-then-is_absent : goal.returns-then-is_absent
-returns-then-is_absent c = refused_as _ _ 3 (λ e. absurd (omega arith)) (((part_refusal _ _ _ c.number_at-v.ensures ∙ simp (le-ltb _ _ (there (goal.at.returns-then-is_absent c).Else-part-extent_of))) ∙ simp (sym c.number_allowed.ensures ∙ c.if-not-number_allowed.false)) ∙ simp (sym c.is_absent.ensures ∙ c.if-is_absent.true))
+returns-then-is_absent c = refused_as _ _ 3 (λ e. absurd (omega arith)) (by-absent (goal.at.returns-then-is_absent c).Else-not-number_allowed ∙ simp (sym c.is_absent.ensures ∙ c.if-is_absent.true))
 
 pub returns : goal.returns
 returns c = let n = c.number_at-v in
-    value_as _ _ n.result n.ensures (((part_refusal _ _ _ c.number_at-v.ensures ∙ simp (le-ltb _ _ (there (goal.at.returns c).Else-part-extent_of))) ∙ simp (sym c.number_allowed.ensures ∙ c.if-not-number_allowed.false)) ∙ simp (sym c.is_absent.ensures ∙ c.if-is_absent.false))
+    value_as _ _ n.result n.ensures (by-absent (goal.at.returns c).Else-not-number_allowed ∙ simp (sym c.is_absent.ensures ∙ c.if-is_absent.false))

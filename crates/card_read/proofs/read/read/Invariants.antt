@@ -24,7 +24,7 @@ use lib.Dec.{lit<}
 use Rattle.card_read.proofs.read.read.Given as goal
 
 abbrev pub invariant-loop : goal.invariant-loop
-invariant-loop l = Rest l.card l.left l.next l.at l.v × (l.counter + ones l.left ≡ l.initial.counter) × (l.next ≤ field_count) × (l.initial.counter ≤ 8) × (length l.table ≡ 2 ^ most_words) × (l.table ≡ table_to l.card l.next)
+invariant-loop l = Rest l.card l.left l.next l.at l.v × (l.counter + ones l.left ≡ l.end) × (l.next ≤ field_count) × (l.end ≤ 8) × (length l.table ≡ 2 ^ most_words) × (l.table ≡ table_to l.card l.next)
 
 abbrev pub decreases-loop : goal.decreases-loop
-decreases-loop l = l.initial.counter - l.counter
+decreases-loop l = l.end - l.counter

@@ -11,7 +11,7 @@ use Rattle.columns.proofs.Powers.{stands, stands-few, stands_next}
 use Rattle.columns.proofs.power.entry_after.Given as goal
 
 abbrev pub invariant-loop : goal.invariant-loop
-invariant-loop l = (l.initial.counter ≡ l.times % 2 ^ l.m) × (l.counter ≤ l.initial.counter) × (l.y ≡ stands l.table l.counter)
+invariant-loop l = (l.end ≡ l.times % 2 ^ l.m) × (l.counter ≤ l.end) × (l.y ≡ stands l.table l.counter)
 
 abbrev pub decreases-loop : goal.decreases-loop
-decreases-loop l = l.initial.counter - l.counter
+decreases-loop l = l.end - l.counter

@@ -21,7 +21,7 @@ Known terms rotations leaves s card =
     (odd : List ℕ) × (even : List ℕ) × Steps card terms odd even s × (rotations ≡ rotations_of card) × (card.words ≤ few_words) × HasLeaves odd even leaves
 
 abbrev pub invariant-loop-k : goal.invariant-loop-k
-invariant-loop-k l = Row (Known l.rotations l.leaves l.initial.words l.initial.held) l.initial.held l.count l.terms l.k l.held l.words
+invariant-loop-k l = Row (Known l.terms l.rotations l.leaves l.initial.held) l.initial.held l.count l.initial.words l.k l.held l.words
 
 abbrev pub decreases-loop-k : goal.decreases-loop-k
 decreases-loop-k l = l.count - l.k

@@ -18,7 +18,7 @@ abbrev pub Known : Terms → Rotations → Powers → State → Card → Type 0
 Known terms rotations p s card = Steps card terms p.odd p.even s × (rotations ≡ rotations_of card)
 
 abbrev pub invariant-loop-at : goal.invariant-loop-at
-invariant-loop-at l = Row (Known l.rotations l.initial.words l.terms l.initial.held) l.initial.held l.count l.p l.at l.held l.words
+invariant-loop-at l = Row (Known l.terms l.rotations l.p l.initial.held) l.initial.held l.count l.initial.words l.at l.held l.words
 
 abbrev pub decreases-loop-at : goal.decreases-loop-at
 decreases-loop-at l = l.count - l.at

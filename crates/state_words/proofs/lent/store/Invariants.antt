@@ -10,7 +10,7 @@ use Rattle.cycle.proofs.Lists.{over, over_suc}
 use Rattle.state_words.proofs.lent.store.Given as goal
 
 abbrev pub invariant-loop-k : goal.invariant-loop-k
-invariant-loop-k l = (l.k ≤ length l.s) × (length l.s ≤ most_words) × (length l.state ≡ length l.s) × (length l.initial.state.words ≡ most_words) × (l.state ≡ over l.initial.state.words l.s l.k)
+invariant-loop-k l = (l.k ≤ length l.initial.state) × (length l.initial.state ≤ most_words) × (length l.state ≡ length l.initial.state) × (length l.s.words ≡ most_words) × (l.state ≡ over l.s.words l.initial.state l.k)
 
 abbrev pub decreases-loop-k : goal.decreases-loop-k
-decreases-loop-k l = length l.s - l.k
+decreases-loop-k l = length l.initial.state - l.k
