@@ -8,7 +8,7 @@ use Rattle.transposition.proofs.Filled.{Filled, filled_none, filled_next}
 use Rattle.transposition.proofs.replace.images_of.Given as goal
 
 abbrev pub invariant-loop-i : goal.invariant-loop-i
-invariant-loop-i l = (l.i ≤ 8) × Filled l.i (λ l.i. get_or l.table (byte l.i l.q) 0) l.r
+invariant-loop-i l = (l.i ≤ 8) × Filled l.i (λ i. get_or l.table (byte i l.q) 0) l.r
 
 abbrev pub decreases-loop-i : goal.decreases-loop-i
 decreases-loop-i l = 8 - l.i

@@ -19,7 +19,7 @@ abbrev pub replaced : List ℕ → List ℕ → List ℕ → ℕ → ℕ → ℕ
 replaced odd even ws selector low i = bit i low * image_of odd even (bit i selector) (column i ws)
 
 abbrev pub invariant-loop-g : goal.invariant-loop-g
-invariant-loop-g l = (l.g ≤ group_count) × (length l.groups ≡ group_count) × Below (λ l.g x. HasGroup l.g x (replaced l.odd l.even l.s.words l.selector l.low)) l.g l.groups
+invariant-loop-g l = (l.g ≤ group_count) × (length l.groups ≡ group_count) × Below (λ g x. HasGroup g x (replaced l.odd l.even l.s.words l.selector l.low)) l.g l.groups
 
 abbrev pub decreases-loop-g : goal.decreases-loop-g
 decreases-loop-g l = group_count - l.g
