@@ -38,12 +38,13 @@ held c card p = p.2.holds
 -- the loop leaves the number of the words lent
 size : (c : At-loop-k) → length c.loop-k.words ≡ length c.args.words.now
 size c =
-    row-length ((Known c.terms_of-terms.result c.rotations_of-rotations.result c.leaves_of-leaves.result c.args.s)) c.args.s c.args.count c.args.words.now c.requires.3 (held c.before) c.loop-k.k c.loop-k.held c.loop-k.words c.loop-k.invariant c.args.card ((let p = c.powers_of-p.ensures in ( c.powers_of-p.result.odd, c.powers_of-p.result.even, record { accepted = c.requires.0; holds = c.requires.1; selects = c.terms_of-terms.ensures; first = p.0; second = p.1 }, c.rotations_of-rotations.ensures, c.requires.2, c.leaves_of-leaves.ensures, )))
+    let p = c.powers_of-p.ensures in let k : Known c.terms_of-terms.result c.rotations_of-rotations.result c.leaves_of-leaves.result c.args.s c.args.card = ( c.powers_of-p.result.odd, c.powers_of-p.result.even, record { accepted = c.requires.0; holds = c.requires.1; selects = c.terms_of-terms.ensures; first = p.0; second = p.1 }, c.rotations_of-rotations.ensures, c.requires.2, c.leaves_of-leaves.ensures, ) in
+    row-length (Known c.terms_of-terms.result c.rotations_of-rotations.result c.leaves_of-leaves.result c.args.s) c.args.s c.args.count c.args.words.now c.requires.3 (λ (d : Card) (q : Known c.terms_of-terms.result c.rotations_of-rotations.result c.leaves_of-leaves.result c.args.s d). q.2.holds) c.loop-k.k c.loop-k.held c.loop-k.words c.loop-k.invariant c.args.card k
 
 -- what is known of the state that the loop has come to
-now-known : (c : At-loop-k) → (card : Card) → P o card → Known c.terms_of-terms.result c.rotations_of-rotations.result c.leaves_of-leaves.result c.loop-k.held card
+now-known : (c : At-loop-k) → (card : Card) → Known c.terms_of-terms.result c.rotations_of-rotations.result c.leaves_of-leaves.result c.args.s card → Known c.terms_of-terms.result c.rotations_of-rotations.result c.leaves_of-leaves.result c.loop-k.held card
 now-known c card p =
-    let h = row-holds ((Known c.terms_of-terms.result c.rotations_of-rotations.result c.leaves_of-leaves.result c.args.s)) c.args.s c.args.count c.args.words.now c.requires.3 (held c.before) c.loop-k.k c.loop-k.held c.loop-k.words c.loop-k.invariant card p in
+    let h = row-holds (Known c.terms_of-terms.result c.rotations_of-rotations.result c.leaves_of-leaves.result c.args.s) c.args.s c.args.count c.args.words.now c.requires.3 (λ (d : Card) (q : Known c.terms_of-terms.result c.rotations_of-rotations.result c.leaves_of-leaves.result c.args.s d). q.2.holds) c.loop-k.k c.loop-k.held c.loop-k.words c.loop-k.invariant card p in
     (p.0, p.1, steps-at card _ p.0 p.1 _ _ p.2 h, p.3, p.4, p.5)
 
 pub powers_of-p-requires : goal.powers_of-p-requires
@@ -63,13 +64,13 @@ next_in_row-drawn-requires c = let q = now-known (goal.at.next_in_row-drawn-requ
     (c.args.card, q.0, q.1, q.2, q.3, q.4, q.5)
 
 pub offset_bounds-words-k : goal.offset_bounds-words-k
-offset_bounds-words-k c = omega (arith, size (goal.at.offset_bounds-words-k c).At-loop-k, c.loop-k-test.true, c.requires.3, c.good.1.1.1.0)
+offset_bounds-words-k c = omega (arith, size (goal.at.offset_bounds-words-k c).At-loop-k, c.loop-k-test.true, c.requires.3)
 
 pub bounds-words-k : goal.bounds-words-k
 bounds-words-k c = omega (arith, size (goal.at.bounds-words-k c).At-loop-k, c.requires.3)
 
 pub overflow_add-k : goal.overflow_add-k
-overflow_add-k c = omega (arith, c.loop-k-test.true, size (goal.at.overflow_add-k c).At-loop-k, c.requires.3, c.good.1.1.1.0)
+overflow_add-k c = omega (arith, c.loop-k-test.true, size (goal.at.overflow_add-k c).At-loop-k, c.requires.3)
 
 pub loop-k-preserved : goal.loop-k-preserved
 loop-k-preserved c = let l = c.loop-k in

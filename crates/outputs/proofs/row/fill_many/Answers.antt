@@ -30,12 +30,13 @@ held c card p = p.0.holds
 -- the loop leaves the number of the words lent
 size : (c : At-loop-at) → length c.loop-at.words ≡ length c.args.words.now
 size c =
-    row-length ((Known c.terms_of-terms.result c.rotations_of-rotations.result c.powers_of-p.result c.args.s)) c.args.s c.args.count c.args.words.now c.requires.2 (held c.before) c.loop-at.at c.loop-at.held c.loop-at.words c.loop-at.invariant c.args.card ((let p = c.powers_of-p.ensures in (record { accepted = c.requires.0; holds = c.requires.1; selects = c.terms_of-terms.ensures; first = p.0; second = p.1 }, c.rotations_of-rotations.ensures)))
+    let p = c.powers_of-p.ensures in let k : Known c.terms_of-terms.result c.rotations_of-rotations.result c.powers_of-p.result c.args.s c.args.card = (record { accepted = c.requires.0; holds = c.requires.1; selects = c.terms_of-terms.ensures; first = p.0; second = p.1 }, c.rotations_of-rotations.ensures) in
+    row-length (Known c.terms_of-terms.result c.rotations_of-rotations.result c.powers_of-p.result c.args.s) c.args.s c.args.count c.args.words.now c.requires.2 (λ (d : Card) (q : Known c.terms_of-terms.result c.rotations_of-rotations.result c.powers_of-p.result c.args.s d). q.0.holds) c.loop-at.at c.loop-at.held c.loop-at.words c.loop-at.invariant c.args.card k
 
 -- what is known of the state that the loop has come to
-now-known : (c : At-loop-at) → (card : Card) → P o card → Known c.terms_of-terms.result c.rotations_of-rotations.result c.powers_of-p.result c.loop-at.held card
+now-known : (c : At-loop-at) → (card : Card) → Known c.terms_of-terms.result c.rotations_of-rotations.result c.powers_of-p.result c.args.s card → Known c.terms_of-terms.result c.rotations_of-rotations.result c.powers_of-p.result c.loop-at.held card
 now-known c card p =
-    let h = row-holds ((Known c.terms_of-terms.result c.rotations_of-rotations.result c.powers_of-p.result c.args.s)) c.args.s c.args.count c.args.words.now c.requires.2 (held c.before) c.loop-at.at c.loop-at.held c.loop-at.words c.loop-at.invariant card p in
+    let h = row-holds (Known c.terms_of-terms.result c.rotations_of-rotations.result c.powers_of-p.result c.args.s) c.args.s c.args.count c.args.words.now c.requires.2 (λ (d : Card) (q : Known c.terms_of-terms.result c.rotations_of-rotations.result c.powers_of-p.result c.args.s d). q.0.holds) c.loop-at.at c.loop-at.held c.loop-at.words c.loop-at.invariant card p in
     (steps-at card _ _ _ _ _ p.0 h, p.1)
 
 pub powers_of-p-requires : goal.powers_of-p-requires
@@ -55,13 +56,13 @@ next_output-drawn-requires c = let q = now-known (goal.at.next_output-drawn-requ
     (c.args.card, q.0, q.1)
 
 pub offset_bounds-words-at : goal.offset_bounds-words-at
-offset_bounds-words-at c = omega (arith, size (goal.at.offset_bounds-words-at c).At-loop-at, c.loop-at-test.true, c.requires.2, c.good.1.1.1.0)
+offset_bounds-words-at c = omega (arith, size (goal.at.offset_bounds-words-at c).At-loop-at, c.loop-at-test.true, c.requires.2)
 
 pub bounds-words-at : goal.bounds-words-at
 bounds-words-at c = omega (arith, size (goal.at.bounds-words-at c).At-loop-at, c.loop-at-test.true, c.requires.2)
 
 pub overflow_add-at : goal.overflow_add-at
-overflow_add-at c = omega (arith, c.loop-at-test.true, size (goal.at.overflow_add-at c).At-loop-at, c.requires.2, c.good.1.1.1.0)
+overflow_add-at c = omega (arith, c.loop-at-test.true, size (goal.at.overflow_add-at c).At-loop-at, c.requires.2)
 
 pub loop-at-preserved : goal.loop-at-preserved
 loop-at-preserved c = let l = c.loop-at in

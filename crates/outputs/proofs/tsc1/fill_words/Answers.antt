@@ -16,13 +16,13 @@ pub loop-k-init : goal.loop-k-init
 loop-k-init c = written_none tsc1_card _ _ _ c.requires.1 _ c.requires.0.1
 
 pub offset_bounds-words-k : goal.offset_bounds-words-k
-offset_bounds-words-k c = omega (arith, size (goal.at.offset_bounds-words-k c).At-loop-k, c.loop-k-test.true, c.requires.1, c.well-formed.1.1.0)
+offset_bounds-words-k c = omega (arith, size (goal.at.offset_bounds-words-k c).At-loop-k, c.loop-k-test.true, c.requires.1)
 
 pub bounds-words-k : goal.bounds-words-k
 bounds-words-k c = omega (arith, size (goal.at.bounds-words-k c).At-loop-k, c.loop-k-test.true, c.requires.1)
 
 pub overflow_add-k : goal.overflow_add-k
-overflow_add-k c = omega (arith, size (goal.at.overflow_add-k c).At-loop-k, c.loop-k-test.true, c.requires.1, c.well-formed.1.1.0)
+overflow_add-k c = omega (arith, size (goal.at.overflow_add-k c).At-loop-k, c.loop-k-test.true, c.requires.1)
 
 pub loop-k-preserved : goal.loop-k-preserved
 loop-k-preserved c = written_next tsc1_card _ _ _ c.requires.1 c.requires.0.0 _ _ _ c.loop-k.invariant c.loop-k-test.true _ c.next_output-drawn.ensures
