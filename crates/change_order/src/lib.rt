@@ -1,4 +1,6 @@
 // Which of two changes comes first, and the best change so far. The order is defined in crate changes.
+#![tactic(auto)]
+
 pub mod order;
 
 use changes::Change;

@@ -1,3 +1,5 @@
 // Places on the map: squared distances, and what is refused. Both are defined in specs/.
+#![tactic(auto)]
+
 pub mod distance;
 pub mod map;

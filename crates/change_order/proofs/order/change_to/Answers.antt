@@ -2,7 +2,6 @@ use mathlib.Core.Path.{sym, ap₂}
 use mathlib.Core.Bool.{Bool}
 use Prim.Native.Nat.{ℕ}
 use native.Mathlib.Omega.{arith}
-use borrow.Author.Rules.{rules}
 use borrow.Author.Tests.{lt-ltb, le-ltb}
 use Rattle.changes.specs.declared.Change.{Change}
 use Rattle.change_order.proofs.order.change_to.Goals as goal

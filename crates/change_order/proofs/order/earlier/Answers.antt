@@ -1,6 +1,5 @@
 use mathlib.Core.Path.{sym, ap, ◌∙◌}
 use mathlib.Core.Bool.{Bool, ◌&&◌}
-use borrow.Author.Rules.{rules}
 use Rattle.change_order.proofs.Before.{by_seconds, by_number, by_direction}
 use Rattle.change_order.proofs.order.earlier.Goals as goal
 

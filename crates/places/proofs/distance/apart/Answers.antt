@@ -28,5 +28,6 @@ pub size-requires : goal.size-requires
 size-requires c = subst (λ (z : ℤ). nat_abs z ≤ most_apart) (sym (of_result c.before c.minus.result c.minus.ensures)) (small c.before)
 
 pub returns : goal.returns
-returns c = let e : c.size.result ≡ nat_abs (c.args.a -ℤ c.args.b) = c.size.ensures ∙ ap nat_abs (of_result s c.minus.result c.minus.ensures) in
+returns c = let s = (goal.at.returns c).Start in
+    let e : c.size.result ≡ nat_abs (c.args.a -ℤ c.args.b) = c.size.ensures ∙ ap nat_abs (of_result s c.minus.result c.minus.ensures) in
     (e, subst (λ (n : ℕ). n ≤ most_apart) (sym e) (small s))

@@ -19,10 +19,10 @@ squared_distance-requires c = let m = c.requires.0 in
 
 pub returns : goal.returns
 returns c = rw (
-      distance_is c.args.x c.args.y c.args.xs.now c.args.ys.now c.args.i c.requires.1,
-      c.squared_distance.ensures,
-      read_back c.ranges.x,
-      read_back c.ranges.y,
-      read_back (given c.squared_distance-arg-1.given),
-      read_back (given c.squared_distance-arg-2-1.given),
-    )
+  distance_is c.args.x c.args.y c.args.xs.now c.args.ys.now c.args.i c.requires.1,
+  c.squared_distance.ensures,
+  read_back c.ranges.x,
+  read_back c.ranges.y,
+  read_back (given c.squared_distance-arg-1.given),
+  read_back (given c.squared_distance-arg-2-1.given),
+)

@@ -1,13 +1,9 @@
-use mathlib.Core.Path.{◌≡◌, sym, ◌∙◌}
+use mathlib.Core.Path.{◌≡◌}
 use mathlib.Core.Bool.{true}
 use Prim.Native.Nat.{ℕ, ◌-◌, ◌≤◌, ◌<◌}
-use native.Mathlib.Omega.{arith}
-use borrow.Author.Tests.{not-true, not-false}
 use lib.IntN.{pos}
 use lib.ListN.{length, get_or}
-use Rattle.cycle.proofs.Every.{every_of, every_not, extend}
-use Rattle.places.specs.Places.{is_on_map, all_on_map}
-use Rattle.places.proofs.Signed.{read_back, given}
+use Rattle.places.specs.Places.{is_on_map}
 use Rattle.places.proofs.map.all_on_map.Given as goal
 
 abbrev pub invariant-loop-i : goal.invariant-loop-i

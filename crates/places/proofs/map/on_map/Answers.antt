@@ -1,6 +1,5 @@
 use mathlib.Core.Path.{◌≡◌, sym, ap, ◌∙◌}
 use mathlib.Core.Bool.{true}
-use borrow.Author.Tests.{not-true, not-false}
 use Rattle.places.specs.Places.{is_on_map, all_on_map}
 use Rattle.places.proofs.Signed.{read_back}
 use Rattle.places.proofs.map.on_map.Goals as goal
