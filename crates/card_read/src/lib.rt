@@ -1,2 +1,4 @@
 // Reading cards. What that means is defined in crate card_format.
+#![tactic(auto)]
+
 pub mod read;

@@ -1,5 +1,4 @@
 use mathlib.Core.Path.{ap}
-use native.Mathlib.Omega.{arith}
 use Rattle.card_format.specs.declared.Reading.{Reading}
 use Rattle.card_format.specs.Verdict.{accepting}
 use Rattle.card_format.proofs.Verdict.{verdict_told}
@@ -7,4 +6,4 @@ use Rattle.card.proofs.check.check.Goals as goal
 
 pub returns : goal.returns
 unfolding accepting
-returns c = let both = verdict_told _ _ (ap (λ (r : Reading). r.refusal) c.accept-found.ensures) in record { told = both.0; covers = both.1; }
+returns c = let both = verdict_told _ _ (ap (λ (r : Reading). r.refusal) c.accept-found.ensures) in record { told = both.0; covers = both.1 }

@@ -25,7 +25,7 @@ cycled : (c : Else-first_return-size) → let a = c.args in eqb (first_return (�
 cycled c = (let e = c.entries-size.ensures in sym (ap₂ eqb (c.first_return.ensures ∙ ap (first_return (λ y. get_or c.args.table.now y 0)) e) e)) ∙ eq-eqb _ _ c.if-first_return-size.false
 
 pub first_return-requires : goal.first_return-requires
-first_return-requires c = let e = c.entries-size.ensures in record { size_nonzero = (omega (arith, e, pow_pos c.args.words), omega (arith, e, few-entries c.args.words c.requires.0)); by_index = λ y l. omega (arith, e, c.requires.1 y (omega (arith, e))); }
+first_return-requires c = let e = c.entries-size.ensures in record { size_nonzero = (omega (arith, e, pow_pos c.args.words), omega (arith, e, few-entries c.args.words c.requires.0)); by_index = λ y l. omega (arith, e, c.requires.1 y (omega (arith, e))) }
 
 pub returns-then-first_return-size : goal.returns-then-first_return-size
 unfolding period_checks first_of
@@ -42,19 +42,19 @@ returns-then-odd_power-eq0 c = simp (cycled (goal.at.returns-then-odd_power-eq0 
 pub returns-then-even_power-eq1 : goal.returns-then-even_power-eq1
 unfolding period_checks first_of
 returns-then-even_power-eq1 c = simp (
-      cycled (goal.at.returns-then-even_power-eq1 c).Else-first_return-size,
-      ne_eqb _ _ c.if-constant-eq0.false,
-      ne_eqb _ _
-          c.if-odd_power-eq0.false,
-      eq-eqb _ _ c.if-even_power-eq1.true,
-    )
+  cycled (goal.at.returns-then-even_power-eq1 c).Else-first_return-size,
+  ne_eqb _ _ c.if-constant-eq0.false,
+  ne_eqb _ _
+      c.if-odd_power-eq0.false,
+  eq-eqb _ _ c.if-even_power-eq1.true,
+)
 
 pub returns : goal.returns
 unfolding period_checks first_of
 returns c = simp (
-      cycled (goal.at.returns c).Else-first_return-size,
-      ne_eqb _ _ c.if-constant-eq0.false,
-      ne_eqb _ _
-          c.if-odd_power-eq0.false,
-      ne_eqb _ _ c.if-even_power-eq1.false,
-    )
+  cycled (goal.at.returns c).Else-first_return-size,
+  ne_eqb _ _ c.if-constant-eq0.false,
+  ne_eqb _ _
+      c.if-odd_power-eq0.false,
+  ne_eqb _ _ c.if-even_power-eq1.false,
+)

@@ -1,6 +1,6 @@
 use mathlib.Core.Path.{◌≡◌, refl, sym, ap, ◌∙◌}
 use mathlib.Core.Bool.{cond}
-use Prim.Native.Nat.{ℕ, ◌+◌, ◌-◌, ◌^◌, ◌≤◌}
+use Prim.Native.Nat.{ℕ, ◌+◌, ◌^◌}
 use native.Mathlib.Numerals.{add-one}
 use native.Mathlib.Omega.{arith}
 use lib.ListN.{length}
@@ -23,10 +23,13 @@ loop-k-init c = (omega arith, refl, refl)
 pub with_field-o-requires : goal.with_field-o-requires
 with_field-o-requires c = let l = c.loop-k in
     let card = c.args.card in
-    let few = c.requires in record { k_lt_field_count = (omega arith, few); map_bound = (
+    let few = c.requires in record {
+      k_lt_field_count = (omega arith, few);
+      map_bound = (
         omega (arith, l.invariant.1, map_lt l.k (is_written card)),
         omega (arith, l.invariant.2, length_before card l.k field_count l.invariant.0, written-short card few),
-      ); }
+      );
+    }
 
 pub loop-k-preserved : goal.loop-k-preserved
 loop-k-preserved c = let l = c.loop-k in
@@ -40,4 +43,4 @@ loop-k-preserved c = let l = c.loop-k in
 pub returns : goal.returns
 returns c = let l = c.loop-k in
     let card = c.args.card in
-    let e : l.k ≡ field_count = omega arith in record { map_value = l.invariant.1 ∙ ap (map_to card) e; length_value = l.invariant.2 ∙ ap (length_to card) e; }
+    let e : l.k ≡ field_count = omega arith in record { map_value = l.invariant.1 ∙ ap (map_to card) e; length_value = l.invariant.2 ∙ ap (length_to card) e }

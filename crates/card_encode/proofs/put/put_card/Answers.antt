@@ -42,13 +42,16 @@ pub slice_bounds-put_field-start : goal.slice_bounds-put_field-start
 slice_bounds-put_field-start c = let l = c.loop-k in (room c.args.card _ l.page l.at l.k (omega arith) l.invariant).0
 
 pub put_field-at-requires : goal.put_field-at-requires
-put_field-at-requires c = let l = c.loop-k in record { k_lt_field_count = (omega arith, c.requires.card_value.0); k_in_bounds = omega (
-        arith,
-        (room c.args.card _ l.page l.at l.k (omega arith) l.invariant).1,
-        ap (λ (p : List ℕ). length p)
-            (part_rest l.at l.page),
-        length-drop l.at l.page,
-      ); }
+put_field-at-requires c = let l = c.loop-k in record {
+  k_lt_field_count = (omega arith, c.requires.card_value.0);
+  k_in_bounds = omega (
+    arith,
+    (room c.args.card _ l.page l.at l.k (omega arith) l.invariant).1,
+    ap (λ (p : List ℕ). length p)
+        (part_rest l.at l.page),
+    length-drop l.at l.page,
+  );
+}
 
 pub overflow_add-at : goal.overflow_add-at
 overflow_add-at c = let l = c.loop-k in

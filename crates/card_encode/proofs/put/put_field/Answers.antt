@@ -4,7 +4,6 @@ use mathlib.Core.List.{List, ◌++◌}
 use Prim.Native.Nat.{ℕ, ◌^◌}
 use native.Mathlib.Nat.{mul-one}
 use native.Mathlib.Omega.{arith}
-use borrow.Author.Tests.{not-true, not-false}
 use lib.ListN.{length, take, drop}
 use Rattle.tsc.specs.Constants.{most_words}
 use Rattle.tsc.specs.declared.Card.{Card}
@@ -34,7 +33,8 @@ is c = sym c.is_written.ensures ∙ c.if-not-is_written.false
 whole : (c : After-extent_of-size) → let a = c.args in c.extent_of-size.result ≡ length (field_bytes a.card a.k)
 whole c =
     let a = c.args in
-    c.extent_of-size.ensures ∙ sym (length-field_bytes a.card a.k ∙ rw ((sym c.is_written.ensures ∙ c.if-not-is_written.false)) refl)
+    let w : is_written a.card a.k ≡ true = sym c.is_written.ensures ∙ c.if-not-is_written.false in
+    c.extent_of-size.ensures ∙ sym (length-field_bytes a.card a.k ∙ rw w refl)
 
 sized : (c : After-extent_of-size) → length c.args.card.table ≡ 2 ^ most_words
 sized c = search rules
@@ -51,21 +51,23 @@ pub is_written-requires : goal.is_written-requires
 is_written-requires c = (c.requires.k_lt_field_count.0, range_words c.args.card c.requires.k_lt_field_count.1)
 
 pub returns-then-not-is_written : goal.returns-then-not-is_written
-returns-then-not-is_written c = let a = c.args in let both = rw (field_bytes-none a.card a.k (sym c.is_written.ensures ∙ c.if-not-is_written.true)) (refl, refl) in record { value = both.0; part_after = both.1; }
+returns-then-not-is_written c =
+    let a = c.args in
+    let none = field_bytes-none a.card a.k (sym c.is_written.ensures ∙ c.if-not-is_written.true) in record { value = rw none refl; part_after = rw none refl }
 
 pub extent_of-size-requires : goal.extent_of-size-requires
 extent_of-size-requires c = (c.requires.k_lt_field_count.0, range_words c.args.card c.requires.k_lt_field_count.1)
 
 pub put_table-requires : goal.put_table-requires
 put_table-requires c = (
-      omega (arith, c.extent_of-size.ensures, extent-few c.args.card.words (range_words c.args.card c.requires.k_lt_field_count.1) c.args.k c.requires.k_lt_field_count.0),
-      sized (goal.at.put_table-requires c).After-extent_of-size,
-      omega (arith, whole (goal.at.put_table-requires c).After-extent_of-size, c.requires.k_in_bounds),
-    )
+  omega (arith, c.extent_of-size.ensures, extent-few c.args.card.words (range_words c.args.card c.requires.k_lt_field_count.1) c.args.k c.requires.k_lt_field_count.0),
+  sized (goal.at.put_table-requires c).After-extent_of-size,
+  omega (arith, whole (goal.at.put_table-requires c).After-extent_of-size, c.requires.k_in_bounds),
+)
 
 pub returns-then-k-eq-TABLE : goal.returns-then-k-eq-TABLE
 returns-then-k-eq-TABLE c = let both = put (goal.at.returns-then-k-eq-TABLE c).After-extent_of-size _ _ c.put_table.ensures
-    (table_bytes c.args.card c.args.k c.extent_of-size.result c.if-k-eq-TABLE.true (sized (goal.at.returns-then-k-eq-TABLE c).After-extent_of-size) c.requires.k_lt_field_count.1 (is (goal.at.returns-then-k-eq-TABLE c).Else-not-is_written) c.extent_of-size.ensures) in record { value = both.0; part_after = both.1; }
+    (table_bytes c.args.card c.args.k c.extent_of-size.result c.if-k-eq-TABLE.true (sized (goal.at.returns-then-k-eq-TABLE c).After-extent_of-size) c.requires.k_lt_field_count.1 (is (goal.at.returns-then-k-eq-TABLE c).Else-not-is_written) c.extent_of-size.ensures) in record { value = both.0; part_after = both.1 }
 
 pub put_number-requires : goal.put_number-requires
 put_number-requires c = omega (arith, whole (goal.at.put_number-requires c).After-extent_of-size, c.requires.k_in_bounds)
@@ -73,4 +75,4 @@ put_number-requires c = omega (arith, whole (goal.at.put_number-requires c).Afte
 pub returns : goal.returns
 returns c = let n = c.number_of in let both = put (goal.at.returns c).After-extent_of-size _ _ c.put_number.ensures
     (ap (low_bytes n.result) c.extent_of-size.ensures
-    ∙ sym (field_bytes-one c.args.card c.args.k n.result c.requires.k_lt_field_count.0 c.if-k-eq-TABLE.false n.ensures (is (goal.at.returns c).Else-not-is_written))) in record { value = both.0; part_after = both.1; }
+    ∙ sym (field_bytes-one c.args.card c.args.k n.result c.requires.k_lt_field_count.0 c.if-k-eq-TABLE.false n.ensures (is (goal.at.returns c).Else-not-is_written))) in record { value = both.0; part_after = both.1 }

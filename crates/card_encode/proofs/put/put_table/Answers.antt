@@ -1,9 +1,8 @@
 use mathlib.Core.Path.{◌≡◌, refl, ap, ◌∙◌}
 use mathlib.Core.List.{List}
-use Prim.Native.Nat.{ℕ, ◌-◌, ◌≤◌, ◌^◌}
+use Prim.Native.Nat.{ℕ}
 use native.Mathlib.Omega.{arith}
 use lib.ListN.{length, get_or, set}
-use Rattle.tsc.specs.Constants.{most_words}
 use Rattle.cycle.proofs.Lists.{over, over_suc, length_over}
 use Rattle.card_encode.proofs.put.put_table.Goals as goal
 

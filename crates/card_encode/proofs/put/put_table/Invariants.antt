@@ -1,10 +1,8 @@
-use mathlib.Core.Path.{◌≡◌, refl, ap, ◌∙◌}
-use mathlib.Core.List.{List}
-use Prim.Native.Nat.{ℕ, ◌-◌, ◌≤◌, ◌^◌}
-use native.Mathlib.Omega.{arith}
-use lib.ListN.{length, get_or, set}
+use mathlib.Core.Path.{◌≡◌}
+use Prim.Native.Nat.{◌-◌, ◌≤◌, ◌^◌}
+use lib.ListN.{length}
 use Rattle.tsc.specs.Constants.{most_words}
-use Rattle.cycle.proofs.Lists.{over, over_suc, length_over}
+use Rattle.cycle.proofs.Lists.{over}
 use Rattle.card_encode.proofs.put.put_table.Given as goal
 
 abbrev pub invariant-loop-i : goal.invariant-loop-i

@@ -2,7 +2,6 @@ use mathlib.Core.Path.{sym, ap, ◌∙◌}
 use Prim.Native.Nat.{ℕ, ◌+◌, ◌^◌, ◌≤◌}
 use native.Mathlib.Nat.{add-zero}
 use native.Mathlib.Omega.{arith}
-use borrow.Author.Tests.{not-true, not-false}
 use lib.Pow.{pow_mono}
 use Rattle.card_format.proofs.Fields.{one_shifted}
 use Rattle.card_format.proofs.Writing.{length-field_bytes, extent-few}
@@ -10,7 +9,7 @@ use Rattle.card_encode.proofs.put.with_field.Goals as goal
 
 pub returns-then-not-is_written : goal.returns-then-not-is_written
 returns-then-not-is_written c = let a = c.args in
-    let w = sym c.is_written.ensures ∙ c.if-not-is_written.true in record { map_value = rw w (sym (add-zero _)); length_value = rw (length-field_bytes a.card a.k, w) (sym (add-zero _)); }
+    let w = sym c.is_written.ensures ∙ c.if-not-is_written.true in record { map_value = rw w (sym (add-zero _)); length_value = rw (length-field_bytes a.card a.k, w) (sym (add-zero _)) }
 
 pub overflow_add-result : goal.overflow_add-result
 overflow_add-result c = let k = c.args.k in
@@ -28,4 +27,4 @@ overflow_add-result-2 c = let a = c.args in
 
 pub returns : goal.returns
 returns c = let a = c.args in
-    let w = sym c.is_written.ensures ∙ c.if-not-is_written.false in record { map_value = rw w (ap (λ (p : ℕ). a.o.map + p) (one_shifted a.k 8 c.requires.k_lt_field_count.0)); length_value = rw (length-field_bytes a.card a.k, w) (ap (λ (n : ℕ). a.o.length + n) c.extent_of.ensures); }
+    let w = sym c.is_written.ensures ∙ c.if-not-is_written.false in record { map_value = rw w (ap (λ (p : ℕ). a.o.map + p) (one_shifted a.k 8 c.requires.k_lt_field_count.0)); length_value = rw (length-field_bytes a.card a.k, w) (ap (λ (n : ℕ). a.o.length + n) c.extent_of.ensures) }

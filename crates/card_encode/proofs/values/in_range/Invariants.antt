@@ -1,15 +1,9 @@
-use mathlib.Core.Path.{◌≡◌, refl, sym, ap, ◌∙◌}
+use mathlib.Core.Path.{◌≡◌}
 use mathlib.Core.Bool.{true}
-use Prim.Native.Nat.{ℕ, ◌-◌, ◌≤◌}
-use native.Mathlib.Omega.{arith}
-use native.Mathlib.Numerals.{add-one}
-use borrow.Author.Rules.{rules}
-use borrow.Author.Tests.{not-true, not-false}
+use Prim.Native.Nat.{◌-◌, ◌≤◌}
 use Rattle.cycle.specs.Notation.{every}
-use Rattle.cycle.proofs.Every.{every_at, every_not}
 use Rattle.card_format.specs.Fields.{field, field_count, allowed}
-use Rattle.card_format.specs.Writing.{numbers_of, in_range}
-use Rattle.card_format.proofs.Writing.{words-allowed}
+use Rattle.card_format.specs.Writing.{numbers_of}
 use Rattle.card_encode.proofs.values.in_range.Given as goal
 
 abbrev pub invariant-loop-k : goal.invariant-loop-k

@@ -1,7 +1,5 @@
 use Prim.Native.Nat.{◌^◌}
-use native.Mathlib.Omega.{arith}
 use mathlib.Core.Path.{◌≡◌, sym, ◌∙◌}
-use borrow.Author.Tests.{not-true, not-false}
 use lib.ListN.{length}
 use Rattle.tsc.specs.Constants.{most_words}
 use Rattle.refusals.specs.Refusals.{first_of}

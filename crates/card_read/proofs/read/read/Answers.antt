@@ -2,13 +2,12 @@ use mathlib.Core.Path.{◌≡◌, refl, sym, ap, ◌∙◌, subst}
 use mathlib.Core.Bool.{false}
 use mathlib.Core.Logic.{◌≢◌}
 use mathlib.Core.List.{List}
-use Prim.Native.Nat.{ℕ, ◌+◌, ◌-◌, ◌^◌, ◌<◌, ◌≤◌}
+use Prim.Native.Nat.{ℕ, ◌<◌}
 use native.Mathlib.Omega.{arith}
 use borrow.Author.Tests.{eq-eqb}
 use lib.Count.{ones, ones-le, count_trailing_zeros, trailing_le}
 use lib.ListN.{length, get_or, drop}
 use Rattle.cycle.specs.Notation.{tabulate, bit}
-use Rattle.tsc.specs.Constants.{most_words}
 use Rattle.refusals.specs.Refusals.{first_of}
 use Rattle.refusals.proofs.Refusals.{none_first}
 use Rattle.card_format.specs.declared.Reading.{Reading}
@@ -16,10 +15,11 @@ use Rattle.card_format.specs.Fields.{field, fields, field_count, table_bit, cons
 use Rattle.card_format.specs.Reading.{reading, answering, values, padded, card_from, form_checks}
 use Rattle.cycle.proofs.Lists.{part_rest}
 use Rattle.card_fields.proofs.Arrays.{array_of}
+use Rattle.card_values.specs.declared.values.Values.{Values}
 use Rattle.card_values.specs.FieldRead.{field_read, table_read, missing}
 use Rattle.card_read.proofs.Map.{lowest_one, left_all, ones_none, ones_some}
 use Rattle.card_read.proofs.Reader.{Reached, Rest, reached-map, rest_gap, rest_here, rest_next, rest_refused, words-few, told_end, end_reached, told_empty, card_read, reading-refused, reading-accepted, byte-values}
-use Rattle.card_read.proofs.Table.{table_to, table_start, table_length, rest_table, table_given, table_absent}
+use Rattle.card_read.proofs.Table.{table_start, table_length, rest_table, table_given, table_absent}
 use lib.Dec.{lit<}
 use Rattle.card_read.proofs.read.read.Goals as goal
 use Rattle.card_read.proofs.read.read.Goals.{After-end_refusal-told, After-loop, After-read_field-v, At-loop, Else-table_missing, Else-told-ne0, In-loop}
@@ -39,43 +39,56 @@ given c = sym c.table_missing.ensures ∙ c.if-table_missing.false
 
 -- a field's reader had the bytes from the field's start on
 told : (c : After-read_field-v) → let l = c.loop in
-    let k = count_trailing_zeros 8 l.left in let part = drop l.at (bytes o) in
-    (c.read_field-v.result ≡ field_read k part l.v) × (c.read_field-v.new.1.1.1.0 ≡ table_read k part l.v l.table)
+    let k = count_trailing_zeros 8 l.left in let part = drop l.at c.args.card.now in
+    (c.read_field-v.result ≡ field_read k part l.v) × (c.read_field-v.new.table ≡ table_read k part l.v l.table)
 told c =
     let l = c.loop in
     let k = count_trailing_zeros 8 l.left in
     let rest = part_rest l.at c.args.card.now in (
       c.read_field-v.ensures.value ∙ ap (λ (part : List ℕ). field_read k part l.v) rest,
-      c.read_field-v.ensures.used_in_bounds.1 ∙ ap (λ (part : List ℕ). table_read k part l.v l.table) rest,
+      c.read_field-v.ensures.table_after ∙ ap (λ (part : List ℕ). table_read k part l.v l.table) rest,
     )
 
 -- after the loop nothing is left
+rest_none : (bytes : List ℕ) (left next at : ℕ) (v : Values) → Rest bytes left next at v → ones left ≡ 0 → Rest bytes 0 next at v
+rest_none bytes left next at v h e = subst (λ (left : ℕ). Rest bytes left next at v) (ones_none left h.fields.small e) h
+
 ended : (c : After-loop) → let l = c.loop in Rest c.args.card.now 0 l.next l.at l.v
 ended c =
     let l = c.loop in
-    subst (λ (left : ℕ). Rest c.args.card.now left l.next l.at l.v) (ones_none l.left l.invariant.0.fields.small (omega (arith, l.invariant.1))) l.invariant.0
+    rest_none _ l.left l.next l.at l.v l.invariant.0 (omega (arith, l.invariant.1))
 
 -- and the end's refusal is the form's
 end-told : (c : After-end_refusal-told) → first_of (form_checks c.args.card.now) ≡ c.end_refusal-told.result
 end-told c =
     let l = c.loop in
-    told_end _ l.next l.at l.v ((let l = c.loop in subst (λ (left : ℕ). Rest c.args.card.now left l.next l.at l.v) (ones_none l.left l.invariant.0.fields.small (omega (arith, l.invariant.1))) l.invariant.0)) l.invariant.2 ∙ sym c.end_refusal-told.ensures
+    let rest = rest_none _ l.left l.next l.at l.v l.invariant.0 (omega (arith, l.invariant.1)) in
+    told_end _ l.next l.at l.v rest l.invariant.2 ∙ sym c.end_refusal-told.ensures
 
 -- where that is none, all fields are read
 passed : (c : Else-told-ne0) → let l = c.loop in Reached c.args.card.now field_count l.at l.v
 passed c =
     let l = c.loop in
-    end_reached _ l.next l.at l.v ((let l = c.loop in subst (λ (left : ℕ). Rest c.args.card.now left l.next l.at l.v) (ones_none l.left l.invariant.0.fields.small (omega (arith, l.invariant.1))) l.invariant.0)) l.invariant.2 (sym c.end_refusal-told.ensures ∙ c.if-told-ne0.false)
+    let rest = rest_none _ l.left l.next l.at l.v l.invariant.0 (omega (arith, l.invariant.1)) in
+    end_reached _ l.next l.at l.v rest l.invariant.2 (sym c.end_refusal-told.ensures ∙ c.if-told-ne0.false)
+
+none-told : (c : Else-told-ne0) → first_of (form_checks c.args.card.now) ≡ 0
+none-told c =
+    let l = c.loop in
+    let rest = rest_none _ l.left l.next l.at l.v l.invariant.0 (omega (arith, l.invariant.1)) in
+    told_end _ l.next l.at l.v rest l.invariant.2 ∙ sym c.end_refusal-told.ensures ∙ c.if-told-ne0.false
 
 -- so the card is that of the numbers and of a table that is the card's
 low : (c : Else-told-ne0) → let v = c.loop.v in
     (k : ℕ) → k < field_count → k ≢ table_bit → k ≢ constant_bit → get_or v.numbers k 0 < 256
-low c = let l = c.loop in byte-values _ (none_first _ ((let l = c.loop in told_end _ l.next l.at l.v ((let l = c.loop in subst (λ (left : ℕ). Rest c.args.card.now left l.next l.at l.v) (ones_none l.left l.invariant.0.fields.small (omega (arith, l.invariant.1))) l.invariant.0)) l.invariant.2 ∙ sym c.end_refusal-told.ensures) ∙ c.if-told-ne0.false)) l.at l.v (passed c)
+low c =
+    let l = c.loop in
+    byte-values _ (none_first _ (none-told c)) l.at l.v (passed c)
 
-accepted : (c : Else-told-ne0) (r : Reading) (t : List ℕ) → r ≡ answering 0 (card_from (λ k. get_or c.loop.v.numbers k 0) t) → t ≡ padded (values (bytes o) table_bit) → r ≡ reading (bytes o)
+accepted : (c : Else-told-ne0) (r : Reading) (t : List ℕ) → r ≡ answering 0 (card_from (λ k. get_or c.loop.v.numbers k 0) t) → t ≡ padded (values c.args.card.now table_bit) → r ≡ reading c.args.card.now
 accepted c r t e d =
     let l = c.loop in
-    e ∙ ap (answering 0) (card_read _ l.at l.v t (passed c) d) ∙ reading-accepted _ ((let l = c.loop in told_end _ l.next l.at l.v ((let l = c.loop in subst (λ (left : ℕ). Rest c.args.card.now left l.next l.at l.v) (ones_none l.left l.invariant.0.fields.small (omega (arith, l.invariant.1))) l.invariant.0)) l.invariant.2 ∙ sym c.end_refusal-told.ensures) ∙ c.if-told-ne0.false)
+    e ∙ ap (answering 0) (card_read _ l.at l.v t (passed c) d) ∙ reading-accepted _ (none-told c)
 
 -- ---- the needs
 pub refused-requires : goal.refused-requires
@@ -87,7 +100,7 @@ returns-then-card-eq0 c = c.refused.ensures ∙ reading-refused _ 1 (λ e. absur
 pub loop-init : goal.loop-init
 unfolding array_of tabulate field fields
 loop-init c = let card = c.args.card.now in
-    let small : get_or card 0 0 < 256 = omega (arith, c.shared_slice_known-2-1.given 0) in (
+    let small : get_or card 0 0 < 256 = omega (arith, c.type_inv.card 0) in (
       record { reached = reached-map card _ (omega arith) refl; fields = left_all (get_or card 0 0) small },
       omega arith,
       omega arith,
@@ -109,10 +122,10 @@ returns-then-table_missing c = let l = c.loop in
 
 pub read_field-v-requires : goal.read_field-v-requires
 read_field-v-requires c = let l = c.loop in (
-      (rest_here _ l.left l.next l.at l.v l.invariant.0 (some (goal.at.read_field-v-requires c).In-loop) (given (goal.at.read_field-v-requires c).Else-table_missing)).1,
-      words-few _ l.next l.at l.v l.invariant.0.reached,
-      l.invariant.4,
-    )
+  (rest_here _ l.left l.next l.at l.v l.invariant.0 (some (goal.at.read_field-v-requires c).In-loop) (given (goal.at.read_field-v-requires c).Else-table_missing)).1,
+  words-few _ l.next l.at l.v l.invariant.0.reached,
+  l.invariant.4,
+)
 
 pub returns-then-v-ne0 : goal.returns-then-v-ne0
 returns-then-v-ne0 c = let l = c.loop in

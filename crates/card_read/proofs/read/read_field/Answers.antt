@@ -1,11 +1,10 @@
 use Rattle.card_fields.specs.Number.{number_read}
-use native.Mathlib.Omega.{arith}
 use mathlib.Core.Path.{◌≡◌, refl, sym, ap, ap₂, ◌∙◌, subst}
 use mathlib.Core.Logic.{◌≢◌}
 use mathlib.Core.List.{List}
-use Prim.Native.Nat.{ℕ, ◌≤◌, ◌<◌}
+use Prim.Native.Nat.{ℕ, ◌≤◌}
 use borrow.Author.Tests.{ne_eqb, eqb-true}
-use lib.Dec.{eqb, lit<}
+use lib.Dec.{eqb}
 use lib.ListN.{length, get_or, set}
 use Rattle.card_fields.specs.declared.number.Number.TheVariants.{Value, Refused}
 use Rattle.card_values.specs.declared.values.Values.{Values}
@@ -19,9 +18,8 @@ use Rattle.card_read.proofs.FieldRead.{used-fits}
 use Rattle.card_read.proofs.read.read_field.Goals as goal
 
 -- an answer that is the definition's uses bytes of the part alone
-full : (k : ℕ) (part : List ℕ) (v r : Values) (t₀ t : List ℕ) → r ≡ field_read k part v → t ≡ table_read k part v t₀
-    → (r ≡ field_read k part v) × ((r.used ≤ length part) × (t ≡ table_read k part v t₀))
-full k part v r t₀ t e d = (e, (subst (λ (r : Values). r.used ≤ length part) (sym e) (used-fits k part v), d))
+full : (k : ℕ) (part : List ℕ) (v r : Values) → r ≡ field_read k part v → r.used ≤ length part
+full k part v r e = subst (λ (r : Values). r.used ≤ length part) (sym e) (used-fits k part v)
 
 -- another field leaves the table as it was
 kept : (k : ℕ) (part : List ℕ) (v : Values) (t : List ℕ) → k ≢ table_bit → t ≡ table_read k part v t
@@ -48,20 +46,30 @@ stored_as k part v x u ne e w =
     ∙ ap {B = Values} (λ (x : ℕ). record { refusal = first_of (part_checks (here k v) part); used = extent (here k v); numbers = set v.numbers k x }) r.1)
 
 pub returns-then-k-eq-TABLE : goal.returns-then-k-eq-TABLE
-returns-then-k-eq-TABLE c = let a = c.args in
-    let e = sym c.if-k-eq-TABLE.true in let both = full a.k a.part.now a.v _ a.table.now _ (c.read_table.ensures.value ∙ ap (λ (k : ℕ). field_read k a.part.now a.v) e)
-    (c.read_table.ensures.table_after ∙ ap (λ (k : ℕ). table_read k a.part.now a.v a.table.now) e) in record { value = both.0; used_in_bounds = both.1; table_after = both.2; }
-
-pub bounds-v-0 : goal.bounds-v-0
-bounds-v-0 c = lit< tt
+returns-then-k-eq-TABLE c =
+    let a = c.args in
+    let e = sym c.if-k-eq-TABLE.true in
+    let value = c.read_table.ensures.value ∙ ap (λ (k : ℕ). field_read k a.part.now a.v) e in record {
+      value = value;
+      used_in_bounds = full a.k a.part.now a.v _ value;
+      table_after = c.read_table.ensures.table_after ∙ ap (λ (k : ℕ). table_read k a.part.now a.v a.table.now) e;
+    }
 
 pub returns-in-Value : goal.returns-in-Value
-returns-in-Value c = let a = c.args in
-    let other = c.if-k-eq-TABLE.false in let both = full a.k a.part.now a.v _ a.table.now _
-    (stored_as a.k a.part.now a.v _ _ other (sym c.x-1.given.1 ∙ c.read_number.ensures) c.extent_of.ensures)
-    (kept a.k _ _ _ other) in record { value = both.0; used_in_bounds = both.1; table_after = both.2; }
+returns-in-Value c =
+    let a = c.args in
+    let other = c.if-k-eq-TABLE.false in
+    let value = stored_as a.k a.part.now a.v _ _ other c.in-Value.ensures c.extent_of.ensures in record {
+      value = value;
+      used_in_bounds = full a.k a.part.now a.v _ value;
+      table_after = kept a.k _ _ _ other;
+    }
 
 pub returns-in-Refused : goal.returns-in-Refused
-returns-in-Refused c = let a = c.args in let both = full a.k a.part.now a.v _ a.table.now _
-    (c.refused_at.ensures ∙ refused_as a.k a.part.now a.v _ (sym c.r-1.given.1 ∙ c.read_number.ensures))
-    (kept a.k _ _ _ c.if-k-eq-TABLE.false) in record { value = both.0; used_in_bounds = both.1; table_after = both.2; }
+returns-in-Refused c =
+    let a = c.args in
+    let value = c.refused_at.ensures ∙ refused_as a.k a.part.now a.v _ c.in-Refused.ensures in record {
+      value = value;
+      used_in_bounds = full a.k a.part.now a.v _ value;
+      table_after = kept a.k _ _ _ c.if-k-eq-TABLE.false;
+    }

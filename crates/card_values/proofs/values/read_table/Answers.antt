@@ -4,7 +4,7 @@ use mathlib.Core.Bool.{cond, not}
 use Prim.Native.Nat.{ℕ, ◌^◌, ◌≤◌, ◌<◌}
 use native.Mathlib.Nat.{mul-one}
 use native.Mathlib.Omega.{arith}
-use borrow.Author.Tests.{le-leb, lt-leb, not-true, not-false}
+use borrow.Author.Tests.{le-leb, lt-leb}
 use lib.Dec.{lit<}
 use lib.ListN.{length, get_or, take}
 use lib.Seq.{length-take-le, take_at}
@@ -32,17 +32,20 @@ long c = omega (arith, c.entries-size.ensures, c.if-part-size.false)
 
 -- and are put over the table's first entries
 over-table : (c : After-put_entries) → let a = c.args in
-    c.put_entries.new.1.1.0 ≡ over a.part.now a.table.now (2 ^ get_or a.v.numbers 0 0)
+    c.put_entries.new.table ≡ over a.part.now a.table.now (2 ^ get_or a.v.numbers 0 0)
 over-table c =
     let a = c.args in
     c.put_entries.ensures ∙ ap (over a.part.now a.table.now) c.entries-size.ensures
 
 table-read : (c : After-put_entries) → let a = c.args in
-    c.put_entries.new.1.1.0 ≡ table_read table_bit a.part.now a.v a.table.now
+    c.put_entries.new.table ≡ table_read table_bit a.part.now a.v a.table.now
 unfolding table_read
-table-read c = rw (le-leb _ _ ((omega (arith, c.entries-size.ensures, c.if-part-size.false)))) (over-table c)
+table-read c =
+    let a = c.args in
+    let h : 2 ^ get_or a.v.numbers 0 0 ≤ length a.part.now = omega (arith, c.entries-size.ensures, c.if-part-size.false) in
+    rw (le-leb _ _ h) (over-table c)
 
-sized : (c : After-put_entries) → length c.put_entries.new.1.1.0 ≡ 2 ^ most_words
+sized : (c : After-put_entries) → length c.put_entries.new.table ≡ 2 ^ most_words
 sized c =
     let m = get_or c.args.v.numbers 0 0 in
     ap (λ (t : List ℕ). length t) (over-table c)
@@ -50,18 +53,23 @@ sized c =
 
 -- so the field's refusal goes by the table
 by_table : (c : After-put_entries) → let a = c.args in let m = get_or a.v.numbers 0 0 in
-    let xs = take (2 ^ m) c.put_entries.new.1.1.0 in
+    let xs = take (2 ^ m) c.put_entries.new.table in
     first_of (part_checks (field m table_bit) a.part.now) ≡ cond (not (allowed (field m table_bit) xs)) 2 (cond (same xs tsc1_table) 3 0)
 by_table c =
     let a = c.args in
     let size = 2 ^ get_or a.v.numbers 0 0 in
-    let h = (omega (arith, c.entries-size.ensures, c.if-part-size.false)) in
+    let h : size ≤ length a.part.now = omega (arith, c.entries-size.ensures, c.if-part-size.false) in
     table_refusal _ a.part.now h _ (ap (take size) (over-table c) ∙ take_at (take size a.part.now) _ size (length-take-le size a.part.now h))
 
 -- past the second test its entries are allowed
 by-absent : (c : Else-not-entries_allowed) → let a = c.args in let m = get_or a.v.numbers 0 0 in
-    first_of (part_checks (field m table_bit) a.part.now) ≡ cond (same (take (2 ^ m) c.put_entries.new.1.1.0) tsc1_table) 3 0
-by-absent c = (let a = c.args in let size = 2 ^ get_or a.v.numbers 0 0 in let h = (omega (arith, c.entries-size.ensures, c.if-part-size.false)) in table_refusal _ a.part.now h _ (ap (take size) ((let a = c.args in c.put_entries.ensures ∙ ap (over a.part.now a.table.now) c.entries-size.ensures)) ∙ take_at (take size a.part.now) _ size (length-take-le size a.part.now h))) ∙ simp (sym c.entries_allowed.ensures ∙ c.if-not-entries_allowed.false)
+    first_of (part_checks (field m table_bit) a.part.now) ≡ cond (same (take (2 ^ m) c.put_entries.new.table) tsc1_table) 3 0
+by-absent c =
+    let a = c.args in
+    let size = 2 ^ get_or a.v.numbers 0 0 in
+    let h : size ≤ length a.part.now = omega (arith, c.entries-size.ensures, c.if-part-size.false) in
+    let put : c.put_entries.new.table ≡ over a.part.now a.table.now size = c.put_entries.ensures ∙ ap (over a.part.now a.table.now) c.entries-size.ensures in
+    table_refusal _ a.part.now h _ (ap (take size) put ∙ take_at (take size a.part.now) _ size (length-take-le size a.part.now h)) ∙ simp (sym c.entries_allowed.ensures ∙ c.if-not-entries_allowed.false)
 
 -- ---- the needs
 pub bounds-v-0 : goal.bounds-v-0
@@ -71,7 +79,7 @@ pub returns-then-part-size : goal.returns-then-part-size
 unfolding table_read
 returns-then-part-size c = let a = c.args in
     let m = get_or a.v.numbers 0 0 in
-    let short : length a.part.now < 2 ^ m = omega (arith, c.entries-size.ensures) in record { value = c.refused_at.ensures ∙ field-refused table_bit a.part.now a.v 1 refl (table_short m a.part.now short); table_after = rw (lt-leb _ _ short) refl; }
+    let short : length a.part.now < 2 ^ m = omega (arith, c.entries-size.ensures) in record { value = c.refused_at.ensures ∙ field-refused table_bit a.part.now a.v 1 refl (table_short m a.part.now short); table_after = rw (lt-leb _ _ short) refl }
 
 pub put_entries-requires : goal.put_entries-requires
 put_entries-requires c = (omega (arith, c.entries-size.ensures, few-entries (get_or c.args.v.numbers 0 0) c.requires.0), c.if-part-size.false, c.requires.1)
@@ -80,16 +88,25 @@ pub entries_allowed-requires : goal.entries_allowed-requires
 entries_allowed-requires c = (omega arith, sized c)
 
 pub returns-then-not-entries_allowed : goal.returns-then-not-entries_allowed
-returns-then-not-entries_allowed c = record { value = c.refused_at-then-not-entries_allowed.ensures ∙ field-refused table_bit _ _ 2 refl
-          (by_table (goal.at.returns-then-not-entries_allowed c).After-put_entries ∙ simp (sym c.entries_allowed.ensures ∙ c.if-not-entries_allowed.true)); table_after = table-read (goal.at.returns-then-not-entries_allowed c).After-put_entries; }
+returns-then-not-entries_allowed c = record {
+  value = c.refused_at-then-not-entries_allowed.ensures ∙ field-refused table_bit _ _ 2 refl
+      (by_table (goal.at.returns-then-not-entries_allowed c).After-put_entries ∙ simp (sym c.entries_allowed.ensures ∙ c.if-not-entries_allowed.true));
+  table_after = table-read (goal.at.returns-then-not-entries_allowed c).After-put_entries;
+}
 
 pub is_tsc1-requires : goal.is_tsc1-requires
 is_tsc1-requires c = (omega arith, sized (goal.at.is_tsc1-requires c).After-put_entries)
 
 pub returns-then-is_tsc1 : goal.returns-then-is_tsc1
-returns-then-is_tsc1 c = record { value = c.refused_at-then-is_tsc1.ensures ∙ field-refused table_bit _ _ 3 refl
-          (by-absent (goal.at.returns-then-is_tsc1 c).Else-not-entries_allowed ∙ simp (sym c.is_tsc1.ensures ∙ c.if-is_tsc1.true)); table_after = table-read (goal.at.returns-then-is_tsc1 c).After-put_entries; }
+returns-then-is_tsc1 c = record {
+  value = c.refused_at-then-is_tsc1.ensures ∙ field-refused table_bit _ _ 3 refl
+      (by-absent (goal.at.returns-then-is_tsc1 c).Else-not-entries_allowed ∙ simp (sym c.is_tsc1.ensures ∙ c.if-is_tsc1.true));
+  table_after = table-read (goal.at.returns-then-is_tsc1 c).After-put_entries;
+}
 
 pub returns : goal.returns
-returns c = record { value = stored_as _ _ _ c.entries-size.ensures
-          (by-absent (goal.at.returns c).Else-not-entries_allowed ∙ simp (sym c.is_tsc1.ensures ∙ c.if-is_tsc1.false)); table_after = table-read (goal.at.returns c).After-put_entries; }
+returns c = record {
+  value = stored_as _ _ _ c.entries-size.ensures
+      (by-absent (goal.at.returns c).Else-not-entries_allowed ∙ simp (sym c.is_tsc1.ensures ∙ c.if-is_tsc1.false));
+  table_after = table-read (goal.at.returns c).After-put_entries;
+}

@@ -18,6 +18,6 @@ returns-then-found-ne0 c = let a = c.args in
 pub returns : goal.returns
 returns c = let a = c.args in
     let h = reading-sound a.card.now _ c.read-found.ensures c.if-found-ne0.false in
-    let b : Bytes a.card.now = λ i l. omega (arith, c.shared_slice_known-1.given i) in
+    let b : Bytes a.card.now = λ i l. omega (arith, c.type_inv.card i) in
     let w = sound-rewriting a.card.now a.page.now b h.0 in
-    let e = rw h.1 at c.write.ensures in record { answer = e.0 ∙ w.0; after = e.1 ∙ w.1; }
+    let e = rw h.1 at c.write.ensures in record { answer = e.value ∙ w.0; after = e.page_after ∙ w.1; }
