@@ -6,7 +6,7 @@ use Prim.Native.Nat.{ℕ, ◌≤◌, ◌<◌}
 use native.Mathlib.Omega.{arith}
 use borrow.Author.Tests.{eq-eqb, ne_eqb, eqb-true, lt-ltb, le-ltb, ltb-true}
 use lib.Dec.{eqb, ltb}
-use Rattle.cycle.specs.Notation.{one, first}
+use Rattle.cycle.specs.Notation.{first}
 use Rattle.cycle.proofs.Count.{count-some, count_two, two_met}
 use Rattle.cycle.proofs.First.{first_at, first-before, first_meets}
 use Rattle.cycle.proofs.Iterate.{MapsBelow}

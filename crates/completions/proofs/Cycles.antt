@@ -9,7 +9,7 @@ use native.Mathlib.Numerals.{add-one}
 use native.Mathlib.Omega.{arith}
 use borrow.Author.Tests.{eq-eqb, ne_eqb, eqb-true, eqb-false}
 use lib.Dec.{eqb}
-use Rattle.cycle.specs.Notation.{first, iterate}
+use Rattle.cycle.specs.Notation.{iterate}
 use Rattle.cycle.specs.Cycle.{SingleCycle}
 use Rattle.cycle.proofs.First.{first_le, first_at, before-first, first_is, first-none}
 use Rattle.cycle.proofs.Iterate.{iterate_add, MapsBelow, iterate-below}

@@ -7,7 +7,7 @@ use Prim.Native.Nat.{ℕ, zero, suc, ◌+◌, ◌-◌, ◌*◌, ◌%◌, ◌≤�
 use native.Mathlib.Nat.{add_comm, mod-lt, le_refl, le_trans, le_of_eq, le-mul_of_pos_right}
 use native.Mathlib.Decide.{ℕ_discrete, dec_lt}
 use native.Mathlib.Omega.{arith}
-use Rattle.cycle.specs.Notation.{iterate, one, count}
+use Rattle.cycle.specs.Notation.{iterate, count}
 use Rattle.cycle.specs.Cycle.{SingleCycle}
 use Rattle.completions.specs.Completion.{Excludes, RepeatIn, ShortCycleIn, Injective}
 use Rattle.completions.specs.Sets.{members, precedes, LeastSet}

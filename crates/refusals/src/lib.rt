@@ -1,4 +1,5 @@
 // The refusal numbers of documents 01 and 02, each with its trade word. Which of several is told, and the laws of that, are in specs/ and proofs/.
+#![tactic(auto)]
 
 // short
 pub const TRUNCATED: u8 = 1;
