@@ -1,6 +1,5 @@
 use mathlib.Core.Path.{◌≡◌, sym, ap, ◌∙◌}
 use mathlib.Core.List.{List}
-use borrow.Author.Tests.{not-true, not-false}
 use Prim.Native.Nat.{ℕ}
 use native.Mathlib.Omega.{arith}
 use Rattle.records.specs.declared.Order.{Order}
@@ -28,13 +27,13 @@ unfolding record_of
 truck-is c = c.half_at.ensures ∙ sym (truck-bytes _ ((known _ ((sym c.is_whole.ensures ∙ c.if-not-is_whole.false)))).low)
 
 pub returns-then-not-is_whole : goal.returns-then-not-is_whole
-returns-then-not-is_whole c = let both = alike _ _ (order_torn _ _ (sym c.is_whole.ensures ∙ c.if-not-is_whole.true)) in record { answer = both.0; alone = both.1; }
+returns-then-not-is_whole c = let both = alike _ _ (order_torn _ _ (sym c.is_whole.ensures ∙ c.if-not-is_whole.true)) in record { answer = both.0; alone = both.1 }
 
 pub half_at-requires : goal.half_at-requires
 half_at-requires c = omega (arith, (facts c).long)
 
 pub returns-then-truck-half_at : goal.returns-then-truck-half_at
-returns-then-truck-half_at c = let both = alike _ _ (order_other _ _ (whole (goal.at.returns-then-truck-half_at c).Else-not-is_whole) (λ e. c.if-truck-half_at.true (e ∙ sym (truck-is (goal.at.returns-then-truck-half_at c).After-half_at)))) in record { answer = both.0; alone = both.1; }
+returns-then-truck-half_at c = let both = alike _ _ (order_other _ _ (whole (goal.at.returns-then-truck-half_at c).Else-not-is_whole) (λ e. c.if-truck-half_at.true (e ∙ sym (truck-is (goal.at.returns-then-truck-half_at c).After-half_at)))) in record { answer = both.0; alone = both.1 }
 
 pub half_at-requires-2 : goal.half_at-requires-2
 half_at-requires-2 c = omega (arith, (facts (goal.at.half_at-requires-2 c).Else-not-is_whole).long)
@@ -43,4 +42,4 @@ pub returns : goal.returns
 unfolding record_of
 returns c = let both = alike _ _
     (order_own _ _ (whole (goal.at.returns c).Else-not-is_whole) (c.if-truck-half_at.false ∙ truck-is (goal.at.returns c).After-half_at)
-    ∙ ap Shovel (shovel-bytes _ (facts (goal.at.returns c).Else-not-is_whole).low ∙ sym c.half_at-2.ensures)) in record { answer = both.0; alone = both.1; }
+    ∙ ap Shovel (shovel-bytes _ (facts (goal.at.returns c).Else-not-is_whole).low ∙ sym c.half_at-2.ensures)) in record { answer = both.0; alone = both.1 }

@@ -1,17 +1,10 @@
-use mathlib.Core.Path.{◌≡◌, refl, ap, ap₂, ◌∙◌}
-use mathlib.Core.List.{List}
-use Prim.Native.Nat.{ℕ, ◌-◌, ◌*◌, ◌≤◌}
-use native.Mathlib.Nat.{le_of_eq}
-use native.Mathlib.Omega.{arith}
-use lib.ListN.{length, set, replicate}
-use lib.Seq.{take_all}
-use Rattle.cycle.specs.Notation.{zero_filled}
-use Rattle.tsc.specs.declared.State.{State}
+use mathlib.Core.Path.{◌≡◌}
+use Prim.Native.Nat.{◌-◌, ◌*◌, ◌≤◌}
+use lib.ListN.{length, replicate}
 use Rattle.tsc.specs.Constants.{most_words}
 use Rattle.card_format.specs.Fields.{numbers}
-use Rattle.cycle.proofs.Lists.{over, over_suc, over_zeros}
+use Rattle.cycle.proofs.Lists.{over}
 use Rattle.records.specs.Fields.{word_field}
-use Rattle.record.proofs.Words.{length-words, word_bytes}
 use Rattle.record.proofs.read.state_from.Given as goal
 
 abbrev pub invariant-loop-k : goal.invariant-loop-k
