@@ -1,2 +1,4 @@
-// What the answers to replayed cases are made of, printed on standard output.
+// What the answers to replayed cases are made of, printed to a writer.
+#![tactic(auto)]
+
 pub mod answer;

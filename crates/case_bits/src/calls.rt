@@ -8,6 +8,8 @@ use bit_count::call;
 use bit_counts::{BitCounts, Counts};
 use case_answers::answer;
 use case_answers::answer::PAGE;
+use std::io;
+use std::io::Write;
 
 // A page as it is lent.
 fn dotted() -> [u8; PAGE]
@@ -27,57 +29,59 @@ fn magnitude(number: i32) -> u64
 }
 
 // A number with its sign.
-fn print_signed(number: i32) {
+fn print_signed<W: Write>(out: &mut W, number: i32) -> io::Result<()> {
     if number < 0 {
-        io::write_all(1, b"-");
+        out.write_all(b"-")?;
     }
-    io::print_decimal(1, magnitude(number));
+    let size = magnitude(number);
+    write!(out, "{size}")
 }
 
 // The four integers.
-fn print_integers(counts: Counts) {
-    print_signed(counts.balance);
-    io::write_all(1, b" ");
-    io::print_decimal(1, counts.forward as u64);
-    io::write_all(1, b" ");
-    io::print_decimal(1, counts.backward as u64);
-    io::write_all(1, b" ");
-    io::print_decimal(1, counts.runs as u64);
+fn print_integers<W: Write>(out: &mut W, counts: Counts) -> io::Result<()> {
+    print_signed(out, counts.balance)?;
+    let forward = counts.forward;
+    let backward = counts.backward;
+    let runs = counts.runs;
+    write!(out, " {forward} {backward} {runs}")
 }
 
 // The first bytes of a page, as they are; - where there are none.
-fn print_text(page: [u8; PAGE], size: usize)
+fn print_text<W: Write>(out: &mut W, page: [u8; PAGE], size: usize) -> io::Result<()>
     requires { size ≤ most_page }
 {
     if size == 0 {
-        io::write_all(1, b"-");
+        out.write_all(b"-")?;
     }
-    io::write_all(1, &page[..size]);
+    out.write_all(&page[..size])
 }
 
 // A count's answer, and the whole page after it.
-fn print_counted(counted: BitCounts, page: [u8; PAGE], size: usize)
+fn print_counted<W: Write>(
+    out: &mut W,
+    counted: BitCounts,
+    page: [u8; PAGE],
+    size: usize,
+) -> io::Result<()>
     requires { size ≤ most_page }
 {
     match counted {
         BitCounts::Counted(counts) => {
-            io::write_all(1, b"counts ");
-            print_integers(counts);
-            io::write_all(1, b" page ");
-            print_text(page, size);
-            io::write_all(1, b"\n");
+            out.write_all(b"counts ")?;
+            print_integers(out, counts)?;
+            out.write_all(b" page ")?;
+            print_text(out, page, size)?;
+            out.write_all(b"\n")
         }
-        BitCounts::Refused(number) => {
-            answer::print_refused(number, check::same(&page, &dotted()));
-        }
+        BitCounts::Refused(number) => { answer::print_refused(out, number, page == dotted()) }
     }
 }
 
 // A count of bits on a page of so many bytes.
-pub fn print_bits(card: &[u8], strip: &[u32], size: usize)
+pub fn print_bits<W: Write>(out: &mut W, card: &[u8], strip: &[u32], size: usize) -> io::Result<()>
     requires { size ≤ most_page }
 {
     let mut page = dotted();
     let counted = call::bit_counts(card, strip, &mut page[..size]);
-    print_counted(counted, page, size);
+    print_counted(out, counted, page, size)
 }

@@ -2,8 +2,7 @@
 ghost use Rattle.std.specs.Prelude.{◌≡◌, replicate};
 ghost use Rattle.case_bits.specs.Strip.{strip_room, held, with_word, words_in};
 
-use bytes::scan;
-use case_fields::list;
+use case_fields::{list, scan};
 use case_numbers::number;
 
 // One more than a strip may have. 16,400 words have room for the longest strip of document 02, and for strips that are too long.

@@ -6,47 +6,50 @@ use case_answers::answer::PAGE;
 use case_fields::list::{Numbers, ROOM, WORD};
 use case_fields::{line, list};
 use case_numbers::number;
+use std::io;
+use std::io::Write;
 use tsc::{Card, TABLE_SIZE};
 
 // The largest number of 8 bits.
 const BYTE: u32 = 0xff;
 
 // check CARD
-pub fn replay_check(line: &[u8], card: &[u8]) {
+pub fn replay_check<W: Write>(out: &mut W, line: &[u8], card: &[u8]) -> io::Result<()> {
     if line::fields(line) != 2 {
-        return answer::print_syntax();
+        return answer::print_syntax(out);
     }
-    calls::print_check(card);
+    calls::print_check(out, card)
 }
 
 // read CARD
-pub fn replay_read(line: &[u8], card: &[u8]) {
+pub fn replay_read<W: Write>(out: &mut W, line: &[u8], card: &[u8]) -> io::Result<()> {
     if line::fields(line) != 2 {
-        return answer::print_syntax();
+        return answer::print_syntax(out);
     }
-    calls::print_read(card);
+    calls::print_read(out, card)
 }
 
 // badbit CARD
-pub fn replay_bad_places(line: &[u8], card: &[u8]) {
+pub fn replay_bad_places<W: Write>(out: &mut W, line: &[u8], card: &[u8]) -> io::Result<()> {
     if line::fields(line) != 2 {
-        return answer::print_syntax();
+        return answer::print_syntax(out);
     }
-    calls::print_bad_places(card);
+    calls::print_bad_places(out, card)
 }
 
 // The values and the size of the page, by their places, and the entries of the table.
-fn replay_values(values: Numbers, table: Numbers) {
+fn replay_values<W: Write>(out: &mut W, values: Numbers, table: Numbers) -> io::Result<()> {
     let size = values.words[7] as usize;
     let n = table.count;
     let entries = table.bytes;
     if PAGE < size {
-        return answer::print_syntax();
+        return answer::print_syntax(out);
     }
     if TABLE_SIZE < n {
-        return answer::print_syntax();
+        return answer::print_syntax(out);
     }
     calls::print_write(
+        out,
         Card {
             words: values.bytes[0],
             width: values.bytes[1],
@@ -58,11 +61,11 @@ fn replay_values(values: Numbers, table: Numbers) {
             sum_term: values.bytes[6],
         },
         size,
-    );
+    )
 }
 
 // write m n T a b C filter sum PAGELEN
-pub fn replay_write(line: &[u8]) {
+pub fn replay_write<W: Write>(out: &mut W, line: &[u8]) -> io::Result<()> {
     let mut values = list::counted(0);
     values = list::with_number(values, number::number_of(line::field(line, 1), false), BYTE);
     values = list::with_number(values, number::number_of(line::field(line, 2), false), BYTE);
@@ -73,10 +76,14 @@ pub fn replay_write(line: &[u8]) {
     values = list::with_number(values, number::number_of(line::field(line, 8), false), BYTE);
     values = list::with_number(values, number::number_of(line::field(line, 9), false), WORD);
     if line::fields(line) != 10 {
-        return answer::print_syntax();
+        return answer::print_syntax(out);
     }
     if ROOM <= values.count {
-        return answer::print_syntax();
+        return answer::print_syntax(out);
     }
-    replay_values(values, list::numbers_of(line::field(line, 3), false, BYTE));
+    replay_values(
+        out,
+        values,
+        list::numbers_of(line::field(line, 3), false, BYTE),
+    )
 }

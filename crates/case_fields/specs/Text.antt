@@ -1,5 +1,14 @@
--- Text as bytes: the parts between separators.
-use Rattle.std.specs.Prelude.{cond, List, [], ◌∷◌, ℕ, eqb}
+-- Text as bytes: where a byte stands, and the parts between separators.
+use Rattle.std.specs.Prelude.{cond, List, [], ◌∷◌, ℕ, suc, eqb, take, drop}
+
+-- the bytes from one place up to another
+unfoldable pub slice : ℕ → ℕ → List ℕ → List ℕ
+slice from to xs = drop from (take to xs)
+
+-- where a byte first stands; the length where it doesn't
+unfoldable pub index_of : ℕ → List ℕ → ℕ
+index_of b [] = 0
+index_of b (x ∷ xs) = cond (eqb x b) 0 (suc (index_of b xs))
 
 -- x put before the first part
 unfoldable pub before : ℕ → List (List ℕ) → List (List ℕ)

@@ -2,7 +2,7 @@
 ghost use Rattle.std.specs.Prelude.{◌≡◌, [], length, get_or};
 ghost use Rattle.case_fields.specs.Text.{blank, parts};
 
-use bytes::scan;
+use super::scan;
 
 // How many fields there are.
 pub fn fields(line: &[u8]) -> usize

@@ -2,7 +2,7 @@
 ghost use Rattle.std.specs.Prelude.{◌≡◌, ◌<◌, length, take, drop};
 ghost use Rattle.case_fields.specs.Lists.{zeros, with_number, is_nothing, numbers_in, pair_value, bytes_in};
 
-use bytes::scan;
+use super::scan;
 use case_numbers::number;
 
 // One more than a list may have. 600 bytes have room for the longest card of document 02, and for cards that are too long.

@@ -1,9 +1,8 @@
 -- Places in the text of a case: x and y with a colon between, and lists of them. A coordinate is read as a number, 2^31 more than it is.
 use Rattle.std.specs.Prelude.{Bool, cond, ◌&&◌, List, map, ℕ, ◌+◌, ◌-◌, eqb, leb, ltb, ℤ, pos, ◌-ℤ◌, length, get_or, take, drop}
-use Rattle.bytes.specs.Bytes.{index_of}
 use Rattle.case_numbers.specs.Numbers.{fold, most_number, malformed, numeral}
 use Rattle.case_fields.specs.declared.list.Numbers.{Numbers}
-use Rattle.case_fields.specs.Text.{comma, parts}
+use Rattle.case_fields.specs.Text.{index_of, comma, parts}
 use Rattle.case_fields.specs.Lists.{zeros, with_number, is_nothing}
 
 abbrev pub bias : ℕ

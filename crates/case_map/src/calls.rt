@@ -6,10 +6,13 @@ ghost use Rattle.case_fields.specs.Lists.{room};
 use case_answers::answer;
 use case_fields::list::Numbers;
 use case_states::calls;
+use std::io;
+use std::io::Write;
 use tie_list::check::MOST_SHOVELS;
 
 // A pick by the map.
-pub fn print_map_pick(
+pub fn print_map_pick<W: Write>(
+    out: &mut W,
     card: &[u8],
     state: Numbers,
     x: i32,
@@ -17,42 +20,50 @@ pub fn print_map_pick(
     shovels: &[u16],
     xs: &[i32],
     ys: &[i32],
-)
+) -> io::Result<()>
     requires { state.count ≤ room }
 {
     let mut words = state.words;
     let m = state.count;
     let picked = map_pick::call::pick_by_map(card, &mut words[..m], x, y, shovels, xs, ys);
-    calls::print_picked(picked, state, words);
+    calls::print_picked(out, picked, state, words)
 }
 
 // Number k of a list, in decimal.
-fn print_entry(k: usize, number: u16) {
+fn print_entry<W: Write>(out: &mut W, k: usize, number: u16) -> io::Result<()> {
     if 0 < k {
-        io::write_all(1, b",");
+        out.write_all(b",")?;
     }
-    io::print_decimal(1, number as u64);
+    write!(out, "{number}")
 }
 
 // All numbers of an answer.
-fn print_numbers(numbers: [u16; MOST_SHOVELS]) {
+fn print_numbers<W: Write>(out: &mut W, numbers: [u16; MOST_SHOVELS]) -> io::Result<()> {
     let mut k = 0;
     while k < MOST_SHOVELS {
-        print_entry(k, numbers[k]);
+        print_entry(out, k, numbers[k])?;
         k += 1;
     }
+    Ok(())
 }
 
 // The shovels within a radius: how many, and all 64 numbers.
-pub fn print_within(x: i32, y: i32, radius: i32, shovels: &[u16], xs: &[i32], ys: &[i32]) {
+pub fn print_within<W: Write>(
+    out: &mut W,
+    x: i32,
+    y: i32,
+    radius: i32,
+    shovels: &[u16],
+    xs: &[i32],
+    ys: &[i32],
+) -> io::Result<()> {
     let found = within::call::within(x, y, radius, shovels, xs, ys);
     if found.refusal != 0 {
-        return answer::print_refused(found.refusal, true);
+        return answer::print_refused(out, found.refusal, true);
     }
     let numbers = found.shovels;
-    io::write_all(1, b"count ");
-    io::print_decimal(1, found.count as u64);
-    io::write_all(1, b" numbers ");
-    print_numbers(numbers);
-    io::write_all(1, b"\n");
+    let count = found.count;
+    write!(out, "count {count} numbers ")?;
+    print_numbers(out, numbers)?;
+    out.write_all(b"\n")
 }

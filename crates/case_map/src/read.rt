@@ -3,9 +3,8 @@ ghost use Rattle.std.specs.Prelude.{◌≡◌, true, ℕ, ◌<◌, ◌≤◌, po
 ghost use Rattle.case_fields.specs.Lists.{room};
 ghost use Rattle.case_map.specs.Coordinates.{is_negative, biased_in, half_in, coordinates_in, coordinate_of};
 
-use bytes::scan;
-use case_fields::list;
 use case_fields::list::{Numbers, ROOM, WORD};
+use case_fields::{list, scan};
 use case_numbers::number;
 
 const BIAS: u64 = 0x8000_0000;

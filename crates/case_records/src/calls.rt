@@ -2,78 +2,69 @@
 use case_answers::answer;
 use record::{order, read};
 use records::{Optional, Order, Record};
+use std::io;
+use std::io::Write;
 use tsc::{MOST_WORDS, State};
 
 // A field that may lack.
-fn print_optional(field: Optional) {
+fn print_optional<W: Write>(out: &mut W, field: Optional) -> io::Result<()> {
     match field {
-        Optional::Value(x) => {
-            io::print_decimal(1, x as u64);
-        }
-        Optional::Absent => {
-            io::write_all(1, b"absent");
-        }
+        Optional::Value(x) => write!(out, "{x}"),
+        Optional::Absent => out.write_all(b"absent"),
     }
 }
 
 // The first m words of a state, commas between.
-fn print_first(state: State, m: u8) {
+fn print_first<W: Write>(out: &mut W, state: State, m: u8) -> io::Result<()> {
     let mut k: usize = 0;
     while k < MOST_WORDS {
         if k < m as usize {
-            answer::print_word(k, state.words[k]);
+            answer::print_word(out, k, state.words[k])?;
         }
         k += 1;
     }
+    Ok(())
 }
 
 // A state that may lack.
-fn print_held(words: Optional, state: State) {
+fn print_held<W: Write>(out: &mut W, words: Optional, state: State) -> io::Result<()> {
     match words {
-        Optional::Value(m) => print_first(state, m),
-        Optional::Absent => {
-            io::write_all(1, b"absent");
-        }
+        Optional::Value(m) => print_first(out, state, m),
+        Optional::Absent => out.write_all(b"absent"),
     }
 }
 
 // Every field of a record.
-fn print_fields(r: Record) {
+fn print_fields<W: Write>(out: &mut W, r: Record) -> io::Result<()> {
     let ties = r.ties;
     let taken = r.taken;
     let words = r.words;
     let state = r.state;
-    io::write_all(1, b"truck ");
-    io::print_decimal(1, r.truck as u64);
-    io::write_all(1, b" shovel ");
-    io::print_decimal(1, r.shovel as u64);
-    io::write_all(1, b" ties ");
-    print_optional(ties);
-    io::write_all(1, b" taken ");
-    print_optional(taken);
-    io::write_all(1, b" state ");
-    print_held(words, state);
-    io::write_all(1, b"\n");
+    let truck = r.truck;
+    let shovel = r.shovel;
+    write!(out, "truck {truck} shovel {shovel} ties ")?;
+    print_optional(out, ties)?;
+    out.write_all(b" taken ")?;
+    print_optional(out, taken)?;
+    out.write_all(b" state ")?;
+    print_held(out, words, state)?;
+    out.write_all(b"\n")
 }
 
 // What the desk is answered.
-pub fn print_desk(bytes: &[u8]) {
+pub fn print_desk<W: Write>(out: &mut W, bytes: &[u8]) -> io::Result<()> {
     let found = read::read_record(bytes);
     if found.refusal != 0 {
-        return answer::print_refused(found.refusal, true);
+        return answer::print_refused(out, found.refusal, true);
     }
     let fields = found.values;
-    print_fields(fields);
+    print_fields(out, fields)
 }
 
 // What the cab of a truck is answered.
-pub fn print_cab(truck: u16, bytes: &[u8]) {
+pub fn print_cab<W: Write>(out: &mut W, truck: u16, bytes: &[u8]) -> io::Result<()> {
     match order::order_for(truck, bytes) {
-        Order::Shovel(number) => {
-            io::write_all(1, b"shovel ");
-            io::print_decimal(1, number as u64);
-            io::write_all(1, b"\n");
-        }
-        Order::Refused(number) => answer::print_refused(number, true),
+        Order::Shovel(number) => writeln!(out, "shovel {number}"),
+        Order::Refused(number) => answer::print_refused(out, number, true),
     }
 }

@@ -1,2 +1,4 @@
 // Rows of draws in answers.
+#![tactic(auto)]
+
 pub mod row;

@@ -6,27 +6,36 @@ ghost use Rattle.draws.specs.Calls.{stepped};
 use case_answers::answer;
 use draws::Draw;
 use generator::call;
+use std::io;
+use std::io::Write;
 
 // Word number k of a row of draws.
-fn print_next(k: usize, card: &[u8], state: &mut [u32])
+fn print_next<W: Write>(out: &mut W, k: usize, card: &[u8], state: &mut [u32]) -> io::Result<()>
     ensures { state.new ≡ stepped card.now state.old }
 {
     match call::draw(card, state) {
-        Draw::Word(word) => answer::print_word(k, word),
-        Draw::Refused(_) => {}
+        Draw::Word(word) => answer::print_word(out, k, word),
+        Draw::Refused(_) => Ok(()),
     }
 }
 
-// So many draws, their words with commas between; - where there are none.
-pub fn print_draws(card: &[u8], state: &mut [u32], count: usize)
+// So many draws, also where a write fails, their words with commas between; - where there are none.
+pub fn print_draws<W: Write>(
+    out: &mut W,
+    card: &[u8],
+    state: &mut [u32],
+    count: usize,
+) -> io::Result<()>
     ensures { state.new ≡ iterate (stepped card.now) count state.old }
 {
+    let mut printed = Ok(());
     if count == 0 {
-        io::write_all(1, b"-");
+        printed = out.write_all(b"-");
     }
     let mut k = 0;
     while k < count {
-        print_next(k, card, state);
+        printed = printed.and(print_next(out, k, card, state));
         k += 1;
     }
+    printed
 }

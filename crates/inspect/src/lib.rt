@@ -1,5 +1,7 @@
 // What the program prints of a card (document 01, The program). Which numbers these are is in the contracts of the check and of the draw; no contract can
 // speak of what is read and printed, so the stored outputs of the programs inspect_card and inspect_inputs hold that.
+#![tactic(auto)]
+
 ghost use Rattle.std.specs.Prelude.{◌≡◌, ◌<◌, length, replicate};
 ghost use Rattle.io.specs.Counts.{IsPrefixLen};
 ghost use Rattle.cycle.specs.Notation.{iterate};
@@ -10,6 +12,8 @@ ghost use Rattle.inspect.specs.Room.{most_read};
 use card::check;
 use draws::Draw;
 use generator::call;
+use std::io;
+use std::io::{Read, Write};
 use tsc::MOST_WORDS;
 
 // The most bytes that the program reads (document 02, Five).
@@ -19,40 +23,42 @@ pub const MOST_BYTES: usize = 512;
 pub const LINES: u8 = 4;
 
 // One draw: its number, the state words after it, and the word.
-fn print_draw(number: u8, card: &[u8], state: &mut [u32])
+fn print_draw<W: Write>(out: &mut W, number: u8, card: &[u8], state: &mut [u32]) -> io::Result<()>
     ensures { state.new ≡ stepped card.now state.old }
 {
     match call::draw(card, state) {
         Draw::Word(word) => {
-            io::print_decimal(1, number as u64);
-            printing::print_words(state);
-            printing::print_word(word);
-            io::write_all(1, b"\n");
+            write!(out, "{number}")?;
+            printing::print_words(out, state)?;
+            printing::print_word(out, word)?;
+            out.write_all(b"\n")
         }
-        Draw::Refused(_) => {}
+        Draw::Refused(_) => Ok(()),
     }
 }
 
-// Four draws.
-fn print_draws(card: &[u8], state: &mut [u32])
+// Four draws, also where a write fails.
+fn print_draws<W: Write>(out: &mut W, card: &[u8], state: &mut [u32]) -> io::Result<()>
     ensures { state.new ≡ iterate (stepped card.now) 4 state.old }
 {
+    let mut printed = Ok(());
     for number in 1..=LINES {
-        print_draw(number, card, state);
+        printed = printed.and(print_draw(out, number, card, state));
     }
+    printed
 }
 
 // The verdict on any bytes and, for an accepted card, its draws from the state of zeros.
-pub fn print_card(card: &[u8]) {
+pub fn print_card<W: Write>(out: &mut W, card: &[u8]) -> io::Result<()> {
     let found = check::accept(card);
-    io::write_all(1, b"verdict ");
-    io::print_decimal(1, found.refusal as u64);
-    io::write_all(1, b"\n");
+    let verdict = found.refusal;
+    writeln!(out, "verdict {verdict}")?;
     if found.refusal == 0 {
         let m = found.card.words as usize;
         let mut state = [0u32; MOST_WORDS];
-        print_draws(card, &mut state[..m]);
+        print_draws(out, card, &mut state[..m])?;
     }
+    Ok(())
 }
 
 // What was read: how many bytes stand at the front of the slice, and whether the read failed.
@@ -62,19 +68,24 @@ struct Input {
     failed: bool,
 }
 
-// One read. io::read_full would do for all of them, but it takes a read that fails for the end of the file.
-fn read_once(file: i32, bytes: &mut [u8]) -> Input
+// One read.
+fn read_once<R: Read>(file: &mut R, bytes: &mut [u8]) -> Input
     ensures { IsPrefixLen result.length bytes.new }
 {
-    let got = libc::read(file, bytes);
-    Input {
-        length: io::count(got, bytes),
-        failed: got < 0,
+    match file.read(bytes) {
+        Ok(length) => Input {
+            length,
+            failed: false,
+        },
+        Err(_) => Input {
+            length: 0,
+            failed: true,
+        },
     }
 }
 
 // Reads to the end of the file or of the slice: a short read is not the end.
-fn read_all(file: i32, bytes: &mut [u8]) -> Input
+fn read_all<R: Read>(file: &mut R, bytes: &mut [u8]) -> Input
     ensures { IsPrefixLen result.length bytes.new }
 {
     let mut at: usize = 0;
@@ -102,19 +113,27 @@ fn room() -> [u8; MOST_BYTES]
     [0; MOST_BYTES]
 }
 
-// An open file as a card, up to its end or to the most bytes. Where it can't be read there is no verdict.
-pub fn print_from(file: i32) {
+// A file as a card, up to its end or to the most bytes. Where it can't be opened or read there is no verdict.
+pub fn print_from<R: Read + Drop>(
+    rt: &(impl Print + Eprint),
+    file: io::Result<R>,
+) -> io::Result<()> {
     let mut bytes = room();
-    let found = read_all(file, &mut bytes);
+    let found = match file {
+        Ok(mut open) => read_all(&mut open, &mut bytes),
+        Err(_) => Input {
+            length: 0,
+            failed: true,
+        },
+    };
     if found.failed {
-        io::write_all(2, b"the card can't be read\n");
-        return;
+        return eprintln!(rt; "the card can't be read");
     }
     let n = found.length;
-    print_card(&bytes[..n]);
+    print_card(&mut io::writer(rt), &bytes[..n])
 }
 
 // Standard input so.
-pub fn print_input() {
-    print_from(0);
+pub fn print_input(rt: &(impl Print + Eprint + io::Input)) -> io::Result<()> {
+    print_from(rt, Ok(rt.reader()))
 }

@@ -1,4 +1,8 @@
 // The program: the verdict on the card in standard input, and its first draws. On document 01's card.
-fn main() {
-    inspect::print_input();
+#![tactic(auto)]
+
+use std::io;
+
+fn main(rt: HostRuntime) -> io::Result<()> {
+    inspect::print_input(&rt)
 }

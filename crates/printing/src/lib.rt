@@ -1,7 +1,12 @@
-// Words printed on standard output, for the program.
+// Words printed, for the program.
+#![tactic(auto)]
+
 ghost use Rattle.std.specs.Prelude.{◌≡◌};
 
-// A word as print_hex takes it.
+use std::io;
+use std::io::Write;
+
+// A word as it is printed.
 fn wide(x: u32) -> u64
     ensures { result ≡ x }
 {
@@ -9,16 +14,17 @@ fn wide(x: u32) -> u64
 }
 
 // A word as eight hex digits, after a space.
-pub fn print_word(x: u32) {
-    io::write_all(1, b" ");
-    io::print_hex(1, wide(x), 8);
+pub fn print_word<W: Write>(out: &mut W, x: u32) -> io::Result<()> {
+    let word = wide(x);
+    write!(out, " {word:08x}")
 }
 
 // Each word so.
-pub fn print_words(words: &[u32]) {
+pub fn print_words<W: Write>(out: &mut W, words: &[u32]) -> io::Result<()> {
     let mut k = 0;
     while k < words.len() {
-        print_word(words[k]);
+        print_word(out, words[k])?;
         k += 1;
     }
+    Ok(())
 }

@@ -1,8 +1,15 @@
 // Cases in standard input, replayed: each line is a call with what is handed over, and is answered by a line. README.md has the form of the cases. The file stdin
 // has those of cases/papers.txt and the second program's.
+#![tactic(auto)]
+
 mod input;
 mod line;
 
-fn main() {
-    input::replay_input();
+use std::io;
+use std::io::{BufWriter, Write};
+
+fn main(rt: HostRuntime) -> io::Result<()> {
+    let mut out = BufWriter::new(rt.alloc(), io::writer(&rt))?;
+    input::replay_input(&mut rt.reader(), &mut out)?;
+    out.flush()
 }
