@@ -1,13 +1,14 @@
 # Thin targets: `make help` lists them, README.md says what they are for.
 SHELL = /bin/bash
 .DEFAULT_GOAL = help
-# two checks at once would share target/
+# two checks at once would wait for one another
 .NOTPARALLEL:
 
 # the shared library's name has major and minor number: docs/DECISIONS.md, Versions
 VERSION := $(shell cat VERSION)
 SONAME = libtiedraw.so.$(basename $(VERSION))
-SOURCES = crates.txt $(shell find crates -name '*.rt' -o -name '*.antt')
+# out/ is what rt built; it has copies of sources
+SOURCES = crates.txt $(shell find crates -name out -prune -o \( -name '*.rt' -o -name '*.antt' \) -print)
 
 # what users give goes to the recipes by the environment, as data: neither make nor the shell reads it
 GIVEN := $(foreach name,CARD FILE CASES SEED INPUTS,$(if $(filter undefined,$(origin $(name))),,$(name)))
@@ -29,16 +30,16 @@ run: ## the verdict on a card and its first draws: CARD="08 03", or FILE=cards/p
 	@answer=$$(target/program/tiedraw-inspect < target/card) && echo "$$answer" && [[ $$answer == "verdict 0"* ]]
 
 target/program/tiedraw-inspect: $(SOURCES)
-	@echo "Proving and building the program; a minute or two the first time." >&2
-	@mkdir -p target/program && rt check inspect_card > target/run.log || { cat target/run.log; exit 1; }
-	@cp target/bin/inspect_card $@
+	@echo "Proving and building the program; that takes long the first time." >&2
+	@mkdir -p target/program && (cd crates/inspect_card && rt run < stdin) > target/run.log 2>&1 || { cat target/run.log; exit 1; }
+	@cp crates/inspect_card/out/inspect_card $@
 
 # answers that stand behind => are passed over
 replay: export RUN_CASES := $(value CASES)
 replay: ## cases answered, a line each: of the file CASES=cases/papers.txt, or typed and ended by Ctrl-D
-	@echo "Proving and building the program; a few minutes the first time." >&2
-	@mkdir -p target && rt check replay > target/replay.log || { cat target/replay.log; exit 1; }
-	@set -o pipefail; sed 's/ => .*//' -- "$${RUN_CASES:--}" | target/bin/replay
+	@echo "Proving and building the program; that takes long the first time." >&2
+	@mkdir -p target && (cd crates/replay && rt run < /dev/null) > target/replay.log 2>&1 || { cat target/replay.log; exit 1; }
+	@set -o pipefail; sed 's/ => .*//' -- "$${RUN_CASES:--}" | crates/replay/out/replay
 
 # ---- the library for C and whatever can call C: proved, then compiled
 
@@ -46,9 +47,9 @@ replay: ## cases answered, a line each: of the file CASES=cases/papers.txt, or t
 lib: target/lib/libtiedraw.so ## the archive and the shared library, in target/lib
 
 target/lib/libtiedraw.a: $(SOURCES)
-	@echo "Proving and building the library; a minute or two the first time." >&2
-	@mkdir -p target/lib && rt staticlib tiedraw > target/lib.log 2>&1 || { cat target/lib.log; exit 1; }
-	@cp target/staticlib/libtiedraw.a $@
+	@echo "Proving and building the library; that takes long the first time." >&2
+	@mkdir -p target/lib && (cd crates/tiedraw && rt lib) > target/lib.log 2>&1 || { cat target/lib.log; exit 1; }
+	@cp crates/tiedraw/out/libtiedraw.a $@
 
 target/lib/libtiedraw.so.$(VERSION): target/lib/libtiedraw.a VERSION
 	@gcc -shared -Wl,-soname,$(SONAME) -Wl,-z,defs -Wl,--whole-archive $< -Wl,--no-whole-archive -o $@
@@ -93,7 +94,7 @@ dist: ## a tar of what is installed, and its checksum, for servers without the R
 # ---- what is tested
 
 .PHONY: test check bindings run-test install-test jumps vectors store-vectors difftest bench loads nist
-test: ## the gate: everything proved from nothing, must-fail edits tried, programs run
+test: ## the gate: everything proved that an earlier run here has not passed, must-fail edits tried, programs run
 	bash .ci/run
 
 check: bindings example run-test install-test jumps vectors ## all that is no proof: bindings, example, run-test, install-test, jumps, vectors, and difftest of 200,000
@@ -145,7 +146,7 @@ nist: lib ## a million bits of P1 for the published suite of NIST SP 800-22, in 
 
 .PHONY: fmt pictures lines clean
 fmt: ## the files of Rattle laid out
-	rt fmt
+	@for crate in crates/*/; do (cd "$$crate" && rt fmt) || exit 1; done
 
 pictures: ## the pictures of docs/PROOFS.md, docs/OPERATING.md and docs/PERFORMANCE.md, drawn anew
 	python3 docs/pictures/pictures.py
@@ -154,9 +155,9 @@ pictures: ## the pictures of docs/PROOFS.md, docs/OPERATING.md and docs/PERFORMA
 lines: ## lines without comments, imports and blank ones, and the must-fail edits: what the notes in docs/changes tell
 	@for part in specs src proofs; do \
 	    printf '%s ' $$part; \
-	    find crates -path "*/$$part/*" \( -name '*.antt' -o -name '*.rt' \) -exec cat {} + | grep -vcE '^[[:space:]]*(--|//|use |ghost use |$$)'; \
+	    find crates -name out -prune -o -path "*/$$part/*" \( -name '*.antt' -o -name '*.rt' \) -exec cat {} + | grep -vcE '^[[:space:]]*(--|//|use |ghost use |$$)'; \
 	done; printf 'edits '; ls crates/*/must-fail/*.edit | wc -l
 
 clean: ## everything that was built is removed
-	rm -rf target bindings/rust/target harness/target reference/target
+	rm -rf target crates/*/out bindings/rust/target harness/target reference/target
 	find . -name __pycache__ -prune -exec rm -r {} +

@@ -20,7 +20,7 @@ def rust():
 
 
 def shout(name):
-    """camelCase as SHOUTED_CASE."""
+    """camelCase and snake_case as SHOUTED_CASE."""
     return re.sub(r"(?<=[a-z])(?=[A-Z])", "_", name).upper()
 
 
@@ -58,7 +58,7 @@ class Versions(unittest.TestCase):
     def test_the_version_is_the_same_everywhere(self):
         self.same("VERSION", r"^(.+)$")
         self.same("include/tiedraw.h", r"^#define TIEDRAW_VERSION_(?:MAJOR|MINOR|PATCH) (\d+)$")
-        self.same("crates/version/specs/Version.antt", r"^version(?:Major|Minor|Patch) = (\d+)$")
+        self.same("crates/version/specs/Version.antt", r"^version_(?:major|minor|patch) = (\d+)$")
         self.same("crates/version/src/lib.rt", r"^const (?:MAJOR|MINOR|PATCH): u32 = (\d+);$")
         self.same("bindings/rust/Cargo.toml", r'^version = "(.+)"$')
 
@@ -77,13 +77,13 @@ class Bounds(unittest.TestCase):
             self.same(getattr(tiedraw, name), re.findall(rf"#define TIEDRAW_{name} (\d+)\n", text("include/tiedraw.h")))
 
     def test_the_definitions(self):
-        self.same(tiedraw.MOST_WORDS, re.findall(r"\nmostWords = (\d+)\n", text("crates/tsc/specs/Constants.antt")))
-        self.same(tiedraw.MOST_SHOVELS, re.findall(r"\nmostShovels = (\d+)\n", text("crates/ties/specs/Ties.antt")))
-        self.same(tiedraw.MOST_CARD_BYTES, re.findall(r"\nmostCardBytes = (\d+)\n", text("crates/card_format/specs/Fields.antt")))
-        self.same(tiedraw.MOST_TAKEN, re.findall(r"\nmostTaken = (\d+)\n", text("crates/samples/specs/Samples.antt")))
-        self.same(tiedraw.MOST_STRIP_WORDS, re.findall(r"\nmostStripWords = (\d+)\n", text("crates/bit_strip/specs/Strip.antt")))
-        self.same(tiedraw.MOST_COORDINATE, re.findall(r"\nmostCoordinate = (\d+)\n", text("crates/places/specs/Places.antt")))
-        self.same(tiedraw.MOST_RADIUS, re.findall(r"\nmostRadius = (\d+)\n", text("crates/places/specs/Places.antt")))
+        self.same(tiedraw.MOST_WORDS, re.findall(r"\nmost_words = (\d+)\n", text("crates/tsc/specs/Constants.antt")))
+        self.same(tiedraw.MOST_SHOVELS, re.findall(r"\nmost_shovels = (\d+)\n", text("crates/ties/specs/Ties.antt")))
+        self.same(tiedraw.MOST_CARD_BYTES, re.findall(r"\nmost_card_bytes = (\d+)\n", text("crates/card_format/specs/Fields.antt")))
+        self.same(tiedraw.MOST_TAKEN, re.findall(r"\nmost_taken = (\d+)\n", text("crates/samples/specs/Samples.antt")))
+        self.same(tiedraw.MOST_STRIP_WORDS, re.findall(r"\nmost_strip_words = (\d+)\n", text("crates/bit_strip/specs/Strip.antt")))
+        self.same(tiedraw.MOST_COORDINATE, re.findall(r"\nmost_coordinate = (\d+)\n", text("crates/places/specs/Places.antt")))
+        self.same(tiedraw.MOST_RADIUS, re.findall(r"\nmost_radius = (\d+)\n", text("crates/places/specs/Places.antt")))
 
     def test_rust(self):
         for name in self.names:

@@ -51,7 +51,7 @@ def crates():
         line = line.split("#")[0]
         if ":" in line:
             name, needs = line.split(":")
-            named[name.strip()] = needs.split()
+            named[name.split()[0]] = needs.split()
     same_program = [name for name in named if name.startswith("inspect_") and name != "inspect_card"]
     return {
         name: {need for need in needs if need in named} for name, needs in named.items() if name not in same_program
