@@ -5,7 +5,7 @@ use mathlib.Core.List.{List, [], ◌∷◌, ◌++◌, reverse, reverse_aux, reve
 use Prim.Native.Nat.{ℕ, ◌+◌, ◌-◌, ◌%◌, ◌≤◌}
 use native.Mathlib.Omega.{arith}
 use lib.Dec.{eqb}
-use lib.IntN.{ℤ, pos, negsuc, nat_abs, ◌+ℤ◌}
+use lib.IntN.{pos, negsuc, nat_abs, ◌+ℤ◌}
 use lib.ListN.{length, take, drop, take-append-drop, length-reverse, length-drop}
 use lib.Seq.{take_at}
 use Rattle.cycle.specs.Notation.{one}

@@ -1,4 +1,5 @@
 // The bits of a strip of words, counted for the tests of NIST SP 800-22, on the definitions. What that means is in specs/, and what holds of it in proofs/.
+#![tactic(auto)]
 
 // The four integers (document 02, Eight).
 #[derive(Clone, Copy)]

@@ -1,6 +1,6 @@
 use mathlib.Core.Path.{sym, ◌∙◌}
 use native.Mathlib.Nat.{mul-le-mul, le_of_lt, lt_of_le_of_lt}
-use borrow.Author.Tests.{lt-ltb, le-ltb, not-true, not-false}
+use borrow.Author.Tests.{lt-ltb, le-ltb}
 use lib.Dec.{lit<}
 use Rattle.refusals.specs.Refusals.{first_of}
 use Rattle.bit_strip.specs.Strip.{most_strip_words, strip_checks}
@@ -20,15 +20,15 @@ overflow_mul-n c = record { fits = lt_of_le_of_lt (mul-le-mul (le_of_lt c.ranges
 pub returns-then-room-n : goal.returns-then-room-n
 unfolding strip_checks first_of
 returns-then-room-n c = simp (
-      le-ltb most_strip_words _ c.if-strip-gt-MOST_STRIP_WORDS.false,
-      sym c.all_fit.ensures ∙ c.if-not-all_fit.false,
-      lt-ltb _ _ c.if-room-n.true,
-    )
+  le-ltb most_strip_words _ c.if-strip-gt-MOST_STRIP_WORDS.false,
+  sym c.all_fit.ensures ∙ c.if-not-all_fit.false,
+  lt-ltb _ _ c.if-room-n.true,
+)
 
 pub returns : goal.returns
 unfolding strip_checks first_of
 returns c = simp (
-      le-ltb most_strip_words _ c.if-strip-gt-MOST_STRIP_WORDS.false,
-      sym c.all_fit.ensures ∙ c.if-not-all_fit.false,
-      le-ltb _ _ c.if-room-n.false,
-    )
+  le-ltb most_strip_words _ c.if-strip-gt-MOST_STRIP_WORDS.false,
+  sym c.all_fit.ensures ∙ c.if-not-all_fit.false,
+  le-ltb _ _ c.if-room-n.false,
+)

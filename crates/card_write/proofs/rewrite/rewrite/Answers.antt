@@ -13,11 +13,11 @@ unfolding reading
 returns-then-found-ne0 c = let a = c.args in
     let e = ap (λ (r : Reading). r.refusal) c.read-found.ensures in
     let told = e ∙ verdict-form a.card.now (λ z. c.if-found-ne0.true (e ∙ z)) in
-    let h = verdict-rewriting a.card.now a.page.now (λ z. c.if-found-ne0.true (told ∙ z)) in record { answer = ap Refused told ∙ sym h.0; after = sym h.1; }
+    let h = verdict-rewriting a.card.now a.page.now (λ z. c.if-found-ne0.true (told ∙ z)) in record { answer = ap Refused told ∙ sym h.0; after = sym h.1 }
 
 pub returns : goal.returns
 returns c = let a = c.args in
     let h = reading-sound a.card.now _ c.read-found.ensures c.if-found-ne0.false in
     let b : Bytes a.card.now = λ i l. omega (arith, c.type_inv.card i) in
     let w = sound-rewriting a.card.now a.page.now b h.0 in
-    let e = rw h.1 at c.write.ensures in record { answer = e.value ∙ w.0; after = e.page_after ∙ w.1; }
+    let e = rw h.1 at c.write.ensures in record { answer = e.value ∙ w.0; after = e.page_after ∙ w.1 }
