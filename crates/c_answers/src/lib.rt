@@ -1,3 +1,5 @@
+#![tactic(auto)]
+
 // The calls' answers as C has them (include/tiedraw.h). What they are is in specs/, and what a refusal leaves in proofs/.
 use tsc::{MOST_WORDS, TABLE_SIZE};
 

@@ -1,3 +1,5 @@
+#![tactic(auto)]
+
 // Cards (document 01, The card): bytes that set up a generator. Here is what the reader and the writer answer; what bytes
 // mean and which are accepted is in specs/, and what holds of that in proofs/. The code is in crates card_read, card, card_encode and card_write.
 use tsc::Card;

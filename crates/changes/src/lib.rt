@@ -1,3 +1,5 @@
+#![tactic(auto)]
+
 // Changes of one shovel's time, on the definitions. What they are is in specs/, and what holds of them in proofs/.
 
 // The greatest time.

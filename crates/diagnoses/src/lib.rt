@@ -1,3 +1,5 @@
+#![tactic(auto)]
+
 // The places of a table that are shown where it is not a single cycle. Which they are is in specs/, and what holds of them in proofs/.
 use tsc::TABLE_SIZE;
 

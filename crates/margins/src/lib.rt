@@ -1,3 +1,5 @@
+#![tactic(auto)]
+
 // What margin answers, on the definitions. What that means is in specs/, and what holds of it in proofs/.
 
 // The least change of one shovel's time that sends the truck elsewhere, and the changed pick.

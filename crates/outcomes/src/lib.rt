@@ -1,3 +1,5 @@
+#![tactic(auto)]
+
 // What a pick comes to once one time is changed: its ties, and whether it goes elsewhere.
 pub mod outcome;
 

@@ -1,3 +1,5 @@
+#![tactic(auto)]
+
 // What a pick answers and leaves, on the definitions. What that means is in specs/, and what holds of it in proofs/.
 
 // What a pick answers: the shovel's number, how many ties there were and how many words were taken; or the refusal.

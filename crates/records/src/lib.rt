@@ -1,3 +1,5 @@
+#![tactic(auto)]
+
 // Records of ties: what a recorded pick leaves for the desk and for the cab. What their bytes mean is in specs/, and what holds of that in proofs/. The code is
 // in crate record.
 use tsc::State;

@@ -1,3 +1,5 @@
+#![tactic(auto)]
+
 // The calls for C and whatever can call C (include/tiedraw.h): thin, under their plain names. A slice is a pointer and a length there.
 ghost use Rattle.std.specs.Prelude.{◌≡◌, List, ℕ, ◌^◌, ◌<◌, length};
 ghost use Rattle.tsc.specs.Coverage.{IsState, step_back};

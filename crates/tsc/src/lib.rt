@@ -1,3 +1,5 @@
+#![tactic(auto)]
+
 // The types that a generator is made of. What they mean is in specs/, and what holds of them in proofs/.
 
 // The fewest words of a state.

@@ -1,3 +1,5 @@
+#![tactic(auto)]
+
 // The version of the library, 0.4.5 (VERSION, include/tiedraw.h).
 ghost use Rattle.std.specs.Prelude.{◌≡◌};
 ghost use Rattle.version.specs.Version.{version_number};

@@ -15,7 +15,7 @@ pub loop-i-init : goal.loop-i-init
 loop-i-init c = (omega arith, best_none c.args.known c.args.shovels.now c.args.times.now c.requires)
 
 pub try_shovel-next-requires : goal.try_shovel-next-requires
-try_shovel-next-requires c = record { several = ((omega (arith, c.if-times-lt2.false), c.requires), c.loop-i-test.true); best_of = c.loop-i.invariant.1; }
+try_shovel-next-requires c = record { several = ((omega (arith, c.if-times-lt2.false), c.requires), c.loop-i-test.true); best_of = c.loop-i.invariant.1 }
 
 pub loop-i-preserved : goal.loop-i-preserved
 loop-i-preserved c = (omega arith, c.try_shovel-next.ensures)

@@ -32,14 +32,14 @@ placed_below : (s : Start) (x : ℕ) → Placed (length s.args.shovels.now) (con
 placed_below s x = placed_either _ (eqb x 0 || ltb (get_or s.args.times.now s.args.i 0) x) s.args.best _ (placed s) (tried s (x - 1) s.args.best (placed s))
 
 pub attempt_below-below-requires : goal.attempt_below-below-requires
-attempt_below-below-requires c = record { several = (c.requires.several.0, c.requires.several.1, placed (goal.at.attempt_below-below-requires c).Start); others = c.others_of-o.ensures; }
+attempt_below-below-requires c = record { several = (c.requires.several.0, c.requires.several.1, placed (goal.at.attempt_below-below-requires c).Start); others = c.others_of-o.ensures }
 
 pub attempt-at-requires : goal.attempt-at-requires
-attempt-at-requires c = let o = c.others_of-o in record { several = (c.requires.several.0, c.requires.several.1, subst (Placed _) (sym c.attempt_below-below.ensures) (placed_below (goal.at.attempt-at-requires c).Start o.result.time)); others = o.ensures; }
+attempt-at-requires c = let o = c.others_of-o in record { several = (c.requires.several.0, c.requires.several.1, subst (Placed _) (sym c.attempt_below-below.ensures) (placed_below (goal.at.attempt-at-requires c).Start o.result.time)); others = o.ensures }
 
 pub attempt_above-requires : goal.attempt_above-requires
 attempt_above-requires c = let o = c.others_of-o in
-    let below = subst (Placed _) (sym c.attempt_below-below.ensures) (placed_below (goal.at.attempt_above-requires c).Start o.result.time) in record { several = (c.requires.several.0, c.requires.several.1, subst (Placed _) (sym c.attempt-at.ensures) (tried (goal.at.attempt_above-requires c).Start o.result.time _ below)); others = o.ensures; }
+    let below = subst (Placed _) (sym c.attempt_below-below.ensures) (placed_below (goal.at.attempt_above-requires c).Start o.result.time) in record { several = (c.requires.several.0, c.requires.several.1, subst (Placed _) (sym c.attempt-at.ensures) (tried (goal.at.attempt_above-requires c).Start o.result.time _ below)); others = o.ensures }
 
 pub returns : goal.returns
 returns c = let a = c.args in

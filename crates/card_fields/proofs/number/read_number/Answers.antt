@@ -51,7 +51,7 @@ returns-then-part-extent_of c = let a = c.args in
     refused_as _ _ 1 (λ e. absurd (omega arith)) (part_refusal _ _ _ refl ∙ simp (lt-ltb _ _ short))
 
 pub number_at-v-requires : goal.number_at-v-requires
-number_at-v-requires c = let p = c.requires in record { k_lt_field_count = (p.0, p.1); k_in_bounds = there c; }
+number_at-v-requires c = let p = c.requires in record { k_lt_field_count = (p.0, p.1); k_in_bounds = there c }
 
 pub returns-then-not-number_allowed : goal.returns-then-not-number_allowed
 returns-then-not-number_allowed c = refused_as _ _ 2 (λ e. absurd (omega arith))

@@ -12,12 +12,12 @@ use Rattle.card_table.proofs.table.first_return.Goals as goal
 pub loop-steps-init : goal.loop-steps-init
 unfolding first_return
 loop-steps-init c = let a = c.args in (
-      c.requires.by_index 0 (omega arith),
-      omega arith,
-      omega arith,
-      omega arith,
-      ap (λ (d : ℕ). return_from (λ y. get_or a.table.now y 0) d 1 (get_or a.table.now 0 0)) (add-sub_cancel a.size 1),
-    )
+  c.requires.by_index 0 (omega arith),
+  omega arith,
+  omega arith,
+  omega arith,
+  ap (λ (d : ℕ). return_from (λ y. get_or a.table.now y 0) d 1 (get_or a.table.now 0 0)) (add-sub_cancel a.size 1),
+)
 
 pub loop-steps-preserved : goal.loop-steps-preserved
 loop-steps-preserved c = let a = c.args in

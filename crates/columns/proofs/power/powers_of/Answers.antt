@@ -32,12 +32,12 @@ entries-end-requires c = c.requires.1
 pub loop-init : goal.loop-init
 unfolding iterate
 loop-init c = let a = c.args in (
-      c.entries-end.ensures,
-      omega arith,
-      refl,
-      along_none a.m a.table.now a.odd c.entry_after-y.ensures,
-      along_none a.m a.table.now a.even c.entry_after-z.ensures,
-    )
+  c.entries-end.ensures,
+  omega arith,
+  refl,
+  along_none a.m a.table.now a.odd c.entry_after-y.ensures,
+  along_none a.m a.table.now a.even c.entry_after-z.ensures,
+)
 
 pub overflow_cast-p : goal.overflow_cast-p
 overflow_cast-p c = omega (arith, few-x (goal.at.overflow_cast-p c).At-loop)

@@ -23,15 +23,15 @@ rotate_left-requires-5 c = rotatable c.args.t rotations2 c.requires.has_rotation
 pub returns : goal.returns
 unfolding filter2
 returns c = rw (
-      c.add-2.ensures,
-      c.add.ensures,
-      c.rotate_left-5.ensures,
-      c.rotate_left-4.ensures,
-      c.add-first.ensures,
-      c.rotate_left.ensures,
-      c.add-second.ensures,
-      c.rotate_left-2.ensures,
-      c.add-rest.ensures,
-      c.rotate_left-3.ensures,
-    )
+  c.add-2.ensures,
+  c.add.ensures,
+  c.rotate_left-5.ensures,
+  c.rotate_left-4.ensures,
+  c.add-first.ensures,
+  c.rotate_left.ensures,
+  c.add-second.ensures,
+  c.rotate_left-2.ensures,
+  c.add-rest.ensures,
+  c.rotate_left-3.ensures,
+)
     (simp (rotated c.args.t rotations2 c.requires.has_rotations))

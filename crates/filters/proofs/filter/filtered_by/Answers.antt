@@ -17,14 +17,14 @@ module _ (card : Card) (t : Rotations) (s : State) (f : Filters card t s) where
 
 pub filter_2-requires : goal.filter_2-requires
 filter_2-requires c = let card = c.requires.0 in
-    let f = c.requires.1 in let both = chosen card c.args.t c.args.s rotations2 f (rw (eq-eqb card.filter 2 (sym (number card _ _ f) ∙ c.if-t-eq2.true))) in record { has_rotations = both.0; by_index = both.1; }
+    let f = c.requires.1 in let both = chosen card c.args.t c.args.s rotations2 f (rw (eq-eqb card.filter 2 (sym (number card _ _ f) ∙ c.if-t-eq2.true))) in record { has_rotations = both.0; by_index = both.1 }
 
 pub returns-then-t-eq2 : goal.returns-then-t-eq2
 returns-then-t-eq2 c card f = rw (eq-eqb card.filter 2 (sym (number card _ _ f) ∙ c.if-t-eq2.true), ← bits card c.args.t c.args.s f) c.filter_2.ensures
 
 pub filter_1-requires : goal.filter_1-requires
 filter_1-requires c = let card = c.requires.0 in
-    let f = c.requires.1 in let both = chosen card c.args.t c.args.s rotations1 f (rw (ne_eqb card.filter 2 (λ e. c.if-t-eq2.false (number card _ _ f ∙ e)))) in record { has_rotations = both.0; by_index = both.1; }
+    let f = c.requires.1 in let both = chosen card c.args.t c.args.s rotations1 f (rw (ne_eqb card.filter 2 (λ e. c.if-t-eq2.false (number card _ _ f ∙ e)))) in record { has_rotations = both.0; by_index = both.1 }
 
 pub returns : goal.returns
 returns c card f = rw (ne_eqb card.filter 2 (λ e. c.if-t-eq2.false (number card _ _ f ∙ e)), ← bits card c.args.t c.args.s f) c.filter_1.ensures

@@ -30,11 +30,11 @@ add-sum-requires c = c.requires.has_further.0.0
 
 pub loop-j-preserved : goal.loop-j-preserved
 loop-j-preserved c = let l = c.loop-j in (
-      omega arith,
-      l.invariant.1,
-      further_next c.args.t c.requires.has_further.0 l.j (omega arith) (λ k. get_or c.args.s.words k 0) c.args.word l.sum _ _ l.invariant.2
-          c.rotate_left-turned.ensures c.add-sum.ensures,
-    )
+  omega arith,
+  l.invariant.1,
+  further_next c.args.t c.requires.has_further.0 l.j (omega arith) (λ k. get_or c.args.s.words k 0) c.args.word l.sum _ _ l.invariant.2
+      c.rotate_left-turned.ensures c.add-sum.ensures,
+)
 
 pub returns : goal.returns
 returns c = let a = c.args in

@@ -35,7 +35,7 @@ pub with_further-requires : goal.with_further-requires
 with_further-requires c = let card = c.requires.0 in
     let f = c.requires.1 in
     let e = bits card c.args.t c.args.s f in
-    let x : ℕ → ℕ = λ k. get_or c.args.s.words k 0 in record { has_further = (further_there card c.args.t c.args.s f (omega (arith, words card c.args.t c.args.s f)), rw (e, c.filtered_by-word.ensures card f) (filtered_lt card x)); by_index = rw e f.words; }
+    let x : ℕ → ℕ = λ k. get_or c.args.s.words k 0 in record { has_further = (further_there card c.args.t c.args.s f (omega (arith, words card c.args.t c.args.s f)), rw (e, c.filtered_by-word.ensures card f) (filtered_lt card x)); by_index = rw e f.words }
 
 pub returns : goal.returns
 unfolding word

@@ -45,7 +45,7 @@ as_many c = let q = (let a = c.args in placed a.x a.y a.shovels.now a.xs.now a.y
 pub returns-then-not-can_measure : goal.returns-then-not-can_measure
 returns-then-not-can_measure c = let q = given (goal.at.returns-then-not-can_measure c).After-can_measure in
     let a = c.args in let both = told_refused _ _ q (sym (found (goal.at.returns-then-not-can_measure c).After-can_measure) ∙ c.if-not-can_measure.true)
-    (c.first_refusal.ensures ∙ ap (λ (b : Bool). first_of (call_checks a.card.now a.state.now ++ place_checks q.shovels q.xs q.ys b)) (mapped (goal.at.returns-then-not-can_measure c).After-can_measure)) in record { answer = both.0; after = both.1; }
+    (c.first_refusal.ensures ∙ ap (λ (b : Bool). first_of (call_checks a.card.now a.state.now ++ place_checks q.shovels q.xs q.ys b)) (mapped (goal.at.returns-then-not-can_measure c).After-can_measure)) in record { answer = both.0; after = both.1 }
 
 pub marks_of-marks-requires : goal.marks_of-marks-requires
 marks_of-marks-requires c = let h = measurable c.args.card.now c.args.state.now (given (goal.at.marks_of-marks-requires c).After-can_measure) (can c) in
@@ -59,4 +59,4 @@ pub slice_bounds-pick-end : goal.slice_bounds-pick-end
 slice_bounds-pick-end c = sym (as_many (goal.at.slice_bounds-pick-end c).After-marks_of-marks)
 
 pub returns : goal.returns
-returns c = let both = told_picked _ _ (given (goal.at.returns c).After-can_measure) (can (goal.at.returns c).Else-not-can_measure) (ties-alike (goal.at.returns c).After-marks_of-marks) c.pick.ensures.answer c.pick.ensures.after in record { answer = both.0; after = both.1; }
+returns c = let both = told_picked _ _ (given (goal.at.returns c).After-can_measure) (can (goal.at.returns c).Else-not-can_measure) (ties-alike (goal.at.returns c).After-marks_of-marks) c.pick.ensures.answer c.pick.ensures.after in record { answer = both.0; after = both.1 }

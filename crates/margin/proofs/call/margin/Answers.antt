@@ -85,7 +85,7 @@ least_change-best-requires c = listed _ _ _ _ _ _ (going (goal.at.least_change-b
 pub told-requires : goal.told-requires
 told-requires c = let f = going (goal.at.told-requires c).Else-found-ne0 in
     let l = listed _ _ _ _ _ _ f _ (draws (goal.at.told-requires c).After-known_of-known) in
-    let k = found_counts _ _ _ _ _ _ f _ (draws (goal.at.told-requires c).After-known_of-known) _ (best-is (goal.at.told-requires c).After-least_change-best c.best-1.given.1) in record { width_le_widest_width = (l.width, l.paired, l.few); place_in_bounds = (k.listed, k.within); }
+    let k = found_counts _ _ _ _ _ _ f _ (draws (goal.at.told-requires c).After-known_of-known) _ (best-is (goal.at.told-requires c).After-least_change-best c.best-1.given.1) in record { width_le_widest_width = (l.width, l.paired, l.few); place_in_bounds = (k.listed, k.within) }
 
 pub returns-in-Nothing : goal.returns-in-Nothing
 returns-in-Nothing c = found_nothing _ _ _ _ _ _ (going (goal.at.returns-in-Nothing c).Else-found-ne0) _ (draws (goal.at.returns-in-Nothing c).After-known_of-known) (best-is (goal.at.returns-in-Nothing c).After-least_change-best c.enum_told-1.given.1)

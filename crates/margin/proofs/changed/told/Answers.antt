@@ -33,4 +33,4 @@ returns c = let a = c.args in
     let drawn : List ℕ → Ranked = λ ys. ranked a.known.width a.known.words (ties ys) in let both = (
       (refl, refl, refl),
       (p.shovel ∙ ap (λ (ys : List ℕ). chosen a.shovels.now ys (drawn ys).rank) e, (p.ties.0 ∙ ap ties e, p.ties.1 ∙ ap (λ (ys : List ℕ). (drawn ys).taken) e)),
-    ) in record { change = both.0; shovel = both.1; ties = both.2; taken = both.3; }
+    ) in record { change = both.0; shovel = both.1; ties = both.2; taken = both.3 }

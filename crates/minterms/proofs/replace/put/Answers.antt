@@ -40,4 +40,4 @@ loop-k-preserved c = let a = c.args in
 pub returns : goal.returns
 returns c = let a = c.args in
     let l = c.loop-k in
-    let e : l.k ≡ few_words = omega arith in record { has_columns = subst (λ (k : ℕ). HasColumns k l.out.words (column_put a.s a.t a.selector a.odd a.even)) e l.invariant.3; by_index = l.invariant.4; }
+    let e : l.k ≡ few_words = omega arith in record { has_columns = subst (λ (k : ℕ). HasColumns k l.out.words (column_put a.s a.t a.selector a.odd a.even)) e l.invariant.3; by_index = l.invariant.4 }

@@ -19,10 +19,10 @@ use Rattle.minterms.proofs.replace.replace_columns.Goals as goal
 
 pub loop-c-init : goal.loop-c-init
 loop-c-init c = let a = c.args in (
-      omega arith,
-      done_none a.odd.now a.even.now a.selector a.low (take few_words a.s.words) few_words most_words,
-      λ k l. get_or_filler most_words k 0,
-    )
+  omega arith,
+  done_none a.odd.now a.even.now a.selector a.low (take few_words a.s.words) few_words most_words,
+  λ k l. get_or_filler most_words k 0,
+)
 
 pub loop-c-preserved : goal.loop-c-preserved
 loop-c-preserved c = let l = c.loop-c in

@@ -38,7 +38,7 @@ held c card p = p.2.holds
 -- the loop leaves the number of the words lent
 size : (c : At-loop-k) → length c.loop-k.words ≡ length c.args.words.now
 size c =
-    let p = c.powers_of-p.ensures in let k : Known c.terms_of-terms.result c.rotations_of-rotations.result c.leaves_of-leaves.result c.args.s c.args.card = ( c.powers_of-p.result.odd, c.powers_of-p.result.even, record { accepted = c.requires.0; holds = c.requires.1; selects = c.terms_of-terms.ensures; first = p.0; second = p.1 }, c.rotations_of-rotations.ensures, c.requires.2, c.leaves_of-leaves.ensures, ) in
+    let p = c.powers_of-p.ensures in let k : Known c.terms_of-terms.result c.rotations_of-rotations.result c.leaves_of-leaves.result c.args.s c.args.card = (c.powers_of-p.result.odd, c.powers_of-p.result.even, record { accepted = c.requires.0; holds = c.requires.1; selects = c.terms_of-terms.ensures; first = p.0; second = p.1 }, c.rotations_of-rotations.ensures, c.requires.2, c.leaves_of-leaves.ensures) in
     row-length (Known c.terms_of-terms.result c.rotations_of-rotations.result c.leaves_of-leaves.result c.args.s) c.args.s c.args.count c.args.words.now c.requires.3 (λ (d : Card) (q : Known c.terms_of-terms.result c.rotations_of-rotations.result c.leaves_of-leaves.result c.args.s d). q.2.holds) c.loop-k.k c.loop-k.held c.loop-k.words c.loop-k.invariant c.args.card k
 
 -- what is known of the state that the loop has come to
@@ -82,4 +82,4 @@ pub shape_of-words : goal.shape_of-words
 shape_of-words c = size (goal.at.shape_of-words c).At-loop-k
 
 pub returns : goal.returns
-returns c = let l = c.loop-k in let both = row-all (P (goal.at.returns c).After-leaves_of-leaves) c.args.s c.args.count c.args.words.now c.requires.3 (held (goal.at.returns c).After-leaves_of-leaves) l.k l.held l.words l.invariant (omega arith) c.args.card (known (goal.at.returns c).After-leaves_of-leaves) in record { value = both.0; words_after = both.1; }
+returns c = let l = c.loop-k in let both = row-all (P (goal.at.returns c).After-leaves_of-leaves) c.args.s c.args.count c.args.words.now c.requires.3 (held (goal.at.returns c).After-leaves_of-leaves) l.k l.held l.words l.invariant (omega arith) c.args.card (known (goal.at.returns c).After-leaves_of-leaves) in record { value = both.0; words_after = both.1 }

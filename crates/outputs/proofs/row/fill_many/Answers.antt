@@ -74,4 +74,4 @@ pub shape_of-words : goal.shape_of-words
 shape_of-words c = size (goal.at.shape_of-words c).At-loop-at
 
 pub returns : goal.returns
-returns c = let l = c.loop-at in let both = row-all (P (goal.at.returns c).After-rotations_of-rotations) c.args.s c.args.count c.args.words.now c.requires.2 (held (goal.at.returns c).After-rotations_of-rotations) l.at l.held l.words l.invariant (omega arith) c.args.card (known (goal.at.returns c).After-rotations_of-rotations) in record { value = both.0; words_after = both.1; }
+returns c = let l = c.loop-at in let both = row-all (P (goal.at.returns c).After-rotations_of-rotations) c.args.s c.args.count c.args.words.now c.requires.2 (held (goal.at.returns c).After-rotations_of-rotations) l.at l.held l.words l.invariant (omega arith) c.args.card (known (goal.at.returns c).After-rotations_of-rotations) in record { value = both.0; words_after = both.1 }

@@ -31,4 +31,4 @@ pub shape_of-words : goal.shape_of-words
 shape_of-words c = size (goal.at.shape_of-words c).At-loop-k
 
 pub returns : goal.returns
-returns c = let both = written_all tsc1_card _ _ _ c.requires.1 _ _ _ c.loop-k.invariant (omega arith) in record { value = both.0; words_after = both.1; }
+returns c = let both = written_all tsc1_card _ _ _ c.requires.1 _ _ _ c.loop-k.invariant (omega arith) in record { value = both.0; words_after = both.1 }

@@ -37,13 +37,13 @@ going : (c : Else-found-ne0) → let a = c.args in
 going c = free _ _ _ _ _ _ ((clear _ _ c.accept-accepted.result c.accept-accepted.ensures (sym ((told _ _ c.accept-accepted.result c.accept-accepted.ensures c.call_refusal-told.ensures)) ∙ c.if-told-ne0.false))) ((told_later _ _ _ _ ((clear _ _ c.accept-accepted.result c.accept-accepted.ensures (sym ((told _ _ c.accept-accepted.result c.accept-accepted.ensures c.call_refusal-told.ensures)) ∙ c.if-told-ne0.false))) refl c.list_ties-found.ensures.refusal)) c.list_ties-found.ensures.found c.if-found-ne0.false
 
 pub returns-then-told-ne0 : goal.returns-then-told-ne0
-returns-then-told-ne0 c = let ne = c.if-told-ne0.true in let both = picking-refused _ _ _ _ _ ne (told_call _ _ _ _ _ (refusal (goal.at.returns-then-told-ne0 c).After-call_refusal-told) ne) in record { answer = both.0; after = both.1; }
+returns-then-told-ne0 c = let ne = c.if-told-ne0.true in let both = picking-refused _ _ _ _ _ ne (told_call _ _ _ _ _ (refusal (goal.at.returns-then-told-ne0 c).After-call_refusal-told) ne) in record { answer = both.0; after = both.1 }
 
 pub list_ties-found-requires : goal.list_ties-found-requires
 list_ties-found-requires c = (accepted (passing (goal.at.list_ties-found-requires c).Else-told-ne0)).narrow
 
 pub returns-then-found-ne0 : goal.returns-then-found-ne0
-returns-then-found-ne0 c = let both = picking-refused _ _ _ _ _ c.if-found-ne0.true (told-list (goal.at.returns-then-found-ne0 c).After-list_ties-found) in record { answer = both.0; after = both.1; }
+returns-then-found-ne0 c = let both = picking-refused _ _ _ _ _ c.if-found-ne0.true (told-list (goal.at.returns-then-found-ne0 c).After-list_ties-found) in record { answer = both.0; after = both.1 }
 
 pub chosen_by-nearest-requires : goal.chosen_by-nearest-requires
 chosen_by-nearest-requires c = (going (goal.at.chosen_by-nearest-requires c).Else-found-ne0).listed
@@ -52,7 +52,7 @@ pub overflow_cast-result : goal.overflow_cast-result
 overflow_cast-result c = omega (arith, (going (goal.at.overflow_cast-result c).Else-found-ne0).few)
 
 pub returns-then-found-eq1 : goal.returns-then-found-eq1
-returns-then-found-eq1 c = let both = made_alone (going (goal.at.returns-then-found-eq1 c).Else-found-ne0) c.if-found-eq1.true c.chosen_by-nearest.ensures in record { answer = both.0; after = both.1; }
+returns-then-found-eq1 c = let both = made_alone (going (goal.at.returns-then-found-eq1 c).Else-found-ne0) c.if-found-eq1.true c.chosen_by-nearest.ensures in record { answer = both.0; after = both.1 }
 
 pub overflow_cast-found : goal.overflow_cast-found
 overflow_cast-found c = omega (arith, (going (goal.at.overflow_cast-found c).Else-found-ne0).few)
@@ -68,4 +68,4 @@ pub overflow_cast-result-2 : goal.overflow_cast-result-2
 overflow_cast-result-2 c = omega (arith, (going (goal.at.overflow_cast-result-2 c).Else-found-ne0).few)
 
 pub returns : goal.returns
-returns c = let e = c.draw_rank-drawn.ensures in let both = made (going (goal.at.returns c).Else-found-ne0) (ap (λ (d : Sample). d.rank) e.drawn) (ap (λ (d : Sample). d.taken) e.drawn) e.after c.chosen_by-number.ensures in record { answer = both.0; after = both.1; }
+returns c = let e = c.draw_rank-drawn.ensures in let both = made (going (goal.at.returns c).Else-found-ne0) (ap (λ (d : Sample). d.rank) e.drawn) (ap (λ (d : Sample). d.taken) e.drawn) e.after c.chosen_by-number.ensures in record { answer = both.0; after = both.1 }

@@ -40,7 +40,7 @@ last c =
 pub returns-then-told-ne0 : goal.returns-then-told-ne0
 returns-then-told-ne0 c = let a = c.args in
     let e = c.list_refusal-told.ensures in
-    let ne = c.if-told-ne0.true in let both = told a.shovels.now a.times.now a.n _ ne (e ∙ sym (first-left (list_checks a.shovels.now a.times.now) _ (λ z. ne (e ∙ z)))) _ c.refused.ensures in record { refusal = both.0; found = both.1; }
+    let ne = c.if-told-ne0.true in let both = told a.shovels.now a.times.now a.n _ ne (e ∙ sym (first-left (list_checks a.shovels.now a.times.now) _ (λ z. ne (e ∙ z)))) _ c.refused.ensures in record { refusal = both.0; found = both.1 }
 
 pub least_time-least-requires : goal.least_time-least-requires
 least_time-least-requires c = (allowed c).some
@@ -49,7 +49,7 @@ pub overflow_cast-k : goal.overflow_cast-k
 overflow_cast-k c = omega (arith, c.ties_of-k.ensures, (ties-few (allowed (goal.at.overflow_cast-k c).Else-told-ne0)).1)
 
 pub returns-then-over-ne0 : goal.returns-then-over-ne0
-returns-then-over-ne0 c = let both = told _ _ _ _ c.if-over-ne0.true (last (goal.at.returns-then-over-ne0 c).After-ties_refusal-over) _ c.refused-then-over-ne0.ensures in record { refusal = both.0; found = both.1; }
+returns-then-over-ne0 c = let both = told _ _ _ _ c.if-over-ne0.true (last (goal.at.returns-then-over-ne0 c).After-ties_refusal-over) _ c.refused-then-over-ne0.ensures in record { refusal = both.0; found = both.1 }
 
 pub returns : goal.returns
-returns c = record { refusal = sym c.if-over-ne0.false ∙ last (goal.at.returns c).After-ties_refusal-over; found = λ z. (c.least_time-least.ensures, c.ties_of-k.ensures); }
+returns c = record { refusal = sym c.if-over-ne0.false ∙ last (goal.at.returns c).After-ties_refusal-over; found = λ z. (c.least_time-least.ensures, c.ties_of-k.ensures) }

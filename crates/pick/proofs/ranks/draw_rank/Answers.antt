@@ -21,7 +21,7 @@ tsc1_rank-requires c = let p = c.requires in
     (subst (λ (d : Card). IsState d c.args.state.now) (p.1 c.if-is_tsc1.true) p.2, p.3, p.4)
 
 pub returns-then-is_tsc1 : goal.returns-then-is_tsc1
-returns-then-is_tsc1 c = let both = rw (c.requires.1 c.if-is_tsc1.true) c.tsc1_rank.ensures in record { drawn = both.0; after = both.1; }
+returns-then-is_tsc1 c = let both = rw (c.requires.1 c.if-is_tsc1.true) c.tsc1_rank.ensures in record { drawn = both.0; after = both.1 }
 
 pub load-held-requires : goal.load-held-requires
 load-held-requires c = few (goal.at.load-held-requires c).Start
@@ -34,4 +34,4 @@ pub store-requires : goal.store-requires
 store-requires c = few (goal.at.store-requires c).Start
 
 pub returns : goal.returns
-returns c = let both = rank_made c.args.card c.args.state.now _ c.requires.2 c.load-held.ensures c.draw_rank-drawn.ensures c.store.ensures in record { drawn = both.0; after = both.1; }
+returns c = let both = rank_made c.args.card c.args.state.now _ c.requires.2 c.load-held.ensures c.draw_rank-drawn.ensures c.store.ensures in record { drawn = both.0; after = both.1 }

@@ -18,4 +18,4 @@ pub store-requires : goal.store-requires
 store-requires c = omega (arith, c.requires.0.0)
 
 pub returns : goal.returns
-returns c = let both = rank_made tsc1_card c.args.state.now _ c.requires.0 c.load-held.ensures c.draw_rank-made.ensures c.store.ensures in record { drawn = both.0; after = both.1; }
+returns c = let both = rank_made tsc1_card c.args.state.now _ c.requires.0 c.load-held.ensures c.draw_rank-made.ensures c.store.ensures in record { drawn = both.0; after = both.1 }

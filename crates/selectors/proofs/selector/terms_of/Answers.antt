@@ -14,9 +14,9 @@ returns-then-card-eq1 c = let width = c.width_of-width.ensures in
 
 pub returns-else-card-eq1 : goal.returns-else-card-eq1
 returns-else-card-eq1 c = record {
-      words = refl;
-      width = c.width_of-width.ensures;
-      absent = c.absent_words-absent.ensures;
-      constant = refl;
-      doubled = simp (ne_eqb _ _ c.if-card-eq1.false) refl;
-    }
+  words = refl;
+  width = c.width_of-width.ensures;
+  absent = c.absent_words-absent.ensures;
+  constant = refl;
+  doubled = simp (ne_eqb _ _ c.if-card-eq1.false) refl;
+}

@@ -17,7 +17,7 @@ pub selector_by-select-requires : goal.selector_by-select-requires
 selector_by-select-requires c = (terms_width c.args.card c.args.terms c.requires.0.accepted c.requires.0.selects, omega arith)
 
 pub replace_column-found-requires : goal.replace_column-found-requires
-replace_column-found-requires c = let width = terms_width c.args.card c.args.terms c.requires.0.accepted c.requires.0.selects in record { i_lt_widest_width = (omega (arith, width.1), omega arith); by_index = built_lt (step_back c.args.card (used c.args.card c.args.s)) c.loop-i.i c.loop-i.found (c.loop-i.invariant.2 c.args.card c.requires.0); }
+replace_column-found-requires c = let width = terms_width c.args.card c.args.terms c.requires.0.accepted c.requires.0.selects in record { i_lt_widest_width = (omega (arith, width.1), omega arith); by_index = built_lt (step_back c.args.card (used c.args.card c.args.s)) c.loop-i.i c.loop-i.found (c.loop-i.invariant.2 c.args.card c.requires.0) }
 
 pub loop-i-preserved : goal.loop-i-preserved
 loop-i-preserved c = let l = c.loop-i in
