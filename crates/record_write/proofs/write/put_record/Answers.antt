@@ -16,7 +16,7 @@ returns c = let a = c.args in
     let b = bytes_of (word_field (length xs)) xs in
     let head : List ℕ = 31 ∷ a.truck % 256 ∷ a.truck / 256 ∷ a.shovel % 256 ∷ a.shovel / 256 ∷ a.ties ∷ a.taken ∷ length xs ∷ [] in
     let d = a.page.now in
-    let p = c.put_bytes.new.1.0 in
+    let p = c.put_bytes.new.page in
     let begun = c.put_bytes.ensures in
     let w = encoded_full a.truck a.shovel a.ties a.taken xs (omega arith) (omega arith) (omega arith) (omega arith) (omega arith) in
     let n = length_full a.truck a.shovel a.ties a.taken xs (omega arith) (omega arith) (omega arith) (omega arith) (omega arith) in

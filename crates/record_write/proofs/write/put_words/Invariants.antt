@@ -1,15 +1,10 @@
-use mathlib.Core.Path.{◌≡◌, refl, sym, ap, ap₂, ◌∙◌}
-use mathlib.Core.List.{List, ◌++◌}
-use Prim.Native.Nat.{ℕ, ◌+◌, ◌-◌, ◌*◌, ◌≤◌, ◌<◌}
-use native.Mathlib.Omega.{arith}
-use lib.ListN.{length, get_or, take, drop, length-drop}
-use lib.Seq.{take_all, length-take-le}
+use mathlib.Core.Path.{◌≡◌}
+use mathlib.Core.List.{List}
+use Prim.Native.Nat.{ℕ, ◌-◌, ◌*◌, ◌≤◌}
+use lib.ListN.{length}
 use Rattle.card_format.specs.Fields.{bytes_of}
-use Rattle.cycle.proofs.Lists.{over, length_over, part_rest, put_next}
-use Rattle.card_fields.specs.LowBytes.{low_bytes}
-use Rattle.card_fields.proofs.LowBytes.{length-low_bytes}
+use Rattle.cycle.proofs.Lists.{over}
 use Rattle.records.specs.Fields.{word_field}
-use Rattle.record_write.proofs.Bytes.{length-bytes, bytes_next}
 use Rattle.record_write.proofs.write.put_words.Given as goal
 
 -- the bytes of the words before word k are at the start of the part
