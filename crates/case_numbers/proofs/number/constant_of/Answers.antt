@@ -4,7 +4,6 @@ use lib.ListN.{length, drop, length-drop}
 use lib.Seq.{take_all}
 use native.Mathlib.Omega.{arith}
 use Rattle.case_numbers.specs.Numbers.{numeral, constant_in}
-use borrow.Author.Rules.{rules}
 use Rattle.case_numbers.proofs.number.constant_of.Goals as goal
 
 pub slice_bounds-number_of-count : goal.slice_bounds-number_of-count

@@ -1,9 +1,9 @@
-use mathlib.Core.Path.{◌≡◌, refl, sym, ap, ◌∙◌}
-use Prim.Native.Nat.{ℕ, ◌+◌, ◌-◌, ◌≤◌}
+use mathlib.Core.Path.{refl, sym, ap, ◌∙◌}
+use Prim.Native.Nat.{ℕ, ◌+◌}
 use native.Mathlib.Omega.{arith}
 use borrow.Author.Tests.{eq-eqb, ne_eqb}
-use lib.ListN.{length, drop}
-use Rattle.case_numbers.specs.Numbers.{fold, digit_of, with_digit, numeral, malformed}
+use lib.ListN.{drop}
+use Rattle.case_numbers.specs.Numbers.{fold, with_digit, numeral}
 use Rattle.case_numbers.proofs.Fold.{fold_next, fold_end}
 use Rattle.case_numbers.proofs.number.number_of.Invariants.{put}
 use Rattle.case_numbers.proofs.number.number_of.Goals as goal

@@ -1,10 +1,7 @@
-use mathlib.Core.Path.{◌≡◌, refl, sym, ap, ◌∙◌}
-use Prim.Native.Nat.{ℕ, ◌+◌, ◌-◌, ◌≤◌}
-use native.Mathlib.Omega.{arith}
-use borrow.Author.Tests.{eq-eqb, ne_eqb}
+use mathlib.Core.Path.{◌≡◌}
+use Prim.Native.Nat.{ℕ, ◌-◌, ◌≤◌}
 use lib.ListN.{length, drop}
-use Rattle.case_numbers.specs.Numbers.{fold, digit_of, with_digit, numeral, malformed}
-use Rattle.case_numbers.proofs.Fold.{fold_next, fold_end}
+use Rattle.case_numbers.specs.Numbers.{fold, digit_of, with_digit, malformed}
 use Rattle.case_numbers.proofs.number.number_of.Given as goal
 
 abbrev pub put : ℕ → ℕ → ℕ → ℕ
