@@ -1,6 +1,5 @@
 use mathlib.Core.Path.{sym, ap, subst, ◌∙◌}
 use Prim.Native.Nat.{ℕ, ◌≤◌}
-use native.Mathlib.Omega.{arith}
 use lib.ListN.{length}
 use Rattle.bit_counts.specs.Bits.{bits_of}
 use Rattle.bit_counts.proofs.Bits.{length-bits_of}
@@ -23,4 +22,4 @@ counts_of-requires c = let a = c.args in
 
 pub returns : goal.returns
 returns c = let a = c.args in
-    let put = c.put_words-t.ensures in record { counted = c.counts_of.ensures ∙ ap counts_from put.counted ∙ pass_counts (bits_of a.n a.strip.now) (strip_bits_lem a.n a.strip.now) (few (goal.at.returns c).Start); page = put.page; }
+    let put = c.put_words-t.ensures in record { counted = c.counts_of.ensures ∙ ap counts_from put.counted ∙ pass_counts (bits_of a.n a.strip.now) (strip_bits_lem a.n a.strip.now) (few (goal.at.returns c).Start); page = put.page }

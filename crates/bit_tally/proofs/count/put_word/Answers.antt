@@ -1,10 +1,10 @@
 use mathlib.Core.Path.{◌≡◌, refl, sym, ap, ◌∙◌, subst}
 use mathlib.Core.List.{List, ◌++◌}
-use Prim.Native.Nat.{ℕ, suc, ◌+◌, ◌-◌, ◌≤◌, ◌<◌}
+use Prim.Native.Nat.{ℕ, suc, ◌-◌, ◌<◌}
 use native.Mathlib.Omega.{arith}
 use lib.ListN.{length, get_or, set, drop}
 use lib.Seq.{take_all}
-use Rattle.tsc.specs.Constants.{widest_width}
+use Rattle.cycle.specs.Notation.{bit}
 use Rattle.cycle.proofs.Bits.{bit_lt}
 use Rattle.cycle.proofs.Lists.{over, over_suc, length_over}
 use Rattle.bit_counts.specs.Bits.{word_bits, digit, text}
@@ -13,8 +13,12 @@ use Rattle.bit_tally.specs.declared.tally.Tally.{Tally}
 use Rattle.bit_tally.specs.Tally.{with_bit, tallied, HasRoom}
 use Rattle.bit_tally.proofs.Room.{room-bit, room_less}
 use Rattle.bit_tally.proofs.Text.{digit_at, bit_next, no_bits}
-use Rattle.bit_tally.proofs.count.put_word.Invariants.{Put, narrow}
+use Rattle.bit_tally.proofs.count.put_word.Invariants.{Put}
 use Rattle.bit_tally.proofs.count.put_word.Goals as goal
+
+-- the bit is 0 or 1
+narrow : (b j w : ℕ) → b ≡ bit j w → b < 2
+narrow b j w e = subst (λ (b : ℕ). b < 2) (sym e) (bit_lt j w)
 
 -- the part keeps its length
 kept : {word n : ℕ} {part₀ : List ℕ} {t : Tally} {part : List ℕ} {tally : Tally} {left i : ℕ} → Put word n part₀ t part tally left i → length part ≡ length part₀
@@ -30,7 +34,7 @@ pub bit_of-bit-requires : goal.bit_of-bit-requires
 bit_of-bit-requires c = let p = c.loop-left.invariant in omega (arith, p.places, p.narrow)
 
 pub digit_of-requires : goal.digit_of-requires
-digit_of-requires c = narrow c
+digit_of-requires c = narrow _ _ _ c.bit_of-bit.ensures
 
 pub overflow_cast-part : goal.overflow_cast-part
 overflow_cast-part c = let p = c.loop-left.invariant in omega (arith, p.places, p.narrow)
@@ -39,7 +43,7 @@ pub bounds-part-i : goal.bounds-part-i
 bounds-part-i c = let p = c.loop-left.invariant in omega (arith, kept p, p.places, p.room)
 
 pub with_bit-tally-requires : goal.with_bit-tally-requires
-with_bit-tally-requires c = let l = c.loop-left in (narrow (goal.at.with_bit-tally-requires c).After-bit_of-bit, room_less l.tally l.left 1 (omega arith) l.invariant.bits)
+with_bit-tally-requires c = let l = c.loop-left in (narrow _ _ _ c.bit_of-bit.ensures, room_less l.tally l.left 1 (omega arith) l.invariant.bits)
 
 pub overflow_add-i : goal.overflow_add-i
 overflow_add-i c = let p = c.loop-left.invariant in omega (arith, p.places, p.narrow)
@@ -75,4 +79,4 @@ returns c = let l = c.loop-left in
     let p = l.invariant in
     let s = text (word_bits a.n a.word) in
     let size = length-text (word_bits a.n a.word) ∙ length-word_bits a.n a.word in
-    let all : l.i ≡ a.n = omega (arith, p.places) in record { counted = sym (no_bits l.tally l.left a.word (omega arith)) ∙ p.counted; page = p.page ∙ ap (over s a.part.now) all ∙ ap (λ (w : List ℕ). w ++ drop a.n a.part.now) (take_all a.n s (omega (arith, size))); }
+    let all : l.i ≡ a.n = omega (arith, p.places) in record { counted = sym (no_bits l.tally l.left a.word (omega arith)) ∙ p.counted; page = p.page ∙ ap (over s a.part.now) all ∙ ap (λ (w : List ℕ). w ++ drop a.n a.part.now) (take_all a.n s (omega (arith, size))) }

@@ -5,12 +5,11 @@ use native.Mathlib.Nat.{mul-le-mul_left}
 use native.Mathlib.Omega.{arith}
 use lib.ListN.{length, get_or, take, drop, length-drop}
 use lib.Seq.{take_all}
-use Rattle.tsc.specs.Constants.{widest_width}
 use Rattle.cycle.proofs.Lists.{part_rest, put_next, length_front}
 use Rattle.bit_counts.specs.Bits.{word_bits, bits_of, text}
 use Rattle.bit_counts.proofs.Bits.{length-word_bits, length-text}
 use Rattle.bit_tally.specs.declared.tally.Tally.{Tally}
-use Rattle.bit_tally.specs.Tally.{base, tally_of_none, tallied, HasRoom}
+use Rattle.bit_tally.specs.Tally.{base, tallied, HasRoom}
 use Rattle.bit_tally.proofs.Room.{few_bits, room_bits, room_less, room-first}
 use Rattle.bit_tally.proofs.Text.{word_bits_lem, word_next, text_next, length-words, no_words, all_counted, place_next, place_room, places_left}
 use Rattle.bit_tally.proofs.count.put_words.Invariants.{Put}
@@ -108,5 +107,8 @@ returns c = let l = c.loop-k in
     let p = l.invariant in
     let n = a.n in
     let xs = a.strip.now in
-    let all : l.k ≡ length xs = omega (arith, p.within) in record { counted = all_counted n xs l.t l.k all ∙ p.counted; page = p.written ∙ ap (λ (k : ℕ). text (bits_of n (take k xs)) ++ drop (n * k) a.page.now) all
-          ∙ ap (λ (s : List ℕ). text (bits_of n s) ++ drop (n * length xs) a.page.now) (take_all (length xs) xs (omega arith)); }
+    let all : l.k ≡ length xs = omega (arith, p.within) in record {
+      counted = all_counted n xs l.t l.k all ∙ p.counted;
+      page = p.written ∙ ap (λ (k : ℕ). text (bits_of n (take k xs)) ++ drop (n * k) a.page.now) all
+          ∙ ap (λ (s : List ℕ). text (bits_of n s) ++ drop (n * length xs) a.page.now) (take_all (length xs) xs (omega arith));
+    }

@@ -1,18 +1,11 @@
-use mathlib.Core.Path.{◌≡◌, sym, ap, ap₂, ◌∙◌, subst}
+use mathlib.Core.Path.{◌≡◌}
 use mathlib.Core.List.{List, ◌++◌}
-use Prim.Native.Nat.{ℕ, ◌+◌, ◌-◌, ◌*◌, ◌≤◌, ◌<◌}
-use native.Mathlib.Nat.{mul-le-mul_left}
-use native.Mathlib.Omega.{arith}
-use lib.ListN.{length, get_or, take, drop, length-drop}
-use lib.Seq.{take_all}
+use Prim.Native.Nat.{ℕ, ◌-◌, ◌*◌, ◌≤◌}
+use lib.ListN.{length, take, drop}
 use Rattle.tsc.specs.Constants.{widest_width}
-use Rattle.cycle.proofs.Lists.{part_rest, put_next, length_front}
-use Rattle.bit_counts.specs.Bits.{word_bits, bits_of, text}
-use Rattle.bit_counts.proofs.Bits.{length-word_bits, length-text}
+use Rattle.bit_counts.specs.Bits.{bits_of, text}
 use Rattle.bit_tally.specs.declared.tally.Tally.{Tally}
 use Rattle.bit_tally.specs.Tally.{base, tally_of_none, tallied, HasRoom}
-use Rattle.bit_tally.proofs.Room.{few_bits, room_bits, room_less, room-first}
-use Rattle.bit_tally.proofs.Text.{word_bits_lem, word_next, text_next, length-words, no_words, all_counted, place_next, place_room, places_left}
 use Rattle.bit_tally.proofs.count.put_words.Given as goal
 
 -- the words before word k are put and counted
