@@ -26,11 +26,11 @@ refusal : (o : After-call_refusal-refused) → let a = o.args in o.call_refusal-
 refusal o = told _ _ o.accept-found.result o.accept-found.ensures o.call_refusal-refused.ensures
 
 -- past the first test they are not refused
-passing : (c : Else-refused-ne0) → let a = c.args in Clear a.card.now a.state.now (given o)
+passing : (c : Else-refused-ne0) → let a = c.args in Clear a.card.now a.state.now c.accept-found.result.card
 passing c = clear _ _ c.accept-found.result c.accept-found.ensures (sym ((told _ _ c.accept-found.result c.accept-found.ensures c.call_refusal-refused.ensures)) ∙ c.if-refused-ne0.false)
 
 -- the gate formulas are taken for TSC-1's card alone
-asked : (c : Else-refused-ne0) → OnlyTsc1 c.is_tsc1-is_tsc1.result (given o)
+asked : (c : Else-refused-ne0) → OnlyTsc1 c.is_tsc1-is_tsc1.result c.accept-found.result.card
 asked c = only-p1 _ _ _ (passing c).card_is c.is_tsc1-is_tsc1.ensures
 
 -- past the second the span is not
@@ -41,10 +41,10 @@ inside : (c : Else-told-ne0) → let a = c.args in a.place + a.count ≤ length 
 inside c = span_within _ _ _ (fits c)
 
 pub returns-then-refused-ne0 : goal.returns-then-refused-ne0
-returns-then-refused-ne0 c = let a = c.args in let both = refused_call a.card.now a.state.now a.strip.now a.place a.count _ (refusal (goal.at.returns-then-refused-ne0 c).After-call_refusal-refused) c.if-refused-ne0.true in record { answer = both.0; words = both.1; after = both.2 }
+returns-then-refused-ne0 c = let a = c.args in let both = refused_call a.card.now a.state.now a.strip.now a.place a.count _ (refusal (goal.at.returns-then-refused-ne0 c).After-call_refusal-refused) c.if-refused-ne0.true in record { answer = both.0; words = both.1.0; after = both.1.1 }
 
 pub returns-then-told-ne0 : goal.returns-then-told-ne0
-returns-then-told-ne0 c = let both = refused_span _ _ _ _ _ (passing (goal.at.returns-then-told-ne0 c).Else-refused-ne0) _ c.span_refusal-told.ensures c.if-told-ne0.true in record { answer = both.0; words = both.1; after = both.2 }
+returns-then-told-ne0 c = let both = refused_span _ _ _ _ _ (passing (goal.at.returns-then-told-ne0 c).Else-refused-ne0) _ c.span_refusal-told.ensures c.if-told-ne0.true in record { answer = both.0; words = both.1.0; after = both.1.1 }
 
 pub load-held-requires : goal.load-held-requires
 load-held-requires c = few (passing (goal.at.load-held-requires c).Else-refused-ne0)
@@ -67,4 +67,4 @@ pub store-requires : goal.store-requires
 store-requires c = few (passing (goal.at.store-requires c).Else-refused-ne0)
 
 pub returns : goal.returns
-returns c = let both = made _ _ _ _ _ (passing (goal.at.returns c).Else-refused-ne0) (fits (goal.at.returns c).Else-told-ne0) c.load-held.ensures c.fill_words-last.ensures.value c.fill_words-last.ensures.words_after c.store.ensures in record { answer = both.0; words = both.1; after = both.2 }
+returns c = let both = made _ _ _ _ _ (passing (goal.at.returns c).Else-refused-ne0) (fits (goal.at.returns c).Else-told-ne0) c.load-held.ensures c.fill_words-last.ensures.value c.fill_words-last.ensures.words_after c.store.ensures in record { answer = both.0; words = both.1.0; after = both.1.1 }

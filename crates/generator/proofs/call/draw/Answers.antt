@@ -39,7 +39,7 @@ steps c =
     record { accepted = accepted k; holds = ready k c.load-held.ensures; selects = c.terms_of-terms.ensures; first = c.powers_of-p.ensures.0; second = c.powers_of-p.ensures.1 }
 
 pub returns-then-told-ne0 : goal.returns-then-told-ne0
-returns-then-told-ne0 c = let both = draw_refused (bytes (goal.at.returns-then-told-ne0 c).After-call_refusal-told) (xs (goal.at.returns-then-told-ne0 c).After-call_refusal-told) _ (refusal (goal.at.returns-then-told-ne0 c).After-call_refusal-told) c.if-told-ne0.true in record { answer = both.0; after = both.1; narrow = both.2 }
+returns-then-told-ne0 c = let both = draw_refused (bytes (goal.at.returns-then-told-ne0 c).After-call_refusal-told) (xs (goal.at.returns-then-told-ne0 c).After-call_refusal-told) _ (refusal (goal.at.returns-then-told-ne0 c).After-call_refusal-told) c.if-told-ne0.true in record { answer = both.0; after = both.1.0; narrow = both.1.1 }
 
 pub load-held-requires : goal.load-held-requires
 load-held-requires c = few (passing c)
@@ -49,7 +49,7 @@ store-requires c = few (passing (goal.at.store-requires c).Else-told-ne0)
 
 -- TSC-1, by its gate formulas
 pub returns-then-is_tsc1 : goal.returns-then-is_tsc1
-returns-then-is_tsc1 c = let e = c.next_output-made.ensures in let both = draw_made (clear_tsc1 (passing (goal.at.returns-then-is_tsc1 c).Else-told-ne0) c.is_tsc1.ensures c.if-is_tsc1.true) c.load-held.ensures (ap (λ (o : Output). o.word) e) (ap (λ (o : Output). o.state) e) c.store.ensures in record { answer = both.0; after = both.1; narrow = both.2 }
+returns-then-is_tsc1 c = let e = c.next_output-made.ensures in let both = draw_made (clear_tsc1 (passing (goal.at.returns-then-is_tsc1 c).Else-told-ne0) c.is_tsc1.ensures c.if-is_tsc1.true) c.load-held.ensures (ap (λ (o : Output). o.word) e) (ap (λ (o : Output). o.state) e) c.store.ensures in record { answer = both.0; after = both.1.0; narrow = both.1.1 }
 
 pub terms_of-terms-requires : goal.terms_of-terms-requires
 terms_of-terms-requires c = sized (given (goal.at.terms_of-terms-requires c).After-call_refusal-told) (accepted (passing (goal.at.terms_of-terms-requires c).Else-told-ne0))
@@ -73,4 +73,4 @@ pub store-requires-2 : goal.store-requires-2
 store-requires-2 c = few (passing (goal.at.store-requires-2 c).Else-told-ne0)
 
 pub returns : goal.returns
-returns c = let e = c.next_output-drawn.ensures (given (goal.at.returns c).After-call_refusal-told) (steps (goal.at.returns c).After-powers_of-p) c.rotations_of-rotations.ensures in let both = draw_made (passing (goal.at.returns c).Else-told-ne0) c.load-held.ensures (ap (λ (o : Output). o.word) e) (ap (λ (o : Output). o.state) e) c.store-2.ensures in record { answer = both.0; after = both.1; narrow = both.2 }
+returns c = let e = c.next_output-drawn.ensures (given (goal.at.returns c).After-call_refusal-told) (steps (goal.at.returns c).After-powers_of-p) c.rotations_of-rotations.ensures in let both = draw_made (passing (goal.at.returns c).Else-told-ne0) c.load-held.ensures (ap (λ (o : Output). o.word) e) (ap (λ (o : Output). o.state) e) c.store-2.ensures in record { answer = both.0; after = both.1.0; narrow = both.1.1 }

@@ -41,7 +41,7 @@ steps c =
 
 pub returns-then-told-ne0 : goal.returns-then-told-ne0
 unfolding stepped
-returns-then-told-ne0 c = let both = call_refused (bytes (goal.at.returns-then-told-ne0 c).After-call_refusal-told) (xs (goal.at.returns-then-told-ne0 c).After-call_refusal-told) (step (card_of (bytes (goal.at.returns-then-told-ne0 c).After-call_refusal-told)) (xs (goal.at.returns-then-told-ne0 c).After-call_refusal-told)) _ _ (refusal (goal.at.returns-then-told-ne0 c).After-call_refusal-told) c.if-told-ne0.true in record { answer = both.0; after = both.1; undone = both.2 }
+returns-then-told-ne0 c = let both = call_refused (bytes (goal.at.returns-then-told-ne0 c).After-call_refusal-told) (xs (goal.at.returns-then-told-ne0 c).After-call_refusal-told) (step (card_of (bytes (goal.at.returns-then-told-ne0 c).After-call_refusal-told)) (xs (goal.at.returns-then-told-ne0 c).After-call_refusal-told)) _ _ (refusal (goal.at.returns-then-told-ne0 c).After-call_refusal-told) c.if-told-ne0.true in record { answer = both.0; after = both.1.0; undone = both.1.1 }
 
 pub load-held-requires : goal.load-held-requires
 load-held-requires c = few (passing c)
@@ -51,7 +51,7 @@ store-requires c = few (passing (goal.at.store-requires c).Else-told-ne0)
 
 -- TSC-1, by its gate formulas
 pub returns-then-is_tsc1 : goal.returns-then-is_tsc1
-returns-then-is_tsc1 c = let both = step_made (clear_tsc1 (passing (goal.at.returns-then-is_tsc1 c).Else-told-ne0) c.is_tsc1.ensures c.if-is_tsc1.true) c.load-held.ensures c.next_state.ensures c.store.ensures in record { answer = both.0; after = both.1; undone = both.2 }
+returns-then-is_tsc1 c = let both = step_made (clear_tsc1 (passing (goal.at.returns-then-is_tsc1 c).Else-told-ne0) c.is_tsc1.ensures c.if-is_tsc1.true) c.load-held.ensures c.next_state.ensures c.store.ensures in record { answer = both.0; after = both.1.0; undone = both.1.1 }
 
 pub terms_of-terms-requires : goal.terms_of-terms-requires
 terms_of-terms-requires c = sized (given (goal.at.terms_of-terms-requires c).After-call_refusal-told) (accepted (passing (goal.at.terms_of-terms-requires c).Else-told-ne0))
@@ -72,4 +72,4 @@ pub store-requires-2 : goal.store-requires-2
 store-requires-2 c = few (passing (goal.at.store-requires-2 c).Else-told-ne0)
 
 pub returns : goal.returns
-returns c = let st = c.next_state-next.ensures (given (goal.at.returns c).After-call_refusal-told) (steps (goal.at.returns c).After-powers_of-p) in let both = step_made (passing (goal.at.returns c).Else-told-ne0) c.load-held.ensures st c.store-2.ensures in record { answer = both.0; after = both.1; undone = both.2 }
+returns c = let st = c.next_state-next.ensures (given (goal.at.returns c).After-call_refusal-told) (steps (goal.at.returns c).After-powers_of-p) in let both = step_made (passing (goal.at.returns c).Else-told-ne0) c.load-held.ensures st c.store-2.ensures in record { answer = both.0; after = both.1.0; undone = both.1.1 }

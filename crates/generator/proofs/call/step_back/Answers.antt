@@ -40,7 +40,7 @@ undoes c =
 
 pub returns-then-told-ne0 : goal.returns-then-told-ne0
 unfolding stepped_back
-returns-then-told-ne0 c = let both = call_refused (bytes (goal.at.returns-then-told-ne0 c).After-call_refusal-told) (xs (goal.at.returns-then-told-ne0 c).After-call_refusal-told) (step_back (card_of (bytes (goal.at.returns-then-told-ne0 c).After-call_refusal-told)) (xs (goal.at.returns-then-told-ne0 c).After-call_refusal-told)) _ _ (refusal (goal.at.returns-then-told-ne0 c).After-call_refusal-told) c.if-told-ne0.true in record { answer = both.0; after = both.1; only = both.2 }
+returns-then-told-ne0 c = let both = call_refused (bytes (goal.at.returns-then-told-ne0 c).After-call_refusal-told) (xs (goal.at.returns-then-told-ne0 c).After-call_refusal-told) (step_back (card_of (bytes (goal.at.returns-then-told-ne0 c).After-call_refusal-told)) (xs (goal.at.returns-then-told-ne0 c).After-call_refusal-told)) _ _ (refusal (goal.at.returns-then-told-ne0 c).After-call_refusal-told) c.if-told-ne0.true in record { answer = both.0; after = both.1.0; only = both.1.1 }
 
 pub load-held-requires : goal.load-held-requires
 load-held-requires c = few (passing c)
@@ -64,4 +64,4 @@ pub store-requires : goal.store-requires
 store-requires c = few (passing (goal.at.store-requires c).Else-told-ne0)
 
 pub returns : goal.returns
-returns c = let both = step_back_made (passing (goal.at.returns c).Else-told-ne0) c.load-held.ensures c.previous_state-previous.ensures c.store.ensures in record { answer = both.0; after = both.1; only = both.2 }
+returns c = let both = step_back_made (passing (goal.at.returns c).Else-told-ne0) c.load-held.ensures c.previous_state-previous.ensures c.store.ensures in record { answer = both.0; after = both.1.0; only = both.1.1 }

@@ -24,13 +24,15 @@ pick_by-p-requires c = let n = size (goal.at.pick_by-p-requires c).After-changed
     (c.requires.width_le_widest_width.0, c.requires.width_le_widest_width.1 ∙ sym n, omega (arith, n, c.requires.place_in_bounds.0), omega (arith, n, c.requires.width_le_widest_width.2))
 
 pub overflow_cast-result : goal.overflow_cast-result
-overflow_cast-result c = omega (arith, c.pick_by-p.ensures.ties.0, ties_le (take (length c.args.times.now) c.changed_times-list.result), size (goal.at.overflow_cast-result c).After-changed_times-list, c.requires.width_le_widest_width.2)
+overflow_cast-result c = omega (arith, c.pick_by-p.ensures.ties, ties_le (take (length c.args.times.now) c.changed_times-list.result), size (goal.at.overflow_cast-result c).After-changed_times-list, c.requires.width_le_widest_width.2)
 
 pub returns : goal.returns
 returns c = let a = c.args in
     let p = c.pick_by-p.ensures in
     let e = c.changed_times-list.ensures in
-    let drawn : List ℕ → Ranked = λ ys. ranked a.known.width a.known.words (ties ys) in let both = (
-      (refl, refl, refl),
-      (p.shovel ∙ ap (λ (ys : List ℕ). chosen a.shovels.now ys (drawn ys).rank) e, (p.ties.0 ∙ ap ties e, p.ties.1 ∙ ap (λ (ys : List ℕ). (drawn ys).taken) e)),
-    ) in record { change = both.0; shovel = both.1; ties = both.2; taken = both.3 }
+    let drawn : List ℕ → Ranked = λ ys. ranked a.known.width a.known.words (ties ys) in record {
+      change = (refl, refl, refl);
+      shovel = p.shovel ∙ ap (λ (ys : List ℕ). chosen a.shovels.now ys (drawn ys).rank) e;
+      ties = p.ties ∙ ap ties e;
+      taken = p.taken ∙ ap (λ (ys : List ℕ). (drawn ys).taken) e;
+    }

@@ -9,4 +9,4 @@ use Rattle.margin.proofs.chosen.known_of.Goals as goal
 
 pub returns : goal.returns
 returns c = let a = c.args in
-    let place : Ranked → ℕ = λ d. first (length a.times.now) (has_rank a.shovels.now a.times.now d.rank) in let both = (refl, (c.words_of-words.ensures, c.place_by.ensures ∙ ap place c.rank_among-drawn.ensures)) in record { width = both.0; words = both.1; chosen = both.2 }
+    let place : Ranked → ℕ = λ d. first (length a.times.now) (has_rank a.shovels.now a.times.now d.rank) in record { width = refl; words = c.words_of-words.ensures; chosen = c.place_by.ensures ∙ ap place c.rank_among-drawn.ensures }

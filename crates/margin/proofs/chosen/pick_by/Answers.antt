@@ -16,4 +16,8 @@ rank_among-drawn-requires c = (c.requires.0, rw c.ties_of-k.ensures (ties-some c
 pub returns : goal.returns
 returns c = let a = c.args in
     let k = c.ties_of-k.ensures in
-    let e = c.rank_among-drawn.ensures ∙ ap (ranked a.known.width a.known.words) k in let both = (c.chosen_by.ensures ∙ ap (λ (d : Ranked). chosen a.shovels.now a.times.now d.rank) e, (k, ap (λ (d : Ranked). d.taken) e)) in record { shovel = both.0; ties = both.1; taken = both.2 }
+    let e = c.rank_among-drawn.ensures ∙ ap (ranked a.known.width a.known.words) k in record {
+      shovel = c.chosen_by.ensures ∙ ap (λ (d : Ranked). chosen a.shovels.now a.times.now d.rank) e;
+      ties = k;
+      taken = ap (λ (d : Ranked). d.taken) e;
+    }

@@ -23,7 +23,7 @@ refusal : (o : After-call_refusal-told) → let a = o.args in o.call_refusal-tol
 refusal o = told _ _ o.accept-accepted.result o.accept-accepted.ensures o.call_refusal-told.ensures
 
 -- past the first test they are not refused
-passing : (c : Else-told-ne0) → let a = c.args in Clear a.card.now a.state.now (given o)
+passing : (c : Else-told-ne0) → let a = c.args in Clear a.card.now a.state.now c.accept-accepted.result.card
 passing c = clear _ _ c.accept-accepted.result c.accept-accepted.ensures (sym ((told _ _ c.accept-accepted.result c.accept-accepted.ensures c.call_refusal-told.ensures)) ∙ c.if-told-ne0.false)
 
 -- the second tells of the list, or of nothing
@@ -33,7 +33,7 @@ told-list c = told_later _ _ _ _ ((clear _ _ c.accept-accepted.result c.accept-a
 
 -- past it nothing is refused
 going : (c : Else-found-ne0) → let a = c.args in
-    Free a.card.now a.state.now a.shovels.now a.times.now (given o) c.list_ties-found.result
+    Free a.card.now a.state.now a.shovels.now a.times.now c.accept-accepted.result.card c.list_ties-found.result
 going c = free _ _ _ _ _ _ ((clear _ _ c.accept-accepted.result c.accept-accepted.ensures (sym ((told _ _ c.accept-accepted.result c.accept-accepted.ensures c.call_refusal-told.ensures)) ∙ c.if-told-ne0.false))) ((told_later _ _ _ _ ((clear _ _ c.accept-accepted.result c.accept-accepted.ensures (sym ((told _ _ c.accept-accepted.result c.accept-accepted.ensures c.call_refusal-told.ensures)) ∙ c.if-told-ne0.false))) refl c.list_ties-found.ensures.refusal)) c.list_ties-found.ensures.found c.if-found-ne0.false
 
 pub returns-then-told-ne0 : goal.returns-then-told-ne0

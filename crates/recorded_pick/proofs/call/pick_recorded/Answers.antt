@@ -18,11 +18,11 @@ roomy : (c : Else-lacks_room) → let a = c.args in (length a.state.now ≤ most
 roomy c = let a = c.args in has_room (length a.state.now) (length a.page.now) c.lacks_room.ensures c.if-lacks_room.false
 
 pub returns-then-told-ne0 : goal.returns-then-told-ne0
-returns-then-told-ne0 c = let a = c.args in let both = call_told a.card.now a.state.now a.shovels.now a.times.now a.truck a.page.now c.pick_refusal-told.ensures c.if-told-ne0.true in record { answer = both.0; after = both.1; page = both.2 }
+returns-then-told-ne0 c = let a = c.args in let both = call_told a.card.now a.state.now a.shovels.now a.times.now a.truck a.page.now c.pick_refusal-told.ensures c.if-told-ne0.true in record { answer = both.0; after = both.1.0; page = both.1.1 }
 
 pub returns-then-lacks_room : goal.returns-then-lacks_room
 returns-then-lacks_room c = let a = c.args in let both = call_small a.card.now a.state.now a.shovels.now a.times.now a.truck a.page.now c.pick_refusal-told.ensures c.if-told-ne0.false
-    c.lacks_room.ensures c.if-lacks_room.true in record { answer = both.0; after = both.1; page = both.2 }
+    c.lacks_room.ensures c.if-lacks_room.true in record { answer = both.0; after = both.1.0; page = both.1.1 }
 
 pub load-held-requires : goal.load-held-requires
 load-held-requires c = (roomy c).0
@@ -35,4 +35,4 @@ returns c = let a = c.args in
     let xs = a.state.now in
     let held = ap (λ (s : State). take (length xs) s.words) c.load-held.ensures ∙ take-filled most_words (length xs) xs refl in
     let p = c.pick-picked in let both = call_made a.card.now xs a.shovels.now a.times.now a.truck a.page.now (roomy (goal.at.returns c).Else-lacks_room).1 p.ensures.answer p.ensures.after
-    (c.record_tie.ensures ∙ ap (λ (ws : List ℕ). recorded_on (record_left a.truck ws p.result) a.page.now) held) in record { answer = both.0; after = both.1; page = both.2 }
+    (c.record_tie.ensures ∙ ap (λ (ws : List ℕ). recorded_on (record_left a.truck ws p.result) a.page.now) held) in record { answer = both.0; after = both.1.0; page = both.1.1 }
