@@ -9,16 +9,15 @@ use borrow.Author.Tests.{le-leb, lt-leb}
 use lib.Dec.{eqb, leb, leb-zero, leb-suc-suc}
 use lib.ListN.{length, take, drop}
 use lib.Seq.{take-length}
-use Rattle.bytes.specs.Bytes.{slice, index_of, index_after}
-use Rattle.case_fields.specs.Text.{before, parts}
+use Rattle.case_fields.specs.Text.{slice, index_of, before, parts}
 
 -- the parts from a place on, of which there are none past the end
 unfoldable pub parts_from : ℕ → List ℕ → ℕ → List (List ℕ)
 parts_from separator xs at = cond (leb at (length xs)) (parts separator (drop at xs)) []
 
 first_by : (t : Bool) (separator x e : ℕ) (xs : List ℕ) → let ps = parts separator xs in ps ≡ take e xs ∷ parts_from separator xs (suc e)
-    → cond t ([] ∷ ps) (before x ps) ≡ take (index_after t e) (x ∷ xs) ∷ parts_from separator (x ∷ xs) (suc (index_after t e))
-unfolding parts_from index_after before
+    → cond t ([] ∷ ps) (before x ps) ≡ take (cond t 0 (suc e)) (x ∷ xs) ∷ parts_from separator (x ∷ xs) (suc (cond t 0 (suc e)))
+unfolding parts_from before
 first_by true separator x e xs h = simp (leb-suc-suc 0 (length xs), leb-zero (length xs))
 first_by false separator x e xs h = simp (leb-suc-suc (suc e) (length xs)) (ap (before x) h)
 
@@ -34,7 +33,7 @@ from_rest separator xs zero k h = simp (zero-add k)
 from_rest separator [] (suc at) k h = absurd (omega arith)
 from_rest separator (x ∷ xs) (suc at) k h = simp (suc-add at k, leb-suc-suc (at + k) (length xs)) (from_rest separator xs at k (omega arith))
 
--- from a place on, with what `bytes::scan::find` answers
+-- from a place on, with what `scan::find` answers
 pub parts_find : (separator : ℕ) (xs : List ℕ) (at end : ℕ) → at ≤ length xs → end ≡ at + index_of separator (slice at (length xs) xs)
     → parts_from separator xs at ≡ take (end - at) (drop at xs) ∷ parts_from separator xs (end + 1)
 unfolding parts_from slice
