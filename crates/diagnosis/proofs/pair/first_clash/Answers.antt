@@ -13,6 +13,7 @@ use Rattle.completions.proofs.Clashes.{clashing, not_clashing}
 use Rattle.diagnosis.proofs.pair.first_clash.Goals as goal
 use Rattle.diagnosis.proofs.pair.first_clash.Goals.{After-y-1}
 
+-- the entry is a place, and its count is known
 used : (c : After-y-1) → let a = c.args in let f = entry_of a.table.now in let v = f c.loop-x.x in
     get_or c.uses_of-counts.result v 0 ≡ uses a.size f v
 used c = c.uses_of-counts.ensures _

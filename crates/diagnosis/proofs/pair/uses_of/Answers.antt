@@ -32,6 +32,7 @@ offset_bounds-counts-v c = omega (arith, inside _ _ c.requires c.loop-x.x c.loop
 pub bounds-counts-v : goal.bounds-counts-v
 bounds-counts-v c = inside _ _ c.requires c.loop-x.x c.loop-x-test.true
 
+-- the entry has its count
 pub overflow_add-counts : goal.overflow_add-counts
 overflow_add-counts c = let f = entry_of c.args.table.now in
     let l = c.loop-x in
