@@ -1,4 +1,6 @@
 // The bad bit of a table, found and listed. What is answered is defined in crate diagnoses.
+#![tactic(auto)]
+
 pub mod call;
 mod least;
 mod pair;

@@ -4,7 +4,6 @@ use Rattle.refusals.specs.Refusals.{first_of}
 use Rattle.bit_strip.specs.Strip.{strip_checks}
 use Rattle.bit_strip.proofs.Strip.{strip_fits}
 use Rattle.bit_counts.proofs.Counting.{refused_card, refused_strip, found_narrow, counted}
-use native.Mathlib.Omega.{arith}
 use Rattle.bit_count.proofs.call.bit_counts.Goals as goal
 use Rattle.bit_count.proofs.call.bit_counts.Goals.{Else-told-ne0}
 
@@ -15,11 +14,11 @@ passed c = sym c.strip_refusal-told.ensures ∙ c.if-told-ne0.false
 
 pub returns-then-found-ne0 : goal.returns-then-found-ne0
 returns-then-found-ne0 c = let a = c.args in
-    let f = c.accept-found in let both = refused_card a.card.now a.strip.now a.page.now f.result f.ensures c.if-found-ne0.true in record { answer = both.0; page = both.1; }
+    let f = c.accept-found in let both = refused_card a.card.now a.strip.now a.page.now f.result f.ensures c.if-found-ne0.true in record { answer = both.0; page = both.1 }
 
 pub returns-then-told-ne0 : goal.returns-then-told-ne0
 returns-then-told-ne0 c = let a = c.args in
-    let f = c.accept-found in let both = refused_strip a.card.now a.strip.now a.page.now f.result f.ensures c.if-found-ne0.false _ c.strip_refusal-told.ensures c.if-told-ne0.true in record { answer = both.0; page = both.1; }
+    let f = c.accept-found in let both = refused_strip a.card.now a.strip.now a.page.now f.result f.ensures c.if-found-ne0.false _ c.strip_refusal-told.ensures c.if-told-ne0.true in record { answer = both.0; page = both.1 }
 
 pub count_bits-requires : goal.count_bits-requires
 count_bits-requires c = let a = c.args in
@@ -31,4 +30,4 @@ count_bits-requires c = let a = c.args in
 pub returns : goal.returns
 returns c = let a = c.args in
     let f = c.accept-found in
-    let done = c.count_bits.ensures in let both = counted a.card.now a.strip.now a.page.now f.result f.ensures c.if-found-ne0.false (passed (goal.at.returns c).Else-told-ne0) _ _ done.counted done.page in record { answer = both.0; page = both.1; }
+    let done = c.count_bits.ensures in let both = counted a.card.now a.strip.now a.page.now f.result f.ensures c.if-found-ne0.false (passed (goal.at.returns c).Else-told-ne0) _ _ done.counted done.page in record { answer = both.0; page = both.1 }

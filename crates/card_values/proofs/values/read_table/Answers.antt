@@ -27,8 +27,8 @@ stored_as part v size es e = rw e (ap {B = Values} (λ (n : ℕ). record { refus
 
 -- ---- what is known at a place of the code
 -- past the first test the table's bytes are there
-long : (c : Else-part-size) → let a = c.args in 2 ^ get_or a.v.numbers 0 0 ≤ length a.part.now
-long c = omega (arith, c.entries-size.ensures, c.if-part-size.false)
+long : (part : List ℕ) (m size : ℕ) → size ≡ 2 ^ m → size ≤ length part → 2 ^ m ≤ length part
+long part m size e l = omega arith
 
 -- and are put over the table's first entries
 over-table : (c : After-put_entries) → let a = c.args in
@@ -42,14 +42,14 @@ table-read : (c : After-put_entries) → let a = c.args in
 unfolding table_read
 table-read c =
     let a = c.args in
-    let h : 2 ^ get_or a.v.numbers 0 0 ≤ length a.part.now = omega (arith, c.entries-size.ensures, c.if-part-size.false) in
+    let h : 2 ^ get_or a.v.numbers 0 0 ≤ length a.part.now = long _ _ _ c.entries-size.ensures c.if-part-size.false in
     rw (le-leb _ _ h) (over-table c)
 
 sized : (c : After-put_entries) → length c.put_entries.new.table ≡ 2 ^ most_words
 sized c =
     let m = get_or c.args.v.numbers 0 0 in
     ap (λ (t : List ℕ). length t) (over-table c)
-    ∙ length_over _ c.args.table.now (2 ^ m) ((omega (arith, c.entries-size.ensures, c.if-part-size.false))) (omega (arith, c.requires.1, few-entries m c.requires.0)) ∙ c.requires.1
+    ∙ length_over _ c.args.table.now (2 ^ m) (long _ _ _ c.entries-size.ensures c.if-part-size.false) (omega (arith, c.requires.1, few-entries m c.requires.0)) ∙ c.requires.1
 
 -- so the field's refusal goes by the table
 by_table : (c : After-put_entries) → let a = c.args in let m = get_or a.v.numbers 0 0 in
@@ -58,7 +58,7 @@ by_table : (c : After-put_entries) → let a = c.args in let m = get_or a.v.numb
 by_table c =
     let a = c.args in
     let size = 2 ^ get_or a.v.numbers 0 0 in
-    let h : size ≤ length a.part.now = omega (arith, c.entries-size.ensures, c.if-part-size.false) in
+    let h : size ≤ length a.part.now = long _ _ _ c.entries-size.ensures c.if-part-size.false in
     table_refusal _ a.part.now h _ (ap (take size) (over-table c) ∙ take_at (take size a.part.now) _ size (length-take-le size a.part.now h))
 
 -- past the second test its entries are allowed
@@ -67,7 +67,7 @@ by-absent : (c : Else-not-entries_allowed) → let a = c.args in let m = get_or 
 by-absent c =
     let a = c.args in
     let size = 2 ^ get_or a.v.numbers 0 0 in
-    let h : size ≤ length a.part.now = omega (arith, c.entries-size.ensures, c.if-part-size.false) in
+    let h : size ≤ length a.part.now = long _ _ _ c.entries-size.ensures c.if-part-size.false in
     let put : c.put_entries.new.table ≡ over a.part.now a.table.now size = c.put_entries.ensures ∙ ap (over a.part.now a.table.now) c.entries-size.ensures in
     table_refusal _ a.part.now h _ (ap (take size) put ∙ take_at (take size a.part.now) _ size (length-take-le size a.part.now h)) ∙ simp (sym c.entries_allowed.ensures ∙ c.if-not-entries_allowed.false)
 

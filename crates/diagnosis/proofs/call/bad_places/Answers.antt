@@ -65,7 +65,7 @@ pub entries-size-requires : goal.entries-size-requires
 entries-size-requires c = let (s, e) = sound c in subst (λ (card : Card). card.words ≤ most_words) (sym e) (words-sound _ s)
 
 pub first_return-requires : goal.first_return-requires
-first_return-requires c = let t = table (goal.at.first_return-requires c).After-entries-size in record { size_nonzero = (omega (arith, t.large), t.fits); by_index = t.below; }
+first_return-requires c = let t = table (goal.at.first_return-requires c).After-entries-size in record { size_nonzero = (omega (arith, t.large), t.fits); by_index = t.below }
 
 pub returns-then-first_return-size : goal.returns-then-first_return-size
 returns-then-first_return-size c = let r = returned (goal.at.returns-then-first_return-size c).After-first_return ∙ c.if-first_return-size.true ∙ size (goal.at.returns-then-first_return-size c).After-entries-size in

@@ -1,13 +1,11 @@
 use mathlib.Core.Path.{◌≡◌, sym}
 use mathlib.Core.Logic.{inl, inr}
 use mathlib.Core.Bool.{false}
-use Prim.Native.Nat.{ℕ, ◌-◌, ◌^◌, ◌<◌, ◌≤◌}
+use Prim.Native.Nat.{ℕ, ◌≤◌}
 use native.Mathlib.Omega.{arith}
 use lib.ListN.{get_or}
-use Rattle.cycle.specs.Notation.{count}
 use Rattle.cycle.proofs.Every.{extend}
 use Rattle.cycle.proofs.First.{first_is, first-none}
-use Rattle.tsc.specs.Constants.{most_words}
 use Rattle.completions.specs.Finding.{uses, clashes}
 use Rattle.diagnosis.specs.Marks.{entry_of}
 use Rattle.diagnosis.proofs.Tables.{inside}
@@ -16,9 +14,6 @@ use Rattle.diagnosis.proofs.pair.first_clash.Goals as goal
 use Rattle.diagnosis.proofs.pair.first_clash.Goals.{After-y-1}
 
 -- the entry is a place, and its count is known
-placed : (c : After-y-1) → entry_of c.args.table.now c.loop-x.x < 2 ^ most_words
-placed c = inside _ _ c.requires c.loop-x.x c.loop-x-test.true
-
 used : (c : After-y-1) → let a = c.args in let f = entry_of a.table.now in let v = f c.loop-x.x in
     get_or c.uses_of-counts.result v 0 ≡ uses a.size f v
 used c = c.uses_of-counts.ensures _
@@ -33,13 +28,13 @@ pub bounds-table-x : goal.bounds-table-x
 bounds-table-x c = omega (arith, c.requires.fits)
 
 pub overflow_cast-y : goal.overflow_cast-y
-overflow_cast-y c = omega (arith, placed c)
+overflow_cast-y c = omega (arith, inside _ _ c.requires c.loop-x.x c.loop-x-test.true)
 
 pub offset_bounds-counts-y : goal.offset_bounds-counts-y
-offset_bounds-counts-y c = omega (arith, placed c)
+offset_bounds-counts-y c = omega (arith, inside _ _ c.requires c.loop-x.x c.loop-x-test.true)
 
 pub bounds-counts-y : goal.bounds-counts-y
-bounds-counts-y c = placed c
+bounds-counts-y c = inside _ _ c.requires c.loop-x.x c.loop-x-test.true
 
 pub returns-then-counts-y-gt1 : goal.returns-then-counts-y-gt1
 returns-then-counts-y-gt1 c = let a = c.args in
@@ -48,7 +43,7 @@ returns-then-counts-y-gt1 c = let a = c.args in
     (clashing a.size (entry_of a.table.now) l.x (inl (omega (arith, used (goal.at.returns-then-counts-y-gt1 c).After-y-1, c.if-counts-y-gt1.true)))))
 
 pub bounds-table-y : goal.bounds-table-y
-bounds-table-y c = placed (goal.at.bounds-table-y c).After-y-1
+bounds-table-y c = inside _ _ c.requires c.loop-x.x c.loop-x-test.true
 
 pub overflow_cast-table : goal.overflow_cast-table
 overflow_cast-table c = let t = c.requires in

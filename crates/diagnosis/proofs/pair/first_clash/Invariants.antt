@@ -1,17 +1,8 @@
-use mathlib.Core.Path.{◌≡◌, sym}
-use mathlib.Core.Logic.{inl, inr}
+use mathlib.Core.Path.{◌≡◌}
 use mathlib.Core.Bool.{false}
-use Prim.Native.Nat.{ℕ, ◌-◌, ◌^◌, ◌<◌, ◌≤◌}
-use native.Mathlib.Omega.{arith}
-use lib.ListN.{get_or}
-use Rattle.cycle.specs.Notation.{count}
-use Rattle.cycle.proofs.Every.{extend}
-use Rattle.cycle.proofs.First.{first_is, first-none}
-use Rattle.tsc.specs.Constants.{most_words}
-use Rattle.completions.specs.Finding.{uses, clashes}
+use Prim.Native.Nat.{ℕ, ◌-◌, ◌<◌, ◌≤◌}
+use Rattle.completions.specs.Finding.{clashes}
 use Rattle.diagnosis.specs.Marks.{entry_of}
-use Rattle.diagnosis.proofs.Tables.{inside}
-use Rattle.completions.proofs.Clashes.{clashing, not_clashing}
 use Rattle.diagnosis.proofs.pair.first_clash.Given as goal
 
 abbrev pub invariant-loop-x : goal.invariant-loop-x

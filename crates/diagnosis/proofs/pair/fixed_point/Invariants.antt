@@ -1,13 +1,8 @@
-use mathlib.Core.Path.{◌≡◌, sym}
+use mathlib.Core.Path.{◌≡◌}
 use mathlib.Core.Bool.{false}
 use Prim.Native.Nat.{ℕ, ◌-◌, ◌<◌, ◌≤◌}
-use native.Mathlib.Omega.{arith}
-use borrow.Author.Tests.{eq-eqb, ne_eqb}
-use Rattle.cycle.proofs.Every.{extend}
-use Rattle.cycle.proofs.First.{first_is, first-none}
 use Rattle.completions.specs.Finding.{is_fixed}
 use Rattle.diagnosis.specs.Marks.{entry_of}
-use Rattle.diagnosis.proofs.Tables.{inside}
 use Rattle.diagnosis.proofs.pair.fixed_point.Given as goal
 
 abbrev pub invariant-loop-x : goal.invariant-loop-x

@@ -1,14 +1,8 @@
-use mathlib.Core.Path.{◌≡◌, sym, ◌∙◌}
-use mathlib.Core.Bool.{true, false}
+use mathlib.Core.Path.{◌≡◌}
+use mathlib.Core.Bool.{false}
 use Prim.Native.Nat.{ℕ, ◌-◌, ◌<◌, ◌≤◌}
-use native.Mathlib.Omega.{arith}
-use borrow.Author.Tests.{le-ltb}
-use Rattle.cycle.proofs.Every.{extend}
-use Rattle.cycle.proofs.First.{first_is, first-none}
 use Rattle.completions.specs.Finding.{clashes_with}
 use Rattle.diagnosis.specs.Marks.{entry_of}
-use Rattle.diagnosis.proofs.Tables.{inside}
-use Rattle.completions.proofs.Clashes.{with_past}
 use Rattle.diagnosis.proofs.pair.partner.Given as goal
 
 abbrev pub invariant-loop-y : goal.invariant-loop-y

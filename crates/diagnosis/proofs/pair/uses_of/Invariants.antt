@@ -1,16 +1,9 @@
-use mathlib.Core.Path.{◌≡◌, sym, ap, ◌∙◌}
-use Prim.Native.Nat.{ℕ, ◌+◌, ◌-◌, ◌^◌, ◌<◌, ◌≤◌}
-use native.Mathlib.Omega.{arith}
-use lib.Dec.{eqb}
-use lib.ListN.{length, get_or, length-replicate, length-set}
-use Rattle.cycle.specs.Notation.{count}
-use Rattle.cycle.proofs.Count.{count_le}
-use Rattle.cycle.proofs.Lists.{get_or_filler}
+use mathlib.Core.Path.{◌≡◌}
+use Prim.Native.Nat.{ℕ, ◌-◌, ◌^◌, ◌≤◌}
+use lib.ListN.{length, get_or}
 use Rattle.tsc.specs.Constants.{most_words}
 use Rattle.completions.specs.Finding.{uses}
 use Rattle.diagnosis.specs.Marks.{entry_of}
-use Rattle.diagnosis.proofs.Tables.{inside}
-use Rattle.diagnosis.proofs.Marking.{uses-none, uses_next}
 use Rattle.diagnosis.proofs.pair.uses_of.Given as goal
 
 abbrev pub invariant-loop-x : goal.invariant-loop-x

@@ -1,6 +1,5 @@
-use mathlib.Core.Path.{◌≡◌, refl, sym, ap, ◌∙◌}
-use mathlib.Core.Logic.{◌≢◌}
-use Prim.Native.Nat.{ℕ, ◌-◌, ◌<◌, ◌≤◌}
+use mathlib.Core.Path.{refl, sym, ap, ◌∙◌}
+use Prim.Native.Nat.{ℕ}
 use native.Mathlib.Numerals.{add-one}
 use native.Mathlib.Omega.{arith}
 use Rattle.cycle.specs.Notation.{iterate}
@@ -41,9 +40,9 @@ loop-steps-preserved c = let a = c.args in
 pub returns-then-size-steps : goal.returns-then-size-steps
 returns-then-size-steps c = let a = c.args in
     let l = c.loop-steps in
-    let f = entry_of a.table.now in record { steps = length_whole a.size f a.x l.steps l.invariant.3 (omega arith); after = along_next f a.x l.steps a.marks.now l.invariant.4 l.invariant.2; }
+    let f = entry_of a.table.now in record { steps = length_whole a.size f a.x l.steps l.invariant.3 (omega arith); after = along_next f a.x l.steps a.marks.now l.invariant.4 l.invariant.2 }
 
 pub returns-then-y-x : goal.returns-then-y-x
 returns-then-y-x c = let a = c.args in
     let l = c.loop-steps in
-    let f = entry_of a.table.now in record { steps = length_is a.size f a.x l.steps l.invariant.3 (omega arith) (sym (ap f l.invariant.2) ∙ c.if-y-x.true); after = along_next f a.x l.steps a.marks.now l.invariant.4 l.invariant.2; }
+    let f = entry_of a.table.now in record { steps = length_is a.size f a.x l.steps l.invariant.3 (omega arith) (sym (ap f l.invariant.2) ∙ c.if-y-x.true); after = along_next f a.x l.steps a.marks.now l.invariant.4 l.invariant.2 }

@@ -1,13 +1,8 @@
-use mathlib.Core.Path.{◌≡◌, refl, sym, ap, ◌∙◌}
+use mathlib.Core.Path.{◌≡◌}
 use mathlib.Core.Logic.{◌≢◌}
 use Prim.Native.Nat.{ℕ, ◌-◌, ◌<◌, ◌≤◌}
-use native.Mathlib.Numerals.{add-one}
-use native.Mathlib.Omega.{arith}
 use Rattle.cycle.specs.Notation.{iterate}
 use Rattle.diagnosis.specs.Marks.{entry_of, marks_along}
-use Rattle.diagnosis.proofs.Tables.{inside}
-use Rattle.completions.proofs.Cycles.{length_is, length_whole, none_next}
-use Rattle.diagnosis.proofs.Marking.{along_next}
 use Rattle.diagnosis.proofs.shortest.mark_cycle.Given as goal
 
 abbrev pub invariant-loop-steps : goal.invariant-loop-steps

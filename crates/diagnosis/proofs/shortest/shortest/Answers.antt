@@ -1,5 +1,5 @@
 use mathlib.Core.Path.{◌≡◌, subst}
-use Prim.Native.Nat.{ℕ, ◌-◌, ◌≤◌}
+use Prim.Native.Nat.{ℕ}
 use native.Mathlib.Omega.{arith}
 use Rattle.diagnosis.specs.Marks.{entry_of, Tried}
 use Rattle.diagnosis.proofs.Tries.{tried-first, tried_all}

@@ -1,8 +1,5 @@
-use mathlib.Core.Path.{◌≡◌, subst}
-use Prim.Native.Nat.{ℕ, ◌-◌, ◌≤◌}
-use native.Mathlib.Omega.{arith}
+use Prim.Native.Nat.{◌-◌, ◌≤◌}
 use Rattle.diagnosis.specs.Marks.{entry_of, Tried}
-use Rattle.diagnosis.proofs.Tries.{tried-first, tried_all}
 use Rattle.diagnosis.proofs.shortest.shortest.Given as goal
 
 abbrev pub invariant-loop-x : goal.invariant-loop-x
