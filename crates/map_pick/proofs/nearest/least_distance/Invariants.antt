@@ -13,7 +13,7 @@ use Rattle.places.proofs.Places.{measured_read, distances_read}
 use Rattle.map_pick.proofs.nearest.least_distance.Given as goal
 
 abbrev pub invariant-loop-i : goal.invariant-loop-i
-invariant-loop-i l = (l.i ≤ length l.xs) × LeastOf (distances (to_z w32 l.x) (to_z w32 l.y) l.xs l.ys) l.i l.least
+invariant-loop-i l = (l.i ≤ length l.xs) × LeastOf (distances l.x l.y l.xs l.ys) l.i l.least
 
 abbrev pub decreases-loop-i : goal.decreases-loop-i
 decreases-loop-i l = length l.xs - l.i

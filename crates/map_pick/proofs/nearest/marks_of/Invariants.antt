@@ -19,7 +19,7 @@ use Rattle.places.proofs.Places.{measured_read, distances_read}
 use Rattle.map_pick.proofs.nearest.marks_of.Given as goal
 
 abbrev pub invariant-loop-i : goal.invariant-loop-i
-invariant-loop-i l = (l.i ≤ length l.xs) × (length l.xs ≤ most_shovels) × (l.marks ≡ over (marks (distances (to_z w32 l.x) (to_z w32 l.y) l.xs l.ys) l.least) (replicate most_shovels 0) l.i)
+invariant-loop-i l = (l.i ≤ length l.xs) × (length l.xs ≤ most_shovels) × (l.marks ≡ over (marks (distances l.x l.y l.xs l.ys) l.least) (replicate most_shovels 0) l.i)
 
 abbrev pub decreases-loop-i : goal.decreases-loop-i
 decreases-loop-i l = length l.xs - l.i

@@ -11,10 +11,10 @@ is-pair : (c : Else-not-is_paired) → let a = c.args in paired a.shovels.now a.
 is-pair c = sym c.is_paired.ensures ∙ c.if-not-is_paired.false
 
 is_mapped : (c : Else-not-mapped) → c.args.mapped ≡ true
-is_mapped c = not-false c.args.mapped c.if-not-mapped.false
+is_mapped c = c.if-not-mapped.false
 
 pub returns-then-not-mapped : goal.returns-then-not-mapped
-returns-then-not-mapped c = simp (not-true c.args.mapped c.if-not-mapped.true)
+returns-then-not-mapped c = simp c.if-not-mapped.true
 
 pub returns-then-not-is_paired : goal.returns-then-not-is_paired
 returns-then-not-is_paired c = simp (is_mapped (goal.at.returns-then-not-is_paired c).Else-not-mapped, sym c.is_paired.ensures ∙ c.if-not-is_paired.true)

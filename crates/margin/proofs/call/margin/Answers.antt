@@ -54,7 +54,7 @@ draws : (c : After-known_of-known) → let a = c.args in
     Draws a.state.now a.shovels.now a.times.now c.accept-accepted.result.card c.list_ties-found.result c.known_of-known.result
 draws c =
     let e = c.known_of-known.ensures in
-    record { width = e.width; state = c.load-held.result; lent = c.load-held.ensures; words = e.words.0; chosen = e.words.1 }
+    record { width = e.width; state = c.load-held.result; lent = c.load-held.ensures; words = e.words; chosen = e.chosen }
 
 -- what it finds
 best-is : (c : After-least_change-best) {r : Best} → c.least_change-best.result ≡ r → let a = c.args in
@@ -85,12 +85,12 @@ least_change-best-requires c = listed _ _ _ _ _ _ (going (goal.at.least_change-b
 pub told-requires : goal.told-requires
 told-requires c = let f = going (goal.at.told-requires c).Else-found-ne0 in
     let l = listed _ _ _ _ _ _ f _ (draws (goal.at.told-requires c).After-known_of-known) in
-    let k = found_counts _ _ _ _ _ _ f _ (draws (goal.at.told-requires c).After-known_of-known) _ (best-is (goal.at.told-requires c).After-least_change-best c.best-1.given.1) in record { width_le_widest_width = (l.width, l.paired, l.few); place_in_bounds = (k.listed, k.within) }
+    let k = found_counts _ _ _ _ _ _ f _ (draws (goal.at.told-requires c).After-known_of-known) _ (best-is (goal.at.told-requires c).After-least_change-best c.in-Least.is) in record { width_le_widest_width = (l.width, l.paired, l.few); place_in_bounds = (k.listed, k.within) }
 
 pub returns-in-Nothing : goal.returns-in-Nothing
-returns-in-Nothing c = found_nothing _ _ _ _ _ _ (going (goal.at.returns-in-Nothing c).Else-found-ne0) _ (draws (goal.at.returns-in-Nothing c).After-known_of-known) (best-is (goal.at.returns-in-Nothing c).After-least_change-best c.enum_told-1.given.1)
+returns-in-Nothing c = found_nothing _ _ _ _ _ _ (going (goal.at.returns-in-Nothing c).Else-found-ne0) _ (draws (goal.at.returns-in-Nothing c).After-known_of-known) (best-is (goal.at.returns-in-Nothing c).After-least_change-best c.in-Nothing.is)
 
 pub returns-in-Least : goal.returns-in-Least
 returns-in-Least c = let t = c.told.ensures in
-    found_least _ _ _ _ _ _ (going (goal.at.returns-in-Least c).Else-found-ne0) _ (draws (goal.at.returns-in-Least c).After-known_of-known) _ (best-is (goal.at.returns-in-Least c).After-least_change-best c.best-1.given.1) c.told.result
-    t.change t.shovel.0 t.shovel.1.0 t.shovel.1.1
+    found_least _ _ _ _ _ _ (going (goal.at.returns-in-Least c).Else-found-ne0) _ (draws (goal.at.returns-in-Least c).After-known_of-known) _ (best-is (goal.at.returns-in-Least c).After-least_change-best c.in-Least.is) c.told.result
+    t.change t.shovel t.ties t.taken

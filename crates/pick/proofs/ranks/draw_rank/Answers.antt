@@ -21,7 +21,7 @@ tsc1_rank-requires c = let p = c.requires in
     (subst (λ (d : Card). IsState d c.args.state.now) (p.1 c.if-is_tsc1.true) p.2, p.3, p.4)
 
 pub returns-then-is_tsc1 : goal.returns-then-is_tsc1
-returns-then-is_tsc1 c = let both = rw (c.requires.1 c.if-is_tsc1.true) c.tsc1_rank.ensures in record { drawn = both.0; after = both.1 }
+returns-then-is_tsc1 c = rw (c.requires.1 c.if-is_tsc1.true) (record { drawn = c.tsc1_rank.ensures.drawn; after = c.tsc1_rank.ensures.after })
 
 pub load-held-requires : goal.load-held-requires
 load-held-requires c = few (goal.at.load-held-requires c).Start

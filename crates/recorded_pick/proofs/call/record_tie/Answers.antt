@@ -26,8 +26,8 @@ put_record-requires c = (omega (arith, counted (goal.at.put_record-requires c).S
 
 pub returns-then-ties-ne1 : goal.returns-then-ties-ne1
 returns-then-ties-ne1 c = let a = c.args in
-    left-tie a.truck (take a.m a.held.words) a.page.now c.picked-1.given.1 c.if-ties-ne1.true c.put_record.ensures
+    left-tie a.truck (take a.m a.held.words) a.page.now c.in-Shovel.is c.if-ties-ne1.true c.put_record.ensures
 
 pub returns-else-ties-ne1 : goal.returns-else-ties-ne1
 returns-else-ties-ne1 c = let a = c.args in
-    left-none a.truck (take a.m a.held.words) a.page.now c.picked-1.given.1 c.if-ties-ne1.false
+    left-none a.truck (take a.m a.held.words) a.page.now c.in-Shovel.is c.if-ties-ne1.false
