@@ -1,8 +1,6 @@
 use mathlib.Core.Path.{◌≡◌}
-use borrow.Author.Rules.{rules}
 use Prim.Native.Nat.{◌-◌, ◌≤◌}
 use lib.ListN.{length}
-use native.Mathlib.Omega.{arith}
 use Rattle.tsc.specs.Constants.{most_words}
 use Rattle.case_records.proofs.calls.print_first.Given as goal
 

@@ -1,6 +1,5 @@
 use mathlib.Core.Path.{◌≡◌, refl, sym, ap, ◌∙◌}
-use Prim.Native.Nat.{ℕ, suc, ◌+◌, ◌-◌, ◌≤◌}
-use lib.ListN.{length}
+use Prim.Native.Nat.{ℕ, suc, ◌+◌}
 use Rattle.cycle.specs.Notation.{iterate}
 use Rattle.draws.specs.Calls.{stepped}
 use native.Mathlib.Omega.{arith}

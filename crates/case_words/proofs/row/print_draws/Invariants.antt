@@ -1,9 +1,8 @@
-use mathlib.Core.Path.{◌≡◌, refl, sym, ap, ◌∙◌}
-use Prim.Native.Nat.{ℕ, suc, ◌+◌, ◌-◌, ◌≤◌}
+use mathlib.Core.Path.{◌≡◌}
+use Prim.Native.Nat.{◌-◌, ◌≤◌}
 use lib.ListN.{length}
 use Rattle.cycle.specs.Notation.{iterate}
 use Rattle.draws.specs.Calls.{stepped}
-use native.Mathlib.Omega.{arith}
 use Rattle.case_words.proofs.row.print_draws.Given as goal
 
 abbrev pub invariant-loop-k : goal.invariant-loop-k
