@@ -45,7 +45,6 @@ use Rattle.changes.specs.declared.Change.{Change}
 use Rattle.changes.specs.Change.{changed, Counts}
 use Rattle.margins.specs.declared.Nearest.{Nearest}
 use Rattle.margins.specs.declared.Margin.{Margin}
-use Rattle.margins.specs.declared.Margin.TheVariants as Margin
 use Rattle.margins.specs.Margins.{Elsewhere, Tells, IsMargin}
 use Rattle.picks.specs.Shift.{Request, answers, state_after, Alike}
 use Rattle.picks.specs.Fair.{sent_by_first}
