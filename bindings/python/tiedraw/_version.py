@@ -1,6 +1,6 @@
 """The version of the binding, and the text of a version that the library tells as a number."""
 
-__version__ = "0.4.5"
+__version__ = "0.4.4"
 
 
 def text_of(number: int) -> str:

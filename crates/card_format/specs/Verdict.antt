@@ -1,5 +1,5 @@
 -- Refusals 7 to 9 and the verdict on any byte string (document 01, Refusal table).
-use Rattle.std.specs.Prelude.{◌≡◌, ◌↔◌, Bool, not, ◌||◌, List, [], ◌∷◌, ◌++◌, ℕ, ◌%◌, ◌^◌, ◌≤◌, eqb}
+use Rattle.std.specs.Prelude.{◌≡◌, ◌↔◌, not, ◌||◌, List, [], ◌∷◌, ◌++◌, ℕ, ◌%◌, ◌^◌, ◌≤◌, eqb}
 use Rattle.cycle.specs.Cycle.{first_return}
 use Rattle.tsc.specs.declared.Card.{Card}
 use Rattle.tsc.specs.Constants.{most_words, widest_width}
@@ -9,14 +9,10 @@ use Rattle.card_format.specs.declared.Reading.{Reading}
 use Rattle.refusals.specs.Refusals.{Check, check, first_of, not_single_cycle, even_constant, power_parity}
 use Rattle.card_format.specs.Reading.{card_of, form_checks, SoundForm, answering}
 
--- whether the table is a whole ring: from 0 it first returns to 0 after all 2^m entries
-abbrev pub is_single_cycle : Card → Bool
-is_single_cycle card = eqb (first_return (entry card) (2 ^ card.words)) (2 ^ card.words)
-
--- conditions 7 to 9, on a card's values: the table is no whole ring; C is even; a is even or b is odd
+-- conditions 7 to 9, on a card's values: from 0 the table does not first return to 0 after all 2^m entries; C is even; a is even or b is odd
 unfoldable pub period_checks : Card → List Check
 period_checks card =
-    check not_single_cycle (not (is_single_cycle card))
+    check not_single_cycle (not (eqb (first_return (entry card) (2 ^ card.words)) (2 ^ card.words)))
     ∷ check even_constant (eqb (card.constant % 2) 0)
     ∷ check power_parity (eqb (card.odd_power % 2) 0 || eqb (card.even_power % 2) 1)
     ∷ []

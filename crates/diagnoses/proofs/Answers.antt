@@ -24,11 +24,11 @@ use Rattle.tsc.proofs.Table.{table_cycle}
 use Rattle.refusals.specs.Refusals.{check, first_of, not_single_cycle, single_cycle}
 use Rattle.refusals.proofs.Refusals.{first-append, first-left, first_both, none_first}
 use Rattle.card_format.specs.Reading.{card_of, form_checks, SoundForm}
-use Rattle.card_format.specs.Verdict.{is_single_cycle, verdict}
+use Rattle.card_format.specs.Verdict.{verdict}
 use Rattle.card_format.proofs.Sound.{sound_card}
 use Rattle.card_format.proofs.Verdict.{verdict-period, verdict-form, words-sound}
 use Rattle.diagnoses.specs.declared.BadPlaces.{BadPlaces}
-use Rattle.diagnoses.specs.BadPlaces.{Fatal, bad_checks, most_places, showing, no_places, Shows}
+use Rattle.diagnoses.specs.BadPlaces.{Fatal, is_single_cycle, bad_checks, most_places, showing, no_places, Shows}
 use Rattle.diagnoses.proofs.Fatal.{seven_iff, least_fatal}
 
 -- ---- which refusal

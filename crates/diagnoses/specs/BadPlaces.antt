@@ -1,14 +1,15 @@
 -- The bad bit of a table (document 02, Eleven): the fewest places whose entries alone make every completion get 7, for any bytes.
 -- Entry x stands at place x. A set of places is a test P: the places below 2^m that meet it.
-use Rattle.std.specs.Prelude.{◌≡◌, Bool, true, List, [], ◌∷◌, ◌++◌, ℕ, ◌/◌, ◌^◌, ◌<◌}
+use Rattle.std.specs.Prelude.{◌≡◌, Bool, true, List, [], ◌∷◌, ◌++◌, ℕ, ◌/◌, ◌^◌, ◌<◌, eqb}
 use Rattle.cycle.specs.Notation.{count, zero_filled}
+use Rattle.cycle.specs.Cycle.{first_return}
 use Rattle.completions.specs.Sets.{members, LeastSet}
 use Rattle.tsc.specs.declared.Card.{Card}
 use Rattle.tsc.specs.Constants.{most_words}
 use Rattle.tsc.specs.Step.{entry}
 use Rattle.refusals.specs.Refusals.{Check, check, first_of, not_single_cycle, single_cycle}
 use Rattle.card_format.specs.Reading.{card_of, form_checks}
-use Rattle.card_format.specs.Verdict.{is_single_cycle, period_checks}
+use Rattle.card_format.specs.Verdict.{period_checks}
 use Rattle.diagnoses.specs.declared.BadPlaces.{BadPlaces}
 
 -- a completion: a card of as many words, whose entries are allowed and at the places of P the same (of maps without cards, `Keeps` in crate completions)
@@ -20,6 +21,10 @@ pub record Completion (card : Card) (P : ℕ → Bool) (other : Card) : Type 0 w
 -- every completion gets 7
 abbrev pub Fatal : Card → (ℕ → Bool) → Type 0
 Fatal card P = (other : Card) → Completion card P other → first_of (period_checks other) ≡ not_single_cycle.number
+
+-- whether the table is a whole ring: from 0 it first returns to 0 after all 2^m entries
+abbrev pub is_single_cycle : Card → Bool
+is_single_cycle card = eqb (first_return (entry card) (2 ^ card.words)) (2 ^ card.words)
 
 -- what is looked at: 1 to 6, then 26 where the table is a single cycle
 unfoldable pub bad_checks : List ℕ → List Check

@@ -8,7 +8,7 @@ abbrev pub version_minor : ℕ
 version_minor = 4
 
 abbrev pub version_patch : ℕ
-version_patch = 5
+version_patch = 4
 
 abbrev pub version_number : ℕ
 version_number = version_major * 1000000 + version_minor * 1000 + version_patch

@@ -1,6 +1,6 @@
 #![tactic(auto)]
 
-// The version of the library, 0.4.5 (VERSION, include/tiedraw.h).
+// The version of the library, 0.4.4 (VERSION, include/tiedraw.h).
 ghost use Rattle.std.specs.Prelude.{◌≡◌};
 ghost use Rattle.version.specs.Version.{version_number};
 
@@ -8,7 +8,7 @@ const MAJOR: u32 = 0;
 
 const MINOR: u32 = 4;
 
-const PATCH: u32 = 5;
+const PATCH: u32 = 4;
 
 // As one number.
 pub fn number() -> u32
