@@ -3,11 +3,10 @@
 #![tactic(auto)]
 
 ghost use Rattle.std.specs.Prelude.{◌≡◌, ◌<◌, length, replicate};
-ghost use Rattle.io.specs.Counts.{IsPrefixLen};
 ghost use Rattle.cycle.specs.Notation.{iterate};
 ghost use Rattle.card_format.specs.Fields.{most_card_bytes};
 ghost use Rattle.draws.specs.Calls.{stepped};
-ghost use Rattle.inspect.specs.Room.{most_read};
+ghost use Rattle.inspect.specs.Room.{most_read, IsPrefixLen};
 
 use card::check;
 use draws::Draw;

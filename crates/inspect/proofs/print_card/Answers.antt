@@ -1,22 +1,20 @@
-use mathlib.Core.Path.{sym, ap}
-use Prim.Native.Nat.{◌≤◌}
-use native.Mathlib.Omega.{arith}
-use lib.Seq.{length-take-le}
+use Rattle.std.proofs.Common.{sym, ap, ◌≤◌, arith}
+use Rattle.std.proofs.Math.Seq.{length-take-le}
 use Rattle.tsc.specs.declared.Card.{Card}
 use Rattle.tsc.specs.Constants.{most_words}
 use Rattle.card_format.proofs.Verdict.{accepted_card, accepting-passed}
 use Rattle.inspect.proofs.print_card.Goals as goal
-use Rattle.inspect.proofs.print_card.Goals.{After-struct_known-then-found-eq0-1}
 
 -- an accepted card has no more words than a state
-few : (c : After-struct_known-then-found-eq0-1) → c.accept-found.result.card.words ≤ most_words
-few c =
+pub slice_bounds-state-end : goal.slice_bounds-state-end
+slice_bounds-state-end g c =
     let bytes = c.args.card.now in
     let p = accepting-passed bytes _ c.accept-found.ensures c.if-found-eq0.true in
     omega (arith, (accepted_card bytes p.0).few, ap (λ (card : Card). card.words) p.1)
 
-pub slice_bounds-state-end : goal.slice_bounds-state-end
-slice_bounds-state-end c = few c
-
 pub slice_bounds-print_draws-end : goal.slice_bounds-print_draws-end
-slice_bounds-print_draws-end c = sym (length-take-le _ _ (few (goal.at.slice_bounds-print_draws-end c).After-struct_known-then-found-eq0-1))
+slice_bounds-print_draws-end g c =
+    let bytes = c.args.card.now in
+    let p = accepting-passed bytes _ c.accept-found.ensures c.if-found-eq0.true in
+    let few : c.accept-found.result.card.words ≤ most_words = omega (arith, (accepted_card bytes p.0).few, ap (λ (card : Card). card.words) p.1) in
+    sym (length-take-le _ _ few)
