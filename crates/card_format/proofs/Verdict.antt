@@ -31,7 +31,7 @@ period-none card wf = (forth, back)
     forth h =
         let p = neither (eqb (card.odd_power % 2) 0) (eqb (card.even_power % 2) 1) h.1.1.0 in
         record {
-          cycle = (table_cycle card wf.entries).0 (eqb-true (first_return (entry card) (2 ^ card.words)) (2 ^ card.words) (not-false _ h.0));
+          cycle = (table_cycle card wf).0 (eqb-true (first_return (entry card) (2 ^ card.words)) (2 ^ card.words) (not-false _ h.0));
           constant = omega (arith, eqb-false (card.constant % 2) 0 h.1.0);
           odd = omega (arith, eqb-false (card.odd_power % 2) 0 p.0);
           even = omega (arith, eqb-false (card.even_power % 2) 1 p.1);
@@ -42,7 +42,7 @@ period-none card wf = (forth, back)
         let o = f.odd in
         let e = f.even in
         let c = f.constant in (
-          simp (eq-eqb _ _ ((table_cycle card wf.entries).1 f.cycle)),
+          simp (eq-eqb _ _ ((table_cycle card wf).1 f.cycle)),
           (
             ne_eqb (card.constant % 2) 0 (omega arith),
             (simp (ne_eqb (card.odd_power % 2) 0 (omega arith), ne_eqb (card.even_power % 2) 1 (omega arith)), tt),

@@ -14,7 +14,7 @@ use Rattle.completions.specs.Sets.{members, precedes, LeastSet}
 use Rattle.cycle.proofs.Count.{count_pos, count-some, count_not, two_met, same_of_count}
 use Rattle.cycle.proofs.Pigeonhole.{Repeats, le_count, count_le_of_all, all_of_count}
 use Rattle.cycle.proofs.Iterate.{iterate_add, iterate_rounds, iterate_mod, MapsBelow, iterate-below}
-use Rattle.cycle.proofs.Cycle.{le_of_reaches, return_of_repeat, cycle-reaches, cycle_from}
+use Rattle.cycle.proofs.Cycle.{le_of_reaches, return_between, cycle-reaches, cycle_from}
 use Rattle.completions.proofs.Completion.{excluded_by_repeat, excluded_by_cycle, excludes_iff, cycle_of_whole, iterate_injective, return_again}
 use Rattle.completions.proofs.Members.{Before, before_of_precedes}
 
@@ -40,7 +40,7 @@ NoShorter N f l = (z k : ℕ) → z < N → 0 < k → k < l → iterate f k z �
 
 cycle-apart : (N : ℕ) (f : ℕ → ℕ) (Q : ℕ → Bool) (l : ℕ) → NoShorter N f l → (s : ShortCycleIn N f Q) → Repeats l (λ k. iterate f k s.start) → ⊥
 cycle-apart N f Q l least s (i, j, ij, jl, e) =
-    least s.start (j - i) s.below (omega arith) (omega arith) (return_of_repeat f s.start s.size s.some s.returns i j (omega arith) e)
+    least s.start (j - i) s.below (omega arith) (omega arith) (return_between f s.start s.size s.some s.returns i j (omega arith) e)
 
 -- ---- the shortest cycle with the least place
 
@@ -95,7 +95,7 @@ module _ (N : ℕ) (f : ℕ → ℕ) (below : MapsBelow N f) (l x : ℕ) (c : Fi
           go : (k : ℕ) → k < l → iterate f k z ≡ iterate f l z → Dec (k ≡ 0) → iterate f l z ≡ z
           go k lk e (yes q) = sym e ∙ ap (λ (j : ℕ). iterate f j z) q
           go k lk e (no q) =
-              absurd (c.shortest z (l - k) s.below (omega arith) (omega arith) (return_of_repeat f z s.size s.some s.returns k l (omega arith) e))
+              absurd (c.shortest z (l - k) s.below (omega arith) (omega arith) (return_between f z s.size s.some s.returns k l (omega arith) e))
 
       -- so x is in it, and it is the cycle of x
       after : Dec (b.at < x) → Dec (b.at ≡ x) → iterate f l b.at ≡ b.at → ⊥

@@ -33,14 +33,18 @@ home f z M pos back k =
     let e : k * pred M + k ≡ k * M = sym (mul-suc k (pred M)) ∙ ap (λ (x : ℕ). k * x) (suc-pred-eq_of_pos pos) in
     sym (iterate_add f (k * pred M) k z) ∙ ap (λ (x : ℕ). iterate f x z) e ∙ iterate_rounds f M z back k
 
--- and a number that comes again makes z return after as many applications as lie between
-pub return_of_repeat : (f : ℕ → ℕ) (z M : ℕ) → 0 < M → iterate f M z ≡ z → (i j : ℕ) → i ≤ j → iterate f i z ≡ iterate f j z → iterate f (j - i) z ≡ z
-return_of_repeat f z M pos back i j ij e =
-    let d : ℕ = j - i in
-    let ji : d + i ≡ j = omega arith in
+-- and a number that comes again d applications later makes z return after d
+pub return_of_repeat : (f : ℕ → ℕ) (z M : ℕ) → 0 < M → iterate f M z ≡ z → (i d : ℕ) → iterate f i z ≡ iterate f (d + i) z → iterate f d z ≡ z
+return_of_repeat f z M pos back i d e =
     ap (iterate f d) (sym (home f z M pos back i)) ∙ ap (iterate f d) (sym (iterate_add f (i * pred M) i z)) ∙ sym (iterate_add f d (i * pred M + i) z)
     ∙ ap (λ (x : ℕ). iterate f x z) (add_left_comm d (i * pred M) i) ∙ iterate_add f (i * pred M) (d + i) z
-    ∙ ap (iterate f (i * pred M)) (ap (λ (x : ℕ). iterate f x z) ji ∙ sym e) ∙ home f z M pos back i
+    ∙ ap (iterate f (i * pred M)) (sym e) ∙ home f z M pos back i
+
+-- the same for two numbers of applications: z returns after as many as lie between
+pub return_between : (f : ℕ → ℕ) (z M : ℕ) → 0 < M → iterate f M z ≡ z → (i j : ℕ) → i ≤ j → iterate f i z ≡ iterate f j z → iterate f (j - i) z ≡ z
+return_between f z M pos back i j ij e =
+    let ji : (j - i) + i ≡ j = omega arith in
+    return_of_repeat f z M pos back i (j - i) (e ∙ ap (λ (x : ℕ). iterate f x z) (sym ji))
 
 -- a map that reaches all N numbers and returns after N applications is a single cycle
 pub cycle_of_return : (N : ℕ) (f : ℕ → ℕ) (z : ℕ) → 0 < N → Reaches N f z → iterate f N z ≡ z → SingleCycle N f z
@@ -58,7 +62,7 @@ cycle_of_reaches N f z M below l r pos back =
     let j : ℕ = p.1 in
     let lt : i < j = p.2 in
     let top : j < suc N = p.3 in
-    let c : iterate f (j - i) z ≡ z = return_of_repeat f z M pos back i j (omega arith) p.4 in
+    let c : iterate f (j - i) z ≡ z = return_between f z M pos back i j (omega arith) p.4 in
     let le : N ≤ j - i = le_of_reaches N f z (j - i) r c (omega arith) in
     let dn : j - i ≡ N = omega arith in
     cycle_of_return N f z (omega arith) r (ap (λ (x : ℕ). iterate f x z) (sym dn) ∙ c)
@@ -69,7 +73,7 @@ module _ (N : ℕ) (f : ℕ → ℕ) (z : ℕ) (pos : 0 < N) (c : SingleCycle N 
 
   no_repeat : (i j : ℕ) → i < j → j < N → iterate f i z ≡ iterate f j z → ⊥
   no_repeat i j lt l e =
-      let h : iterate f (j - i) z ≡ z = return_of_repeat f z N pos c.returns i j (omega arith) e in
+      let h : iterate f (j - i) z ≡ z = return_between f z N pos c.returns i j (omega arith) e in
       let le : N ≤ j - i = le_of_reaches N f z (j - i) cycle-reaches h (omega arith) in
       omega arith
 

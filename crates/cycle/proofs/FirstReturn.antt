@@ -9,7 +9,7 @@ use Rattle.cycle.specs.Notation.{iterate}
 use Rattle.cycle.specs.Cycle.{SingleCycle, return_from, first_return}
 use Rattle.cycle.proofs.Pigeonhole.{Repeats, surjective_of_injective}
 use Rattle.cycle.proofs.Iterate.{MapsBelow, iterate-below}
-use Rattle.cycle.proofs.Cycle.{return_of_repeat, visits_once}
+use Rattle.cycle.proofs.Cycle.{return_between, visits_once}
 
 -- ---- one more application
 
@@ -77,7 +77,7 @@ module _ (f : ℕ → ℕ) (N : ℕ) where
         where
           never : ReturnsAt f N 1 → Repeats N (λ k. iterate f k 0) → ⊥
           never r (i, j, lt, lj, e) =
-              r.before (j - i) (omega arith) (omega arith) (return_of_repeat f 0 N pos r.at i j (omega arith) e)
+              r.before (j - i) (omega arith) (omega arith) (return_between f 0 N pos r.at i j (omega arith) e)
 
       back : SingleCycle N f 0 → first_return f N ≡ N
       back c =

@@ -20,7 +20,7 @@ use Rattle.completions.proofs.Members.{members-count, member_at, member_of, memb
 use Rattle.tsc.specs.declared.Card.{Card}
 use Rattle.tsc.specs.Step.{entry}
 use Rattle.tsc.specs.Coverage.{WellFormed}
-use Rattle.tsc.proofs.Table.{table_cycle}
+use Rattle.tsc.proofs.Table.{table_below}
 use Rattle.refusals.specs.Refusals.{check, first_of, not_single_cycle, single_cycle}
 use Rattle.refusals.proofs.Refusals.{first-append, first-left, first_both, none_first}
 use Rattle.card_format.specs.Reading.{card_of, form_checks, SoundForm}
@@ -63,16 +63,16 @@ module _ (bytes : List ℕ) where
 
     -- 26 of a single cycle, and of no other table
     told_ring : SingleCycle N f 0 → first_of (bad_checks bytes) ≡ single_cycle.number
-    told_ring c = told true (eq-eqb _ _ ((table_cycle (card_of bytes) below).1 c))
+    told_ring c = told true (eq-eqb _ _ ((table_below (card_of bytes) below).1 c))
 
     told_none : (SingleCycle N f 0 → ⊥) → first_of (bad_checks bytes) ≡ 0
-    told_none none = told false (ne_eqb _ _ (λ e. none ((table_cycle (card_of bytes) below).0 e)))
+    told_none none = told false (ne_eqb _ _ (λ e. none ((table_below (card_of bytes) below).0 e)))
 
     pub ring_iff : (first_of (bad_checks bytes) ≡ single_cycle.number) ↔ SingleCycle N f 0
     ring_iff = (λ e. go (ℕ_discrete (first_return f N) N) e, told_ring)
       where
         go : Dec (first_return f N ≡ N) → first_of (bad_checks bytes) ≡ single_cycle.number → SingleCycle N f 0
-        go (yes q) e = (table_cycle (card_of bytes) below).0 q
+        go (yes q) e = (table_below (card_of bytes) below).0 q
         go (no q) e = absurd (omega (arith, told false (ne_eqb _ _ q)))
 
     -- places are shown exactly where check tells 7
