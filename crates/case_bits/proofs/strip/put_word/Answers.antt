@@ -1,4 +1,3 @@
-use borrow.Author.Rules.{rules}
 use borrow.Author.Tests.{lt-ltb, le-ltb}
 use Rattle.case_bits.specs.Strip.{with_word}
 use Rattle.case_bits.proofs.strip.put_word.Goals as goal

@@ -1,11 +1,8 @@
-use mathlib.Core.Path.{◌≡◌, refl, sym, ap, ◌∙◌}
-use Prim.Native.Nat.{◌+◌, ◌-◌, ◌≤◌}
+use mathlib.Core.Path.{refl, sym, ap, ◌∙◌}
 use native.Mathlib.Omega.{arith}
-use borrow.Author.Rules.{rules}
-use lib.ListN.{length}
-use Rattle.case_fields.specs.Text.{parts, comma}
+use Rattle.case_fields.specs.Text.{comma}
 use Rattle.case_bits.specs.Strip.{held, words_in}
-use Rattle.case_fields.proofs.Parts.{parts_from, parts_find, parts_end, parts-start}
+use Rattle.case_fields.proofs.Parts.{parts_find, parts_end, parts-start}
 use Rattle.case_bits.proofs.Words.{gathered, gather_next, gather_end}
 use Rattle.case_bits.proofs.strip.words_of.Goals as goal
 
@@ -26,7 +23,7 @@ loop-at-preserved c = let field = c.args.field.now in
     let f = c.find-end in
     let next = parts_find comma field l.at f.result (omega arith) f.ensures.value in (
       omega arith,
-      c.put_word-count.auto.0 ∙ l.invariant.1,
+      c.put_word-count.auto.words ∙ l.invariant.1,
       gather_next (held l.words l.count) _ _ _ _ _ c.put_word-count.ensures c.number_of.ensures next ∙ l.invariant.2,
     )
 

@@ -1,12 +1,10 @@
-use mathlib.Core.Path.{◌≡◌, refl, sym, ap, ◌∙◌}
+use mathlib.Core.Path.{◌≡◌}
 use Prim.Native.Nat.{◌+◌, ◌-◌, ◌≤◌}
-use native.Mathlib.Omega.{arith}
-use borrow.Author.Rules.{rules}
 use lib.ListN.{length}
 use Rattle.case_fields.specs.Text.{parts, comma}
-use Rattle.case_bits.specs.Strip.{held, words_in}
-use Rattle.case_fields.proofs.Parts.{parts_from, parts_find, parts_end, parts-start}
-use Rattle.case_bits.proofs.Words.{gathered, gather_next, gather_end}
+use Rattle.case_bits.specs.Strip.{held}
+use Rattle.case_fields.proofs.Parts.{parts_from}
+use Rattle.case_bits.proofs.Words.{gathered}
 use Rattle.case_bits.proofs.strip.words_of.Given as goal
 
 abbrev pub invariant-loop-at : goal.invariant-loop-at

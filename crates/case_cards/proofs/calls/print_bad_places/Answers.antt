@@ -1,5 +1,4 @@
 use Rattle.diagnoses.proofs.Answers.{shown-fits}
-use borrow.Author.Rules.{rules}
 use Rattle.case_cards.proofs.calls.print_bad_places.Goals as goal
 
 pub print_places-requires : goal.print_places-requires

@@ -1,5 +1,4 @@
 use Prim.Native.Nat.{◌-◌, ◌≤◌}
-use native.Mathlib.Omega.{arith}
 use Rattle.diagnoses.specs.BadPlaces.{most_places}
 use Rattle.case_cards.proofs.calls.print_places.Given as goal
 
