@@ -1,5 +1,4 @@
 use Prim.Native.Nat.{◌-◌, ◌≤◌}
-use native.Mathlib.Omega.{arith}
 use Rattle.ties.specs.Ties.{most_shovels}
 use Rattle.case_map.proofs.calls.print_numbers.Given as goal
 

@@ -1,8 +1,6 @@
-use native.Mathlib.Omega.{arith}
 use Prim.Native.Nat.{◌≤◌}
 use lib.Dec.{lit≤}
 use Rattle.case_fields.specs.Lists.{room, zeros}
-use borrow.Author.Rules.{rules}
 use Rattle.case_map.proofs.lines.replay_within.Goals as goal
 
 -- an empty list

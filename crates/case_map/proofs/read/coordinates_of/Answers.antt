@@ -1,13 +1,9 @@
-use mathlib.Core.Path.{◌≡◌, ap₂, sym, ◌∙◌}
-use Prim.Native.Nat.{◌+◌, ◌-◌, ◌≤◌}
+use mathlib.Core.Path.{ap₂, sym, ◌∙◌}
 use native.Mathlib.Omega.{arith}
-use borrow.Author.Rules.{rules}
-use lib.ListN.{length}
-use Rattle.case_fields.specs.Text.{parts, comma}
+use Rattle.case_fields.specs.Text.{comma}
 use Rattle.case_numbers.specs.Numbers.{most_number}
-use Rattle.case_fields.specs.Lists.{zeros}
 use Rattle.case_fields.proofs.Folds.{gathered, gather_next, gather_end}
-use Rattle.case_fields.proofs.Parts.{parts_from, parts_find, parts_end, parts-start}
+use Rattle.case_fields.proofs.Parts.{parts_find, parts_end, parts-start}
 use Rattle.case_map.specs.Coordinates.{half_in, coordinates_in}
 use Rattle.case_map.proofs.read.coordinates_of.Goals as goal
 

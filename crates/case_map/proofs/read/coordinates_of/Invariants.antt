@@ -1,14 +1,12 @@
-use mathlib.Core.Path.{◌≡◌, ap₂, sym, ◌∙◌}
+use mathlib.Core.Path.{◌≡◌}
 use Prim.Native.Nat.{◌+◌, ◌-◌, ◌≤◌}
-use native.Mathlib.Omega.{arith}
-use borrow.Author.Rules.{rules}
 use lib.ListN.{length}
 use Rattle.case_fields.specs.Text.{parts, comma}
 use Rattle.case_numbers.specs.Numbers.{most_number}
 use Rattle.case_fields.specs.Lists.{zeros}
-use Rattle.case_fields.proofs.Folds.{gathered, gather_next, gather_end}
-use Rattle.case_fields.proofs.Parts.{parts_from, parts_find, parts_end, parts-start}
-use Rattle.case_map.specs.Coordinates.{half_in, coordinates_in}
+use Rattle.case_fields.proofs.Folds.{gathered}
+use Rattle.case_fields.proofs.Parts.{parts_from}
+use Rattle.case_map.specs.Coordinates.{half_in}
 use Rattle.case_map.proofs.read.coordinates_of.Given as goal
 
 abbrev pub invariant-loop-at : goal.invariant-loop-at
