@@ -6,10 +6,7 @@ mod input;
 mod line;
 
 use std::io;
-use std::io::{BufWriter, Write};
 
 fn main(rt: HostRuntime) -> io::Result<()> {
-    let mut out = BufWriter::new(rt.alloc(), io::writer(&rt))?;
-    input::replay_input(&mut rt.reader(), &mut out)?;
-    out.flush()
+    input::replay_input(&mut rt.reader(), &mut io::writer(&rt))
 }
