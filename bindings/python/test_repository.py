@@ -32,11 +32,11 @@ class Refusals(unittest.TestCase):
         self.assertEqual([(name, int(number), word) for name, number, word in header], self.here)
 
     def test_the_code(self):
-        constants = re.findall(r"// ([a-z ]+)\npub const (\w+): u8 = (\d+);", text("crates/refusals/src/lib.rt"))
-        self.assertEqual([(name, int(number), word) for word, name, number in constants], self.here)
+        variants = re.findall(r"    // ([a-z ]+)\n    (\w+)(?: = 1)?,\n", text("crates/refusals/src/lib.rt"))
+        self.assertEqual([(shout(name), number, word) for number, (word, name) in enumerate(variants, 1)], self.here)
 
     def test_the_definitions(self):
-        defined = re.findall(r"\n(\w+) = numbered (\d+) tt +-- ([a-z ]+)\n", text("crates/refusals/specs/Refusals.antt"))
+        defined = re.findall(r"\nnumber (\w+) = (\d+) +-- ([a-z ]+)(?=\n)", text("crates/refusals/specs/Refusals.antt"))
         self.assertEqual([(shout(name), int(number), word) for name, number, word in defined], self.here)
 
     def test_rust(self):

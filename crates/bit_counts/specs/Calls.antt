@@ -1,11 +1,10 @@
 -- What a count of bits answers and leaves on the page (document 02, Eight), for any bytes, words and page.
-use Rattle.std.specs.Prelude.{cond, List, ◌++◌, ℕ, eqb, length, drop}
-use Rattle.refusals.specs.Refusals.{Check, first_of}
+use Rattle.std.specs.Prelude.{cond, List, ◌++◌, ℕ, eqb, length, drop, Result}
+use Rattle.refusals.specs.Refusals.{Check, first_of, answered}
 use Rattle.card_format.specs.Reading.{card_of}
 use Rattle.card_format.specs.Verdict.{card_checks}
 use Rattle.bit_strip.specs.Strip.{strip_checks}
-use Rattle.bit_counts.specs.declared.BitCounts.{BitCounts}
-use Rattle.bit_counts.specs.declared.BitCounts.TheVariants.{Counted, Refused}
+use Rattle.bit_counts.specs.declared.Counts.{Counts}
 use Rattle.bit_counts.specs.Bits.{bits_of, text}
 use Rattle.bit_counts.specs.Counts.{counts_of}
 
@@ -22,8 +21,8 @@ module _ (bytes strip : List ℕ) where
   bit_refusal room = first_of (bit_checks room)
 
   -- the four integers, or the refusal
-  unfoldable pub counting_bits : ℕ → BitCounts
-  counting_bits room = cond (eqb (bit_refusal room) 0) (Counted (counts_of strip_bits)) (Refused (bit_refusal room))
+  unfoldable pub counting_bits : ℕ → Result Counts ℕ
+  counting_bits room = answered (bit_refusal room) (counts_of strip_bits)
 
   -- the page: the bits as text, and past them what stood there; as lent where it refuses
   unfoldable pub bit_page : List ℕ → List ℕ

@@ -13,10 +13,3 @@ pub struct Counts {
     // the number of runs
     pub runs: u32,
 }
-
-// What a count of bits answers: the integers, or the refusal.
-#[derive(Clone, Copy)]
-pub enum BitCounts {
-    Counted(Counts),
-    Refused(u8),
-}

@@ -1,5 +1,4 @@
 -- Laws of what is kept while bits are counted.
 pub mod Pass
 pub mod Room
-pub mod Signed
 pub mod Text

@@ -2,7 +2,7 @@
 use mathlib.Core.Path.{◌≡◌, refl, sym, ap, ◌∙◌}
 use mathlib.Core.List.{List, [], ◌∷◌, ◌++◌, append-nil, map-append}
 use Prim.Native.Nat.{ℕ, zero, suc, ◌+◌, ◌-◌, ◌*◌, ◌≤◌, ◌<◌}
-use native.Mathlib.Nat.{mul-zero, mul-suc, mul-le-mul_left}
+use native.Mathlib.Nat.{mul-zero, mul-suc}
 use native.Mathlib.Numerals.{add-one}
 use native.Mathlib.Omega.{arith}
 use lib.ListN.{length, get_or, take, drop}
@@ -31,16 +31,16 @@ strip_bits_lem n (w ∷ ws) = all_append (word_bits n w) (bits_of n ws) (word_bi
 
 -- ---- a word
 
--- with `left` bits to go, the next one is bit left - 1
-pub digit_at : (n w left i : ℕ) → 0 < left → i + left ≡ n → digit (bit (left - 1) w) ≡ get_or (text (word_bits n w)) i 0
-digit_at n w left i h e =
-    let same : n - 1 - i ≡ left - 1 = omega arith in
-    sym (text_at (word_bits n w) i (omega (arith, length-word_bits n w)) ∙ ap digit (word_bits_at n w i (omega arith) ∙ ap (λ (j : ℕ). bit j w) same))
+-- place i has bit n - 1 - i, and the bits from it on begin with that bit
+pub digit_at : (n w i : ℕ) → i < n → digit (bit (n - 1 - i) w) ≡ get_or (text (word_bits n w)) i 0
+digit_at n w i l = sym (text_at (word_bits n w) i (omega (arith, length-word_bits n w)) ∙ ap digit (word_bits_at n w i l))
 
-pub bit_next : (t : Tally) (left w : ℕ) → 0 < left → tallied (with_bit t (bit (left - 1) w)) (word_bits (left - 1) w) ≡ tallied t (word_bits left w)
+pub bit_next : (t : Tally) (n w i : ℕ) → i < n → tallied (with_bit t (bit (n - 1 - i) w)) (word_bits (n - (i + 1)) w) ≡ tallied t (word_bits (n - i) w)
 unfolding word_bits tallied
-bit_next t zero w h = absurd (omega arith)
-bit_next t (suc l) w h = let e : suc l - 1 ≡ l = omega arith in ap (λ (j : ℕ). tallied (with_bit t (bit j w)) (word_bits j w)) e
+bit_next t n w i l =
+    let this : n - i ≡ suc (n - 1 - i) = omega arith in
+    let rest : n - (i + 1) ≡ n - 1 - i = omega arith in
+    ap (λ (j : ℕ). tallied (with_bit t (bit (n - 1 - i) w)) (word_bits j w)) rest ∙ sym (ap (λ (j : ℕ). tallied t (word_bits j w)) this)
 
 pub no_bits : (t : Tally) (left w : ℕ) → left ≡ 0 → tallied t (word_bits left w) ≡ t
 unfolding word_bits tallied
@@ -90,9 +90,6 @@ all_counted n strip t k e = ap (λ (s : List ℕ). tallied t (bits_of n s)) (sym
 module _ (n k m : ℕ) where
   pub place_next : n * k + n ≡ n * (k + 1)
   place_next = rw (add-one, mul-suc) refl
-
-  pub place_room : k < m → n * k + n ≤ n * m
-  place_room l = omega (arith, place_next, mul-le-mul_left {m = k + 1} {n = m} n (omega arith))
 
   pub places_left : k < m → n * (m - k) ≡ n + n * (m - (k + 1))
   places_left l = let e : m - k ≡ suc (m - (k + 1)) = omega arith in ap (λ (x : ℕ). n * x) e ∙ omega (arith, mul-suc n (m - (k + 1)))

@@ -5,7 +5,6 @@ ghost use Rattle.bit_counts.specs.Bits.{word_bits, bits_of, digit, text};
 ghost use Rattle.bit_counts.specs.Counts.{counts_of};
 ghost use Rattle.bit_tally.specs.Tally.{tally_of_none, tallied, HasRoom, HasPlace, with_text};
 
-use super::tally;
 use super::tally::Tally;
 use bit_counts::Counts;
 use words::mask;
@@ -15,7 +14,7 @@ fn digit_of(bit: u32) -> u8
     requires { bit < 2 }
     ensures { result ≡ digit bit }
 {
-    (48 + bit) as u8
+    b'0' + bit as u8
 }
 
 // The n bits of a word, the top one first, at the start of a part of the page.
@@ -25,14 +24,10 @@ fn put_word(t: Tally, word: u32, n: u32, part: &mut [u8]) -> Tally
     ensures page { part.new ≡ text (word_bits n word) ++ drop n part.old }
 {
     let mut tally = t;
-    let mut left = n;
-    let mut i: u32 = 0;
-    while 0 < left {
-        left -= 1;
-        let bit = mask::bit_of(word, left);
+    for i in 0..n {
+        let bit = mask::bit_of(word, n - 1 - i);
         part[i as usize] = digit_of(bit);
-        tally = tally::with_bit(tally, bit);
-        i += 1;
+        tally = tally.with_bit(bit);
     }
     tally
 }
@@ -43,15 +38,12 @@ fn put_words(n: u32, strip: &[u32], page: &mut [u8]) -> Tally
     ensures counted { result ≡ tallied tally_of_none (bits_of n strip.now) }
     ensures page { page.new ≡ with_text n strip.now page.old }
 {
-    let mut t = tally::none();
-    let mut at = 0;
-    let mut k = 0;
-    while k < strip.len() {
-        t = put_word(t, strip[k], n, &mut page[at..]);
-        at += n as usize;
-        k += 1;
+    let mut tally = Tally::none();
+    for k in 0..strip.len() {
+        let at = n as usize * k;
+        tally = put_word(tally, strip[k], n, &mut page[at..]);
     }
-    t
+    tally
 }
 
 // The bits of a strip at the front of the page, and what is counted of them. The call has found that words and page are as is required.
@@ -60,6 +52,5 @@ pub fn count_bits(n: u32, strip: &[u32], page: &mut [u8]) -> Counts
     ensures counted { result ≡ counts_of (bits_of n strip.now) }
     ensures page { page.new ≡ with_text n strip.now page.old }
 {
-    let t = put_words(n, strip, page);
-    tally::counts_of(t)
+    put_words(n, strip, page).counts()
 }

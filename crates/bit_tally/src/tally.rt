@@ -1,7 +1,6 @@
 // What is kept of the bits so far, with one bit more, and the four integers that it comes to. Nothing here branches on a bit.
-ghost use Rattle.std.specs.Prelude.{◌≡◌, not, ◌*◌, ◌<◌, ◌≤◌, min, max, eqb};
+ghost use Rattle.std.specs.Prelude.{◌≡◌, ◌*◌, ◌<◌, ◌≤◌};
 ghost use Rattle.std.proofs.Math.IntN.{sub_ℕ};
-ghost use Rattle.cycle.specs.Notation.{one};
 ghost use Rattle.bit_tally.specs.Tally.{base, tally_of_none, with_bit, HasRoom, Extremes, counts_from};
 
 use bit_counts::Counts;
@@ -10,7 +9,7 @@ use bit_strip::check::MOST_STRIP_WORDS;
 // The running sum is kept that much higher, so that it is a number: it never falls by more than there are bits.
 const BASE: u32 = 32 * MOST_STRIP_WORDS as u32;
 
-// The running sum, the lowest and the highest it has been, the runs, and the last bit, which is 2 before the first.
+// The running sum, the lowest and the highest it has been, the runs, and the last bit, which is 2 before the first: an Option would be matched at each bit.
 #[derive(Clone, Copy)]
 pub struct Tally {
     pub sum: u32,
@@ -20,59 +19,48 @@ pub struct Tally {
     pub last: u32,
 }
 
-// Of no bits.
-pub fn none() -> Tally
-    ensures { result ≡ tally_of_none }
-{
-    Tally {
-        sum: BASE,
-        low: BASE,
-        high: BASE,
-        runs: 0,
-        last: 2,
+impl Tally {
+    // Of no bits.
+    pub fn none() -> Tally
+        ensures { result ≡ tally_of_none }
+    {
+        Tally {
+            sum: BASE,
+            low: BASE,
+            high: BASE,
+            runs: 0,
+            last: 2,
+        }
     }
-}
 
-fn lesser(a: u32, b: u32) -> u32
-    ensures { result ≡ min a b }
-{
-    if a < b {
-        return a;
+    // One bit more. Callers have found that there are no more bits than the sum has room for.
+    #[tactic(auto, unfolding(crate::specs::Tally::with_bit))]
+    pub fn with_bit(self, bit: u32) -> Tally
+        requires { (bit < 2) × HasRoom self 1 }
+        ensures { result ≡ with_bit self bit }
+    {
+        let sum = self.sum - 1 + 2 * bit;
+        Tally {
+            sum,
+            low: self.low.min(sum),
+            high: self.high.max(sum),
+            runs: self.runs + u32::from(self.last != bit),
+            last: bit,
+        }
     }
-    b
-}
 
-fn greater(a: u32, b: u32) -> u32
-    ensures { result ≡ max a b }
-{
-    if a < b {
-        return b;
-    }
-    a
-}
-
-// 1 where two bits differ, else 0.
-fn differ(a: u32, b: u32) -> u32
-    ensures { result ≡ one (not (eqb a b)) }
-{
-    if a == b {
-        return 0;
-    }
-    1
-}
-
-// One bit more. Callers have found that there are no more bits than the sum has room for.
-pub fn with_bit(t: Tally, bit: u32) -> Tally
-    requires { (bit < 2) × HasRoom t 1 }
-    ensures { result ≡ with_bit t bit }
-{
-    let sum = t.sum - 1 + 2 * bit;
-    Tally {
-        sum: sum,
-        low: lesser(t.low, sum),
-        high: greater(t.high, sum),
-        runs: t.runs + differ(t.last, bit),
-        last: bit,
+    // The four integers that it comes to. The pass keeps extremes (`pass_extremes`).
+    #[tactic(auto, unfolding(crate::specs::Tally::counts_from))]
+    pub fn counts(self) -> Counts
+        requires { Extremes self }
+        ensures { result ≡ counts_from self }
+    {
+        Counts {
+            balance: signed(self.sum),
+            forward: (self.high - BASE).max(BASE - self.low),
+            backward: (self.sum - self.low).max(self.high - self.sum),
+            runs: self.runs,
+        }
     }
 }
 
@@ -82,17 +70,4 @@ fn signed(sum: u32) -> i32
     ensures { result ≡ sub_ℕ sum base }
 {
     sum as i32 - BASE as i32
-}
-
-// The four integers that what is kept comes to. The pass keeps extremes (`pass-extremes`).
-pub fn counts_of(t: Tally) -> Counts
-    requires { Extremes t }
-    ensures { result ≡ counts_from t }
-{
-    Counts {
-        balance: signed(t.sum),
-        forward: greater(t.high - BASE, BASE - t.low),
-        backward: greater(t.sum - t.low, t.high - t.sum),
-        runs: t.runs,
-    }
 }

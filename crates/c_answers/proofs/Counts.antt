@@ -6,7 +6,8 @@ use mathlib.Core.List.{List}
 use Prim.Native.Nat.{ℕ}
 use lib.IntN.{pos}
 use lib.ListN.{length}
-use Rattle.bit_counts.specs.declared.BitCounts.{BitCounts}
+use Rattle.std.specs.Prelude.{Result}
+use Rattle.bit_counts.specs.declared.Counts.{Counts}
 use Rattle.bit_counts.specs.Calls.{bit_refusal, counting_bits, bit_page}
 use Rattle.bit_counts.proofs.Counting.{bits_refused}
 use Rattle.c_answers.specs.Counts.{bit_counts_answer, counted_for}
@@ -15,7 +16,7 @@ use Rattle.c_answers.proofs.Refused.{told}
 module _ (bytes strip page : List ℕ) where
   pub counts_told : (counted_for bytes strip (length page)).refusal ≡ bit_refusal bytes strip (length page)
   unfolding counting_bits
-  counts_told = told (λ (b : BitCounts). (bit_counts_answer b).refusal) (bit_refusal bytes strip (length page)) _ _ refl refl
+  counts_told = told (λ (b : Result Counts ℕ). (bit_counts_answer b).refusal) (bit_refusal bytes strip (length page)) _ _ refl refl
 
   pub counts-refused : let r = (counted_for bytes strip (length page)).refusal in r ≢ 0
       → (counted_for bytes strip (length page) ≡ record { balance = pos 0; forward = 0; backward = 0; runs = 0; refusal = r }) × (bit_page bytes strip page ≡ page)

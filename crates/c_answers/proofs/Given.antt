@@ -6,10 +6,11 @@ use native.Mathlib.Omega.{arith}
 use lib.ListN.{length, take, replicate, length-append, length-replicate}
 use lib.Seq.{take_all}
 use borrow.Author.Tests.{lt-ltb, le-ltb}
+use Rattle.std.specs.Prelude.{Err}
 use Rattle.tsc.specs.declared.Card.{Card}
 use Rattle.tsc.specs.Constants.{most_words}
-use Rattle.card_format.specs.declared.Written.TheVariants.{Refused}
-use Rattle.refusals.specs.Refusals.{out_of_range}
+use Rattle.refusals.specs.Refusals.{number}
+use Rattle.refusals.specs.declared.Refusal.TheVariants.{OutOfRange}
 use Rattle.card_format.specs.Reading.{padded}
 use Rattle.card_format.specs.Writing.{writing, page_after}
 use Rattle.c_answers.specs.Answers.{written_length, written_from, page_from}
@@ -17,7 +18,7 @@ use Rattle.c_answers.specs.Answers.{written_length, written_from, page_from}
 module _ (card : Card) (page : List ℕ) where
   -- an overlong table: refusal 2, and the page as it was
   pub overlong-refused : 2 ^ most_words < length card.table
-      → (written_length (Refused out_of_range.number) ≡ written_from card (length page)) × (page ≡ page_from card page)
+      → (written_length (Err (number OutOfRange)) ≡ written_from card (length page)) × (page ≡ page_from card page)
   unfolding written_from page_from
   overlong-refused long = rw (lt-ltb (2 ^ most_words) (length card.table) long) (refl, refl)
 

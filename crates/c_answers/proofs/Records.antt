@@ -13,30 +13,31 @@ use Rattle.refusals.specs.Refusals.{first_of}
 use Rattle.picks.specs.declared.Pick.{Pick}
 use Rattle.picks.specs.declared.Pick.TheVariants.{Refused}
 use Rattle.picks.specs.Picks.{picking}
-use Rattle.records.specs.declared.Order.{Order}
-use Rattle.records.specs.Reading.{record_checks, no_record, reading_record}
+use Rattle.std.specs.Prelude.{Result}
+use Rattle.records.specs.declared.Record.{Record}
+use Rattle.records.specs.Reading.{record_checks, reading_record}
 use Rattle.records.specs.Orders.{order_checks, order_for}
 use Rattle.recorded_picks.specs.Recorded.{recorded_refusal, recorded_picking, recorded_state, recorded_page}
 use Rattle.recorded_picks.proofs.Recorded.{not_refused, call_refused}
 use Rattle.c_answers.specs.Answers.{choice}
-use Rattle.c_answers.specs.Records.{record_values, order_answer, read_record, told_to}
+use Rattle.c_answers.specs.Records.{record_values, no_record, record_answer, order_answer, read_record, told_to}
 use Rattle.c_answers.proofs.Refused.{told, pick_told}
 
 -- the desk's answer
 module _ (bytes : List ℕ) where
   pub record_told : (read_record bytes).refusal ≡ first_of (record_checks bytes)
   unfolding reading_record
-  record_told = refl
+  record_told = told (λ (r : Result Record ℕ). (record_answer r).refusal) (first_of (record_checks bytes)) _ _ refl refl
 
   pub record_refused : (read_record bytes).refusal ≢ 0 → (read_record bytes).values ≡ record_values no_record
   unfolding reading_record
-  record_refused ne = rw (ne_eqb _ 0 ne) refl
+  record_refused ne = rw (ne_eqb (first_of (record_checks bytes)) 0 (λ z. ne (record_told ∙ z))) refl
 
 -- a cab's
 module _ (truck : ℕ) (bytes : List ℕ) where
   pub order_told : (told_to truck bytes).refusal ≡ first_of (order_checks truck bytes)
   unfolding order_for
-  order_told = told (λ (o : Order). (order_answer o).refusal) (first_of (order_checks truck bytes)) _ _ refl refl
+  order_told = told (λ (o : Result ℕ ℕ). (order_answer o).refusal) (first_of (order_checks truck bytes)) _ _ refl refl
 
   pub order-refused : (told_to truck bytes).refusal ≢ 0 → (told_to truck bytes).shovel ≡ 0
   unfolding order_for

@@ -9,27 +9,22 @@ use native.Mathlib.Decide.{ℕ_discrete}
 use lib.Dec.{eqb}
 use lib.ListN.{length}
 use borrow.Author.Tests.{eq-eqb, ne_eqb}
+use Rattle.std.specs.Prelude.{Result, Ok, Err}
 use Rattle.tsc.specs.declared.Card.{Card}
-use Rattle.card_format.specs.declared.Reading.{Reading}
-use Rattle.card_format.specs.declared.Written.{Written}
-use Rattle.card_format.specs.declared.Written.TheVariants.{Refused}
-use Rattle.refusals.specs.Refusals.{first_of, out_of_range, no_such_change}
-use Rattle.card_format.specs.Reading.{card_of, form_checks, no_card, reading}
-use Rattle.card_format.proofs.Verdict.{answering-refused}
+use Rattle.refusals.specs.Refusals.{first_of, number}
+use Rattle.refusals.specs.declared.Refusal.TheVariants.{OutOfRange, NoSuchChange}
+use Rattle.card_format.specs.Reading.{form_checks, reading}
 use Rattle.card_format.specs.Writing.{write_checks, writing, page_after}
 use Rattle.card_format.proofs.Writing.{writing-refused}
-use Rattle.draws.specs.declared.Draw.{Draw}
 use Rattle.draws.specs.Calls.{refusal_for, stepped, stepped_back, drawing}
 use Rattle.draws.proofs.Opening.{unless_refused_lem}
-use Rattle.draws.proofs.Called.{drawing-refused}
 use Rattle.picks.specs.declared.Pick.{Pick}
 use Rattle.picks.specs.Picks.{pick_refusal, picking, picked}
 use Rattle.picks.proofs.Picking.{picking-refused}
-use Rattle.margins.specs.declared.Margin.{Margin}
-use Rattle.margins.specs.declared.Margin.TheVariants as margin
+use Rattle.margins.specs.declared.Nearest.{Nearest}
 use Rattle.margins.proofs.Answers.{Passed, margin_passed, margin_refused}
 use Rattle.c_answers.specs.declared.MarginAnswer.{MarginAnswer}
-use Rattle.c_answers.specs.Answers.{drawn, choice, margin_answer, IsMarginAnswer, card_values, read_card, written_length, overlong, written_from, page_from}
+use Rattle.c_answers.specs.Answers.{drawn, choice, margin_answer, IsMarginAnswer, card_values, no_card, card_reading, read_card, written_length, overlong, written_from, page_from}
 
 -- what every answer is made by: a value with refusal 0 where none applies, else the refusal
 pub told : {A : Type 0} (refusal : A → ℕ) (r : ℕ) (value refused : A) → refusal value ≡ 0 → refusal refused ≡ r → refusal (cond (eqb r 0) value refused) ≡ r
@@ -46,12 +41,13 @@ module _ (bytes xs : List ℕ) where
 
   pub draw_told : (drawn (drawing bytes xs)).refusal ≡ refusal_for bytes xs
   unfolding drawing
-  draw_told = told (λ (d : Draw). (drawn d).refusal) (refusal_for bytes xs) _ _ refl refl
+  draw_told = told (λ (d : Result ℕ ℕ). (drawn d).refusal) (refusal_for bytes xs) _ _ refl refl
 
   pub draw_refused : (drawn (drawing bytes xs)).refusal ≢ 0 → ((drawn (drawing bytes xs)).word ≡ 0) × (stepped bytes xs ≡ xs)
+  unfolding drawing
   draw_refused ne =
       let n : refusal_for bytes xs ≢ 0 = λ z. ne (draw_told ∙ z) in
-      (ap (λ (d : Draw). (drawn d).word) (sym (drawing-refused bytes xs _ refl n)), (step-refused n).0)
+      (rw (ne_eqb (refusal_for bytes xs) 0 n) refl, (step-refused n).0)
 
 module _ (bytes xs shovels times : List ℕ) where
   pub pick_told : (choice (picking bytes xs shovels times)).refusal ≡ pick_refusal bytes xs shovels times
@@ -70,42 +66,42 @@ module _ (bytes xs shovels times : List ℕ) (r : MarginAnswer) (h : IsMarginAns
   pub margin_told : pick_refusal bytes xs shovels times ≢ 0 → r.refusal ≡ pick_refusal bytes xs shovels times
   margin_told n = ap (λ (r : MarginAnswer). r.refusal) (h.2 ∙ ap margin_answer ((margin_refused bytes xs shovels times n h.0).0 h.1))
 
-  pub margin_nineteen : pick_refusal bytes xs shovels times ≡ 0 → r.refusal ≢ 0 → r.refusal ≡ no_such_change.number
+  pub margin_nineteen : pick_refusal bytes xs shovels times ≡ 0 → r.refusal ≢ 0 → r.refusal ≡ number NoSuchChange
   margin_nineteen z = go h.0 ((margin_passed bytes xs shovels times z h.0).0 h.1) h.2
     where
-      go : (m : Margin) → Passed bytes xs shovels times m → r ≡ margin_answer m → r.refusal ≢ 0 → r.refusal ≡ no_such_change.number
-      go (margin.Least n) p e ne = absurd (ne (ap (λ (r : MarginAnswer). r.refusal) e))
-      go (margin.Refused q) p e ne = ap (λ (r : MarginAnswer). r.refusal) e ∙ p.0
+      go : (m : Result Nearest ℕ) → Passed bytes xs shovels times m → r ≡ margin_answer m → r.refusal ≢ 0 → r.refusal ≡ number NoSuchChange
+      go (Ok n) p e ne = absurd (ne (ap (λ (r : MarginAnswer). r.refusal) e))
+      go (Err q) p e ne = ap (λ (r : MarginAnswer). r.refusal) e ∙ p.0
 
   pub margin_zeros : r.refusal ≢ 0 → r ≡ record { seconds = 0; changed = 0; shovel = 0; raised = 0; ties = 0; taken = 0; refusal = r.refusal }
   margin_zeros = go h.0 h.2
     where
-      go : (m : Margin) → r ≡ margin_answer m → r.refusal ≢ 0 → r ≡ record { seconds = 0; changed = 0; shovel = 0; raised = 0; ties = 0; taken = 0; refusal = r.refusal }
-      go (margin.Least n) e ne = absurd (ne (ap (λ (r : MarginAnswer). r.refusal) e))
-      go (margin.Refused q) e ne = e ∙ ap (λ (q : ℕ). margin_answer (margin.Refused q)) (sym (ap (λ (r : MarginAnswer). r.refusal) e))
+      go : (m : Result Nearest ℕ) → r ≡ margin_answer m → r.refusal ≢ 0 → r ≡ record { seconds = 0; changed = 0; shovel = 0; raised = 0; ties = 0; taken = 0; refusal = r.refusal }
+      go (Ok n) e ne = absurd (ne (ap (λ (r : MarginAnswer). r.refusal) e))
+      go (Err q) e ne = e ∙ ap (λ (q : ℕ). margin_answer (Err q)) (sym (ap (λ (r : MarginAnswer). r.refusal) e))
 
 module _ (bytes : List ℕ) where
   pub read_told : (read_card bytes).refusal ≡ first_of (form_checks bytes)
   unfolding reading
-  read_told = refl
+  read_told = told (λ (a : Result Card ℕ). (card_reading a).refusal) (first_of (form_checks bytes)) _ _ refl refl
 
   -- every value is 0
   pub read_refused : (read_card bytes).refusal ≢ 0 → (read_card bytes).card ≡ card_values no_card
   unfolding reading
-  read_refused ne = ap (λ (r : Reading). card_values r.card) (sym (answering-refused (card_of bytes) _ ne))
+  read_refused ne = rw (ne_eqb (first_of (form_checks bytes)) 0 (λ z. ne (read_told ∙ z))) refl
 
 module _ (card : Card) (page : List ℕ) where
   -- the writer's own refusal, for a table that the array can hold
   writing_told : (written_length (writing card (length page))).refusal ≡ first_of (write_checks card (length page))
   unfolding writing
-  writing_told = told (λ (w : Written). (written_length w).refusal) (first_of (write_checks card (length page))) _ _ refl refl
+  writing_told = told (λ (w : Result ℕ ℕ). (written_length w).refusal) (first_of (write_checks card (length page))) _ _ refl refl
 
-  pub write_told : (written_from card (length page)).refusal ≡ cond (overlong card) out_of_range.number (first_of (write_checks card (length page)))
+  pub write_told : (written_from card (length page)).refusal ≡ cond (overlong card) (number OutOfRange) (first_of (write_checks card (length page)))
   unfolding written_from
   write_told = go (overlong card)
     where
-      go : (b : Bool) → (written_length (cond b (Refused out_of_range.number) (writing card (length page)))).refusal
-          ≡ cond b out_of_range.number (first_of (write_checks card (length page)))
+      go : (b : Bool) → (written_length (cond b (Err (number OutOfRange)) (writing card (length page)))).refusal
+          ≡ cond b (number OutOfRange) (first_of (write_checks card (length page)))
       go true = refl
       go false = writing_told
 
@@ -113,9 +109,9 @@ module _ (card : Card) (page : List ℕ) where
   unfolding written_from page_from
   write_refused = go (overlong card)
     where
-      go : (b : Bool) → let w = written_length (cond b (Refused out_of_range.number) (writing card (length page))) in
+      go : (b : Bool) → let w = written_length (cond b (Err (number OutOfRange)) (writing card (length page))) in
           w.refusal ≢ 0 → (w.length ≡ 0) × (cond b page (page_after card page) ≡ page)
       go true ne = (refl, refl)
       go false ne =
           let w = writing-refused card page _ (λ z. ne (writing_told ∙ z)) refl in
-          (ap (λ (w : Written). (written_length w).length) (sym w.0), sym w.1)
+          (ap (λ (w : Result ℕ ℕ). (written_length w).length) (sym w.0), sym w.1)

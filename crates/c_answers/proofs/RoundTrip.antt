@@ -54,7 +54,7 @@ unfolding verdict reading
 read_written bytes page b z l =
     let s = none_left (form_checks bytes) _ (none_first _ z) in
     let card = card_of bytes in
-    let e : given_values (card_values (reading bytes).card) ≡ card = rw (first-none _ s) (read_given bytes s) in
-    let w = fitting_written (given_values (card_values (reading bytes).card)) page (sym e) (omega (arith, table_full bytes s, ap (λ (c : Card). length c.table) e)) in
+    let e : given_values (read_card bytes).card ≡ card = rw (first-none _ s) (read_given bytes s) in
+    let w = fitting_written (given_values (read_card bytes).card) page (sym e) (omega (arith, table_full bytes s, ap (λ (c : Card). length c.table) e)) in
     let d = accepted-writing bytes page b z l in
     (sym w.0 ∙ ap written_length d.0, sym w.1 ∙ d.1)

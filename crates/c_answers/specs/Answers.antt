@@ -1,20 +1,15 @@
 -- The calls' answers as C has them (include/tiedraw.h): the values and the refusal, 0 for none. On a refusal the values are 0.
-use Rattle.std.specs.Prelude.{◌≡◌, Bool, cond, List, ℕ, ◌^◌, ltb, length}
+use Rattle.std.specs.Prelude.{◌≡◌, Bool, cond, List, [], ℕ, ◌^◌, ltb, length, Result, Ok, Err}
 use Rattle.cycle.specs.Notation.{one}
 use Rattle.tsc.specs.declared.Card.{Card}
 use Rattle.tsc.specs.Constants.{most_words}
-use Rattle.card_format.specs.declared.Reading.{Reading}
-use Rattle.card_format.specs.declared.Written.{Written}
-use Rattle.card_format.specs.declared.Written.TheVariants.{Length, Refused}
-use Rattle.refusals.specs.Refusals.{out_of_range}
-use Rattle.card_format.specs.Reading.{padded, reading}
+use Rattle.refusals.specs.Refusals.{number}
+use Rattle.refusals.specs.declared.Refusal.TheVariants.{OutOfRange}
+use Rattle.card_format.specs.Reading.{padded, card_from, reading}
 use Rattle.card_format.specs.Writing.{writing, page_after}
-use Rattle.draws.specs.declared.Draw.{Draw}
-use Rattle.draws.specs.declared.Draw.TheVariants as draw
 use Rattle.picks.specs.declared.Pick.{Pick}
-use Rattle.picks.specs.declared.Pick.TheVariants as pick
-use Rattle.margins.specs.declared.Margin.{Margin}
-use Rattle.margins.specs.declared.Margin.TheVariants as margin
+use Rattle.picks.specs.declared.Pick.TheVariants.{Shovel, Refused}
+use Rattle.margins.specs.declared.Nearest.{Nearest}
 use Rattle.margins.specs.Margins.{IsMargin}
 use Rattle.c_answers.specs.declared.DrawnWord.{DrawnWord}
 use Rattle.c_answers.specs.declared.Choice.{Choice}
@@ -24,18 +19,18 @@ use Rattle.c_answers.specs.declared.CardValues.{CardValues}
 use Rattle.c_answers.specs.declared.CardReading.{CardReading}
 
 -- a draw's answer
-abbrev pub drawn : Draw → DrawnWord
-drawn (draw.Word w) = record { word = w; refusal = 0 }
-drawn (draw.Refused r) = record { word = 0; refusal = r }
+abbrev pub drawn : Result ℕ ℕ → DrawnWord
+drawn (Ok w) = record { word = w; refusal = 0 }
+drawn (Err r) = record { word = 0; refusal = r }
 
 -- a pick's answer
 abbrev pub choice : Pick → Choice
-choice (pick.Shovel s k t) = record { shovel = s; ties = k; taken = t; refusal = 0 }
-choice (pick.Refused r) = record { shovel = 0; ties = 0; taken = 0; refusal = r }
+choice (Shovel s k t) = record { shovel = s; ties = k; taken = t; refusal = 0 }
+choice (Refused r) = record { shovel = 0; ties = 0; taken = 0; refusal = r }
 
 -- a margin's answer: raised is 1, and lowered 0
-abbrev pub margin_answer : Margin → MarginAnswer
-margin_answer (margin.Least n) = record {
+abbrev pub margin_answer : Result Nearest ℕ → MarginAnswer
+margin_answer (Ok n) = record {
   seconds = n.seconds;
   changed = n.changed;
   shovel = n.shovel;
@@ -44,16 +39,16 @@ margin_answer (margin.Least n) = record {
   taken = n.taken;
   refusal = 0;
 }
-margin_answer (margin.Refused r) = record { seconds = 0; changed = 0; shovel = 0; raised = 0; ties = 0; taken = 0; refusal = r }
+margin_answer (Err r) = record { seconds = 0; changed = 0; shovel = 0; raised = 0; ties = 0; taken = 0; refusal = r }
 
 -- what is answered to these bytes, words and lists
 abbrev pub IsMarginAnswer : List ℕ → List ℕ → List ℕ → List ℕ → MarginAnswer → Type 0
-IsMarginAnswer bytes xs shovels times r = (m : Margin) × IsMargin bytes xs shovels times m × (r ≡ margin_answer m)
+IsMarginAnswer bytes xs shovels times r = (m : Result Nearest ℕ) × IsMargin bytes xs shovels times m × (r ≡ margin_answer m)
 
 -- the writer's answer
-abbrev pub written_length : Written → WrittenLength
-written_length (Length n) = record { length = n; refusal = 0 }
-written_length (Refused r) = record { length = 0; refusal = r }
+abbrev pub written_length : Result ℕ ℕ → WrittenLength
+written_length (Ok n) = record { length = n; refusal = 0 }
+written_length (Err r) = record { length = 0; refusal = r }
 
 -- a card's eight values
 abbrev pub card_values : Card → CardValues
@@ -68,9 +63,14 @@ card_values card = record {
   table = card.table;
 }
 
+-- the card that goes with a refusal: every value is 0
+abbrev pub no_card : Card
+no_card = card_from (λ k. 0) (padded [])
+
 -- the reader's answer
-abbrev pub card_reading : Reading → CardReading
-card_reading r = record { card = card_values r.card; refusal = r.refusal }
+abbrev pub card_reading : Result Card ℕ → CardReading
+card_reading (Ok card) = record { card = card_values card; refusal = 0 }
+card_reading (Err r) = record { card = card_values no_card; refusal = r }
 
 -- and what it is to these bytes
 abbrev pub read_card : List ℕ → CardReading
@@ -99,7 +99,7 @@ overlong card = ltb (2 ^ most_words) (length card.table)
 
 -- what is answered for these values and a page of `room` bytes: an overlong table is refused by 2
 unfoldable pub written_from : Card → ℕ → WrittenLength
-written_from card room = written_length (cond (overlong card) (Refused out_of_range.number) (writing card room))
+written_from card room = written_length (cond (overlong card) (Err (number OutOfRange)) (writing card room))
 
 -- the page after the call
 unfoldable pub page_from : Card → List ℕ → List ℕ

@@ -1,26 +1,21 @@
 -- What desk and cab are answered, as C has it (include/tiedraw.h): beside each field of a record that may lack a flag, 1 where it is given. On a refusal, and
 -- where a field lacks, the numbers are 0.
-use Rattle.std.specs.Prelude.{List, ℕ}
-use Rattle.records.specs.declared.Optional.{Optional}
-use Rattle.records.specs.declared.Optional.TheVariants.{Absent, Value}
+use Rattle.std.specs.Prelude.{List, [], ℕ, Option, None, Some, Result, Ok, Err}
 use Rattle.records.specs.declared.Record.{Record}
-use Rattle.records.specs.declared.RecordReading.{RecordReading}
-use Rattle.records.specs.declared.Order.{Order}
-use Rattle.records.specs.declared.Order.TheVariants.{Shovel, Refused}
-use Rattle.records.specs.Reading.{reading_record}
+use Rattle.records.specs.Reading.{held_state, reading_record}
 use Rattle.records.specs.Orders.{order_for}
 use Rattle.c_answers.specs.declared.RecordValues.{RecordValues}
 use Rattle.c_answers.specs.declared.RecordAnswer.{RecordAnswer}
 use Rattle.c_answers.specs.declared.OrderAnswer.{OrderAnswer}
 
 -- a field that may lack: its flag, and its number
-abbrev pub flag : Optional → ℕ
-flag Absent = 0
-flag (Value x) = 1
+abbrev pub flag : Option ℕ → ℕ
+flag None = 0
+flag (Some x) = 1
 
-abbrev pub number : Optional → ℕ
-number Absent = 0
-number (Value x) = x
+abbrev pub number : Option ℕ → ℕ
+number None = 0
+number (Some x) = x
 
 -- the fields of a record
 abbrev pub record_values : Record → RecordValues
@@ -36,14 +31,19 @@ record_values r = record {
   words = number r.words;
 }
 
+-- the record that goes with a refusal
+abbrev pub no_record : Record
+no_record = record { truck = 0; shovel = 0; ties = None; taken = None; words = None; state = held_state [] }
+
 -- the desk's answer
-abbrev pub record_answer : RecordReading → RecordAnswer
-record_answer r = record { values = record_values r.values; refusal = r.refusal }
+abbrev pub record_answer : Result Record ℕ → RecordAnswer
+record_answer (Ok r) = record { values = record_values r; refusal = 0 }
+record_answer (Err n) = record { values = record_values no_record; refusal = n }
 
 -- a cab's
-abbrev pub order_answer : Order → OrderAnswer
-order_answer (Shovel s) = record { shovel = s; refusal = 0 }
-order_answer (Refused r) = record { shovel = 0; refusal = r }
+abbrev pub order_answer : Result ℕ ℕ → OrderAnswer
+order_answer (Ok s) = record { shovel = s; refusal = 0 }
+order_answer (Err n) = record { shovel = 0; refusal = n }
 
 -- and what they are to these bytes
 abbrev pub read_record : List ℕ → RecordAnswer

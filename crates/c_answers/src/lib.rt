@@ -1,6 +1,7 @@
 #![tactic(auto)]
 
 // The calls' answers as C has them (include/tiedraw.h). What they are is in specs/, and what a refusal leaves in proofs/.
+// The refusal stands as a number beside the values, since the C interface has structs and no Result.
 use tsc::{MOST_WORDS, TABLE_SIZE};
 
 // What a draw answers, tiedraw_word: 0 and the word, or the refusal and 0.

@@ -1,69 +1,72 @@
-// What desk and cab are answered, taken apart into the structs that C sees.
+// What desk and cab are answered, made into the structs that C sees. They are functions, since an impl of From would have to stand in the crate of the structs.
 ghost use Rattle.std.specs.Prelude.{◌≡◌};
-ghost use Rattle.c_answers.specs.Records.{flag, number, record_answer, order_answer};
+ghost use Rattle.c_answers.specs.Records.{record_values, no_record, record_answer, order_answer};
 
 use c_answers::{OrderAnswer, RecordAnswer, RecordValues};
-use records::{Optional, Order, RecordReading};
+use records::Record;
+use tsc::{MOST_WORDS, State};
 
-// 1 where a field is given, else 0.
-fn flag_of(field: Optional) -> u8
-    ensures { result ≡ flag field }
+// The fields of a record: beside each that may lack a flag.
+fn values_of(held: Record) -> RecordValues
+    ensures { result ≡ record_values held }
 {
-    match field {
-        Optional::Value(_) => 1,
-        Optional::Absent => 0,
+    RecordValues {
+        state: held.state.words,
+        truck: held.truck,
+        shovel: held.shovel,
+        ties_given: u8::from(held.ties.is_some()),
+        ties: held.ties.unwrap_or(0),
+        taken_given: u8::from(held.taken.is_some()),
+        taken: held.taken.unwrap_or(0),
+        state_given: u8::from(held.words.is_some()),
+        words: held.words.unwrap_or(0),
     }
 }
 
-// Its number, or 0.
-fn number_of(field: Optional) -> u8
-    ensures { result ≡ number field }
+// The record that goes with a refusal.
+fn no_record() -> Record
+    ensures { result ≡ no_record }
 {
-    match field {
-        Optional::Value(x) => x,
-        Optional::Absent => 0,
+    Record {
+        truck: 0,
+        shovel: 0,
+        ties: None,
+        taken: None,
+        words: None,
+        state: State {
+            words: [0; MOST_WORDS],
+        },
     }
 }
 
 // The desk's answer: every field and refusal 0, or zeros and the refusal.
-pub fn record_of(answer: RecordReading) -> RecordAnswer
+pub fn record_of(answer: Result<Record, u8>) -> RecordAnswer
     ensures { result ≡ record_answer answer }
 {
-    let fields = answer.values;
-    let ties = fields.ties;
-    let taken = fields.taken;
-    let words = fields.words;
-    let held = fields.state;
-    let state = held.words;
-    let values = RecordValues {
-        state: state,
-        truck: fields.truck,
-        shovel: fields.shovel,
-        ties_given: flag_of(ties),
-        ties: number_of(ties),
-        taken_given: flag_of(taken),
-        taken: number_of(taken),
-        state_given: flag_of(words),
-        words: number_of(words),
-    };
-    RecordAnswer {
-        values: values,
-        refusal: answer.refusal,
+    match answer {
+        Ok(record) => RecordAnswer {
+            values: values_of(record),
+            refusal: 0,
+        },
+        Err(refusal) => RecordAnswer {
+            values: values_of(no_record()),
+            refusal: refusal,
+        },
     }
 }
 
 // A cab's: the shovel and refusal 0, or 0 and the refusal.
-pub fn order_of(answer: Order) -> OrderAnswer
+pub fn order_of(answer: Result<u16, u8>) -> OrderAnswer
     ensures { result ≡ order_answer answer }
 {
     match answer {
-        Order::Shovel(number) => OrderAnswer {
-            shovel: number,
+        Ok(shovel) => OrderAnswer {
+            shovel: shovel,
             refusal: 0,
         },
-        Order::Refused(number) => OrderAnswer {
+        Err(refusal) => OrderAnswer {
             shovel: 0,
-            refusal: number,
+            refusal: refusal,
         },
     }
 }

@@ -18,31 +18,30 @@ use Rattle.changes.proofs.After.{LeastOther}
 use Rattle.changes.proofs.Order.{no_later_refl, no_later_trans, Told, before_told}
 use Rattle.changes.proofs.Nearest.{Close, Beside, ByTies, nearest, several}
 use Rattle.outcomes.specs.declared.Known.{Known}
-use Rattle.change_order.specs.declared.Best.{Best}
-use Rattle.change_order.specs.declared.Best.TheVariants.{Nothing, Least}
+use Rattle.std.proofs.Common.{Option, None, Some}
 use Rattle.outcomes.specs.Elsewhere.{elsewhere, Listed}
 use Rattle.change_order.specs.First.{Placed, comes_first}
 use Rattle.candidates.specs.Best.{attempted, Sound, LeadsOver, BestOf}
 
 -- ---- the places of changes
 
-pub placed_either : (n : ℕ) (b : Bool) (r s : Best) → Placed n r → Placed n s → Placed n (cond b r s)
+pub placed_either : (n : ℕ) (b : Bool) (r s : Option Change) → Placed n r → Placed n s → Placed n (cond b r s)
 placed_either n true r s p q = p
 placed_either n false r s p q = q
 
-pub placed_next : (known : Known) (shovels times : List ℕ) (n : ℕ) (c : Change) (best : Best) → c.place < n → Placed n best → Placed n (attempted known shovels times c best)
+pub placed_next : (known : Known) (shovels times : List ℕ) (n : ℕ) (c : Change) (best : Option Change) → c.place < n → Placed n best → Placed n (attempted known shovels times c best)
 unfolding attempted Placed
 placed_next known shovels times n c best l p =
-    placed_either n (ltb 0 c.seconds && (comes_first shovels c best && elsewhere known shovels (changed times c))) (Least c) best l p
+    placed_either n (ltb 0 c.seconds && (comes_first shovels c best && elsewhere known shovels (changed times c))) (Some c) best l p
 
-pub placed-sound : (shovels times : List ℕ) (Wanted : List ℕ → Type 0) (best : Best) → Sound shovels times Wanted best → Placed (length times) best
+pub placed-sound : (shovels times : List ℕ) (Wanted : List ℕ → Type 0) (best : Option Change) → Sound shovels times Wanted best → Placed (length times) best
 unfolding Sound Placed
-placed-sound shovels times Wanted Nothing s = tt
-placed-sound shovels times Wanted (Least c) s = s.listed
+placed-sound shovels times Wanted None s = tt
+placed-sound shovels times Wanted (Some c) s = s.listed
 
 -- ---- as it is tested
 
-module _ (known : Known) (shovels times : List ℕ) (c : Change) (best : Best) where
+module _ (known : Known) (shovels times : List ℕ) (c : Change) (best : Option Change) where
   pub attempt_none : c.seconds ≡ 0 → best ≡ attempted known shovels times c best
   unfolding attempted
   attempt_none z = rw (le-ltb 0 c.seconds (omega arith)) refl
@@ -55,7 +54,7 @@ module _ (known : Known) (shovels times : List ℕ) (c : Change) (best : Best) w
   unfolding attempted
   attempt_stays q = rw (q, and-false (comes_first shovels c best), and-false (ltb 0 c.seconds)) refl
 
-  pub attempt_best : c.seconds ≢ 0 → comes_first shovels c best ≡ true → elsewhere known shovels (changed times c) ≡ true → Least c ≡ attempted known shovels times c best
+  pub attempt_best : c.seconds ≢ 0 → comes_first shovels c best ≡ true → elsewhere known shovels (changed times c) ≡ true → Some c ≡ attempted known shovels times c best
   unfolding attempted
   attempt_best n p q = rw (lt-ltb 0 c.seconds (omega arith), p, q) refl
 
@@ -66,26 +65,26 @@ module _ (known : Known) (shovels times : List ℕ) where
   -- ---- one change tried
 
   -- r is the best change after c was tried, where it was best before
-  record Tried (c : Change) (best r : Best) : Type 0 where
+  record Tried (c : Change) (best r : Option Change) : Type 0 where
     sound : Sound shovels times Wanted best → Sound shovels times Wanted r
     leads : LeadsOver shovels times Wanted r c
     still : (e : Change) → LeadsOver shovels times Wanted best e → LeadsOver shovels times Wanted r e
 
-  left : (c : Change) (best : Best) → LeadsOver shovels times Wanted best c → Tried c best best
+  left : (c : Change) (best : Option Change) → LeadsOver shovels times Wanted best c → Tried c best best
   left c best h = record { sound = λ s. s; leads = h; still = λ e l. l }
 
-  no_change : (c : Change) (best : Best) → (Counts times Wanted c → ⊥) → LeadsOver shovels times Wanted best c
+  no_change : (c : Change) (best : Option Change) → (Counts times Wanted c → ⊥) → LeadsOver shovels times Wanted best c
   unfolding LeadsOver
-  no_change c Nothing h = h
-  no_change c (Least d) h = λ k. absurd (h k)
+  no_change c None h = h
+  no_change c (Some d) h = λ k. absurd (h k)
 
   module _ (c : Change) (listed : c.place < length times) (within : Within c.raised (get_or times c.place 0) c.seconds) where
-    later : (best : Best) → comes_first shovels c best ≡ false → LeadsOver shovels times Wanted best c
+    later : (best : Option Change) → comes_first shovels c best ≡ false → LeadsOver shovels times Wanted best c
     unfolding comes_first LeadsOver
-    later Nothing q = absurd (true≢false q)
-    later (Least d) q = λ k. subst (Told shovels c d) q (before_told shovels c d)
+    later None q = absurd (true≢false q)
+    later (Some d) q = λ k. subst (Told shovels c d) q (before_told shovels c d)
 
-    taken : (best : Best) → 0 < c.seconds → comes_first shovels c best ≡ true → Wanted (changed times c) → Tried c best (Least c)
+    taken : (best : Option Change) → 0 < c.seconds → comes_first shovels c best ≡ true → Wanted (changed times c) → Tried c best (Some c)
     unfolding comes_first LeadsOver Sound
     taken best l q w =
         record {
@@ -94,16 +93,16 @@ module _ (known : Known) (shovels times : List ℕ) where
           still = λ e. over best q e;
         }
       where
-        over : (best : Best) → comes_first shovels c best ≡ true → (e : Change) → LeadsOver shovels times Wanted best e → Counts times Wanted e → NoLater shovels c e
-        over Nothing q e h k = absurd (h k)
-        over (Least d) q e h k = no_later_trans shovels c d e (subst (Told shovels c d) q (before_told shovels c d)) (h k)
+        over : (best : Option Change) → comes_first shovels c best ≡ true → (e : Change) → LeadsOver shovels times Wanted best e → Counts times Wanted e → NoLater shovels c e
+        over None q e h k = absurd (h k)
+        over (Some d) q e h k = no_later_trans shovels c d e (subst (Told shovels c d) q (before_told shovels c d)) (h k)
 
-    tried : (best : Best) → Tried c best (attempted known shovels times c best)
+    tried : (best : Option Change) → Tried c best (attempted known shovels times c best)
     unfolding attempted
     tried best = go (ltb 0 c.seconds) (comes_first shovels c best) (elsewhere known shovels (changed times c)) refl refl refl
       where
         go : (a b w : Bool) → ltb 0 c.seconds ≡ a → comes_first shovels c best ≡ b → elsewhere known shovels (changed times c) ≡ w
-            → Tried c best (cond (a && (b && w)) (Least c) best)
+            → Tried c best (cond (a && (b && w)) (Some c) best)
         go true true true p q r = taken best (ltb-true 0 c.seconds p) q r
         go true true false p q r = left c best (no_change c best (λ k. true≢false (sym k.wanted ∙ r)))
         go true false w p q r = left c best (later best q)
@@ -118,17 +117,17 @@ module _ (known : Known) (shovels times : List ℕ) where
       go (yes h) = rw (lt-ltb (get_or times i 0) v h) (omega arith)
       go (no h) = rw (le-ltb (get_or times i 0) v (omega arith)) (omega arith)
 
-  tried_to : (i v : ℕ) → i < length times → v ≤ most_time → (best : Best) → Tried (change_to times i v) best (attempted known shovels times (change_to times i v) best)
+  tried_to : (i v : ℕ) → i < length times → v ≤ most_time → (best : Option Change) → Tried (change_to times i v) best (attempted known shovels times (change_to times i v) best)
   tried_to i v li l best = tried (change_to times i v) li (within_to i v l) best
 
   -- ---- those of a shovel
 
   -- r leads over e where it leads over one that counts and is no later
-  leads_by : (r : Best) (e : Change) → (Counts times Wanted e → (c : Change) × LeadsOver shovels times Wanted r c × Counts times Wanted c × NoLater shovels c e)
+  leads_by : (r : Option Change) (e : Change) → (Counts times Wanted e → (c : Change) × LeadsOver shovels times Wanted r c × Counts times Wanted c × NoLater shovels c e)
       → LeadsOver shovels times Wanted r e
   unfolding LeadsOver
-  leads_by Nothing e h = λ k. let n = h k in n.1 n.2
-  leads_by (Least d) e h = λ k. let n = h k in no_later_trans shovels d n.0 e (n.1 n.2) n.3
+  leads_by None e h = λ k. let n = h k in n.1 n.2
+  leads_by (Some d) e h = λ k. let n = h k in no_later_trans shovels d n.0 e (n.1 n.2) n.3
 
   module _ (h : Listed known shovels times) where
     by_ties : ByTies (length times) Wanted
@@ -141,32 +140,32 @@ module _ (known : Known) (shovels times : List ℕ) where
     not_yet w = true≢false (sym ((and-eq-true_iff (leb (ties times) (2 ^ known.width)) _).0 w).1 ∙ ap not h.chosen)
 
     -- of no shovel, and of a list of one, none counts
-    pub best_none : BestOf shovels times Wanted 0 Nothing
+    pub best_none : BestOf shovels times Wanted 0 None
     unfolding Sound
     best_none = record { sound = tt; leads = λ e l. absurd (omega arith) }
 
-    pub best_alone : length times < 2 → BestOf shovels times Wanted (length times) Nothing
+    pub best_alone : length times < 2 → BestOf shovels times Wanted (length times) None
     unfolding Sound LeadsOver
     best_alone l = record { sound = tt; leads = λ e le k. absurd (omega (arith, several shovels times Wanted by_ties not_yet e k)) }
 
-    module _ (i x : ℕ) (li : i < length times) (o : LeastOther times i x) (lx : x ≤ most_time) (best : Best) (b : BestOf shovels times Wanted i best) where
-      abbrev step : ℕ → Best → Best
+    module _ (i x : ℕ) (li : i < length times) (o : LeastOther times i x) (lx : x ≤ most_time) (best : Option Change) (b : BestOf shovels times Wanted i best) where
+      abbrev step : ℕ → Option Change → Option Change
       step v = attempted known shovels times (change_to times i v)
 
       abbrev t : ℕ
       t = get_or times i 0
 
-      abbrev below : Best
+      abbrev below : Option Change
       below = cond (eqb x 0 || ltb t x) best (step (x - 1) best)
 
-      abbrev at : Best
+      abbrev at : Option Change
       at = step x below
 
-      abbrev above : Best
+      abbrev above : Option Change
       above = cond (eqb x most_time || ltb x t) at (step (x + 1) at)
 
       -- after a change that may be none
-      record Next (r s : Best) : Type 0 where
+      record Next (r s : Option Change) : Type 0 where
         sound : Sound shovels times Wanted r → Sound shovels times Wanted s
         still : (e : Change) → LeadsOver shovels times Wanted r e → LeadsOver shovels times Wanted s e
 
@@ -223,8 +222,8 @@ module _ (known : Known) (shovels times : List ℕ) where
           go e l (no n) = tried-above.0.still e (tried_at.still e (tried-below.0.still e (b.leads e (omega arith))))
 
       -- as they are answered one after the other
-      pub best_found : (r₁ r₂ r₃ : Best) → r₁ ≡ cond (eqb x 0 || ltb t x) best (step (x - 1) best) → r₂ ≡ step x r₁
+      pub best_found : (r₁ r₂ r₃ : Option Change) → r₁ ≡ cond (eqb x 0 || ltb t x) best (step (x - 1) best) → r₂ ≡ step x r₁
           → r₃ ≡ cond (eqb x most_time || ltb x t) r₂ (step (x + 1) r₂)
           → BestOf shovels times Wanted (i + 1) r₃
       best_found r₁ r₂ r₃ e₁ e₂ e₃ =
-          subst (BestOf shovels times Wanted (i + 1)) (sym (e₃ ∙ ap (λ (b : Best). cond (eqb x most_time || ltb x t) b (step (x + 1) b)) (e₂ ∙ ap (step x) e₁))) best_next
+          subst (BestOf shovels times Wanted (i + 1)) (sym (e₃ ∙ ap (λ (b : Option Change). cond (eqb x most_time || ltb x t) b (step (x + 1) b)) (e₂ ∙ ap (step x) e₁))) best_next

@@ -1,6 +1,6 @@
 // A card's values as bytes: which fields are written, how many bytes they take, and the bytes put on a page. The writer has refused values that are not allowed,
 // and a page without room.
-ghost use Rattle.std.specs.Prelude.{◌≡◌, true, cond, ◌++◌, ◌+◌, ◌^◌, ◌<◌, ◌≤◌, length, take, drop};
+ghost use Rattle.std.specs.Prelude.{◌≡◌, true, cond, ◌++◌, ◌+◌, ◌^◌, ◌<◌, ◌≤◌, length, drop};
 ghost use Rattle.tsc.specs.Constants.{most_words};
 ghost use Rattle.card_format.specs.Fields.{field_count, most_card_bytes};
 ghost use Rattle.card_format.specs.Writing.{is_written, field_bytes, map_to, written, in_range};
@@ -8,7 +8,7 @@ ghost use Rattle.card_format.specs.Writing.{is_written, field_bytes, map_to, wri
 use super::values::number_of;
 use card_fields::{field, number};
 use card_table::table;
-use tsc::{Card, TABLE_SIZE};
+use tsc::Card;
 
 // The map of a card's bytes, and how many they are.
 #[derive(Clone, Copy)]
@@ -57,18 +57,6 @@ pub fn outline_of(card: Card) -> Outline
     o
 }
 
-// The first `size` entries of a table, at the start of the part.
-fn put_table(table: &[u8; TABLE_SIZE], size: usize, part: &mut [u8])
-    requires { (size ≤ 2 ^ most_words) × (length table.now ≡ 2 ^ most_words) × (size ≤ length part.old) }
-    ensures { part.new ≡ take size table.now ++ drop size part.old }
-{
-    let mut i = 0;
-    while i < size {
-        part[i] = table[i];
-        i += 1;
-    }
-}
-
 // Field k, at the start of the part, where it is written: the number of its bytes.
 fn put_field(card: Card, k: usize, part: &mut [u8]) -> usize
     requires k_lt_field_count { (k < field_count) × (in_range card ≡ true) }
@@ -81,7 +69,7 @@ fn put_field(card: Card, k: usize, part: &mut [u8]) -> usize
     }
     let size = field::extent_of(k, card.words as u32);
     if k == field::TABLE {
-        put_table(&card.table, size, part);
+        part[..size].copy_from_slice(&card.table[..size]);
         return size;
     }
     number::put_number(number_of(card, k), size, part);

@@ -1,13 +1,14 @@
 // A card's values: the numbers of its fields, and refusals 2 and 6 to 9.
 ghost use Rattle.std.specs.Prelude.{◌≡◌, ◌≢◌, [], ◌∷◌, ◌<◌, ◌≤◌};
 ghost use Rattle.tsc.specs.Constants.{most_words};
-ghost use Rattle.refusals.specs.Refusals.{first_of};
+ghost use Rattle.refusals.specs.Refusals.{first_of, told};
 ghost use Rattle.card_format.specs.Fields.{field, field_count, table_bit, allowed};
 ghost use Rattle.card_format.specs.Writing.{numbers_of, in_range, value_checks};
 
 use card::check;
 use card_fields::field;
 use card_table::table;
+use refusals::Refusal;
 use tsc::Card;
 
 // The number of field k, which is not the table: callers have asked.
@@ -51,21 +52,15 @@ fn in_range(card: Card) -> bool
     table::unused_clear(&card.table, card.words as u32)
 }
 
-// The first of refusals 2 and 6 to 9 that applies, or 0.
-pub fn value_refusal(card: Card) -> u8
-    ensures { result ≡ first_of (value_checks card) }
+// The first of refusals 2 and 6 to 9 that applies.
+pub fn value_refusal(card: Card) -> Result<(), Refusal>
+    ensures { told result ≡ first_of (value_checks card) }
 {
     if !in_range(card) {
-        return refusals::OUT_OF_RANGE;
+        return Err(Refusal::OutOfRange);
     }
     if field::exceeds(card.constant, card.width as u32) {
-        return refusals::CONSTANT_TOO_WIDE;
+        return Err(Refusal::ConstantTooWide);
     }
-    check::period_refusal(
-        &card.table,
-        card.words,
-        card.constant,
-        card.odd_power,
-        card.even_power,
-    )
+    check::period_refusal(&card)
 }

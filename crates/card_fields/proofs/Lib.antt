@@ -1,4 +1,3 @@
 -- Laws for the functions on fields, and laws that callers cite.
 pub mod Arrays
-pub mod Answer
 pub mod LowBytes

@@ -1,5 +1,5 @@
-// The fields of a card (document 01, The card), by their bits: field k of a card of m words. SIZE, LEAST, MOST and ABSENT speak of the fields of one number;
-// what they hold at the table's bit is not used.
+// The fields of a card (document 01, The card), by their bits: field k of a card of m words. ROWS and ABSENT speak of the fields of one number; what they hold
+// at the table's bit is not used.
 ghost use Rattle.std.specs.Prelude.{◌≡◌, ◌≢◌, [], ◌∷◌, ◌^◌, ◌<◌, ◌≤◌, leb};
 ghost use Rattle.tsc.specs.Constants.{most_words};
 ghost use Rattle.card_format.specs.Fields.{field, field_count, table_bit, extent, allowed, same};
@@ -9,6 +9,7 @@ use tsc::{DEFAULT_WORDS, FEWEST_WORDS, MOST_WORDS, TSC1_CONSTANT};
 
 pub const FIELDS: usize = 8;
 
+// Numbers and no enum: a field's number is its bit in the map and the index of its value, and loops count through it.
 pub const WORDS: usize = 0;
 
 pub const WIDTH: usize = 1;
@@ -25,12 +26,58 @@ pub const FILTER: usize = 6;
 
 pub const SUM_TERM: usize = 7;
 
-const SIZE: [usize; FIELDS] = [1, 1, 0, 1, 1, 4, 1, 1];
+// The bytes of a field's number, and its bounds.
+#[derive(Clone, Copy)]
+struct Row {
+    size: usize,
+    least: u32,
+    most: u32,
+}
 
-const LEAST: [u32; FIELDS] = [FEWEST_WORDS, 2, 0, 0, 0, 0, 1, 0];
+const ROWS: [Row; FIELDS] = [
+    Row {
+        size: 1,
+        least: FEWEST_WORDS,
+        most: MOST_WORDS as u32,
+    },
+    Row {
+        size: 1,
+        least: 2,
+        most: 32,
+    },
+    Row {
+        size: 1,
+        least: 0,
+        most: 0,
+    },
+    Row {
+        size: 1,
+        least: 0,
+        most: 255,
+    },
+    Row {
+        size: 1,
+        least: 0,
+        most: 255,
+    },
+    Row {
+        size: 4,
+        least: 0,
+        most: 0xffff_ffff,
+    },
+    Row {
+        size: 1,
+        least: 1,
+        most: 2,
+    },
+    Row {
+        size: 1,
+        least: 0,
+        most: 1,
+    },
+];
 
-const MOST: [u32; FIELDS] = [MOST_WORDS as u32, 32, 0, 255, 255, 0xffff_ffff, 2, 1];
-
+// An array by itself: the reader's numbers begin as a copy of it.
 pub const ABSENT: [u32; FIELDS] = [DEFAULT_WORDS, 32, 0, 1, 2, TSC1_CONSTANT, 1, 1];
 
 // The bytes of field k. Callers have m from a words field that passed its check, or from its absent value.
@@ -41,26 +88,16 @@ pub fn extent_of(k: usize, m: u32) -> usize
     if k == TABLE {
         return entries(m);
     }
-    SIZE[k]
+    ROWS[k].size
 }
 
-// The least number that field k allows. Callers have asked for the table before, here and below.
-fn least_of(k: usize, m: u32) -> u32
-    requires { (k < field_count) × (k ≢ table_bit) }
-    ensures { result ≡ (field m k).least }
-{
-    LEAST[k]
-}
-
-// Whether x is allowed as the number of field k.
+// Whether x is allowed as the number of field k. Callers have asked for the table before, here and below.
 pub fn number_allowed(k: usize, m: u32, x: u32) -> bool
     requires { (k < field_count) × (k ≢ table_bit) }
     ensures { result ≡ allowed (field m k) (x ∷ []) }
 {
-    if x < least_of(k, m) {
-        return false;
-    }
-    x <= MOST[k]
+    let row = ROWS[k];
+    row.least <= x && x <= row.most
 }
 
 // Whether x is the absent value of field k.
@@ -75,8 +112,5 @@ pub fn is_absent(k: usize, m: u32, x: u32) -> bool
 pub fn exceeds(constant: u32, width: u32) -> bool
     ensures { result ≡ leb (2 ^ width) constant }
 {
-    if width < 32 {
-        return 1 << width <= constant;
-    }
-    false
+    width < 32 && 1 << width <= constant
 }

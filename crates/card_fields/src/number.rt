@@ -2,23 +2,18 @@
 ghost use Rattle.std.specs.Prelude.{◌≡◌, ◌≢◌, [], ◌∷◌, ◌++◌, ◌+◌, ◌*◌, ◌<◌, ◌≤◌, length, drop};
 ghost use Rattle.tsc.specs.Constants.{most_words};
 ghost use Rattle.card_format.specs.Fields.{field, field_count, table_bit, extent, numbers};
+ghost use Rattle.refusals.specs.Refusals.{numbered};
 ghost use Rattle.card_fields.specs.LowBytes.{low_bytes};
 ghost use Rattle.card_fields.specs.Number.{number_read};
 
 use super::field;
-
-// What the reader of a numeric field answers.
-#[derive(Clone, Copy)]
-pub enum Number {
-    Value(u32),
-    Refused(u8),
-}
+use refusals::Refusal;
 
 // Four bytes as a number, low byte first.
 pub fn low_first(a: u8, b: u8, c: u8, d: u8) -> u32
     ensures { result ≡ a + b * 256 + c * 65536 + d * 16777216 }
 {
-    a as u32 + b as u32 * 256 + c as u32 * 65536 + d as u32 * 16777216
+    u32::from_le_bytes([a, b, c, d])
 }
 
 // The number of field k of a card of m words, at the start of the part.
@@ -34,21 +29,21 @@ fn number_at(k: usize, m: u32, part: &[u8]) -> u32
 }
 
 // Field k of a card of m words, at the start of the part. The reader calls it where k is not the table.
-pub fn read_number(k: usize, m: u32, part: &[u8]) -> Number
+pub fn read_number(k: usize, m: u32, part: &[u8]) -> Result<u32, Refusal>
     requires { (k < field_count) × (k ≢ table_bit) × (m ≤ most_words) }
-    ensures { result ≡ number_read (field m k) part.now }
+    ensures { numbered result ≡ number_read (field m k) part.now }
 {
     if part.len() < field::extent_of(k, m) {
-        return Number::Refused(refusals::TRUNCATED);
+        return Err(Refusal::Truncated);
     }
     let v = number_at(k, m, part);
     if !field::number_allowed(k, m, v) {
-        return Number::Refused(refusals::OUT_OF_RANGE);
+        return Err(Refusal::OutOfRange);
     }
     if field::is_absent(k, m, v) {
-        return Number::Refused(refusals::REDUNDANT);
+        return Err(Refusal::Redundant);
     }
-    Number::Value(v)
+    Ok(v)
 }
 
 // A number of `size` bytes, low byte first, at the start of the part.
@@ -57,10 +52,8 @@ pub fn put_number(x: u32, size: usize, part: &mut [u8])
     ensures { part.new ≡ low_bytes x size ++ drop size part.old }
 {
     let mut rest = x;
-    let mut i = 0;
-    while i < size {
-        part[i] = (rest % 256) as u8;
-        rest = rest / 256;
-        i += 1;
+    for byte in part[..size].iter_mut() {
+        *byte = (rest % 256) as u8;
+        rest /= 256;
     }
 }

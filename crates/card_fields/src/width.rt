@@ -8,12 +8,5 @@ use super::field;
 pub fn all_fit(words: &[u32], n: u8) -> bool
     ensures { result ≡ every (length words.now) (λ k. ltb (get_or words.now k 0) (2 ^ n)) }
 {
-    let mut k = 0;
-    while k < words.len() {
-        if field::exceeds(words[k], n as u32) {
-            return false;
-        }
-        k += 1;
-    }
-    true
+    words.iter().all(|&word| !field::exceeds(word, n as u32))
 }

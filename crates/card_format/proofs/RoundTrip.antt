@@ -17,8 +17,9 @@ use Rattle.cycle.proofs.Every.{every_at, every_of}
 use Rattle.cycle.proofs.Digits.{tabulate_ext}
 use Rattle.tsc.specs.declared.Card.{Card}
 use Rattle.tsc.specs.Constants.{most_words, default_words}
-use Rattle.card_format.specs.declared.Written.TheVariants.{Length, Refused}
-use Rattle.refusals.specs.Refusals.{check, first_of, NoneApplies, table_missing}
+use Rattle.std.specs.Prelude.{Ok, Err}
+use Rattle.refusals.specs.Refusals.{check, first_of, NoneApplies}
+use Rattle.refusals.specs.declared.Refusal.TheVariants.{TableMissing}
 use Rattle.card_format.specs.Fields.{Bytes, fields, field, field_count, most_card_bytes, table_bit, extent, allowed, same}
 use Rattle.card_format.specs.Reading.{present, offset, values_at, words_of, values, value, padded, card_from, card_of, part_checks, field_checks, checks_to, constant_check, form_checks, SoundForm}
 use Rattle.card_format.specs.Verdict.{period_checks, card_checks, verdict}
@@ -133,13 +134,13 @@ unfolding writing page_after rewriting page_rewritten
 sound-rewriting bytes page b s = rw (sound_told bytes b s (length page), sound-written bytes b s) (refl, refl)
 
 pub rewriting-refused : (bytes page : List ℕ) (r : ℕ) → r ≢ 0 → first_of (rewrite_checks bytes (length page)) ≡ r
-    → (rewriting bytes (length page) ≡ Refused r) × (page_rewritten bytes page ≡ page)
+    → (rewriting bytes (length page) ≡ Err r) × (page_rewritten bytes page ≡ page)
 unfolding rewriting page_rewritten
 rewriting-refused bytes page r ne e = rw (e, ne_eqb r 0 ne) (refl, refl)
 
 -- a refusal of the card is told whatever the room is
 pub verdict-rewriting : (bytes page : List ℕ) → verdict bytes ≢ 0
-    → (rewriting bytes (length page) ≡ Refused (verdict bytes)) × (page_rewritten bytes page ≡ page)
+    → (rewriting bytes (length page) ≡ Err (verdict bytes)) × (page_rewritten bytes page ≡ page)
 unfolding verdict rewrite_checks
 verdict-rewriting bytes page ne = rewriting-refused bytes page _ ne (first-left (card_checks bytes) _ ne)
 
@@ -150,12 +151,12 @@ accepted_told bytes z room = first_right (card_checks bytes) _ z
 
 -- with room it gives the same bytes and the same length
 pub accepted-rewriting : (bytes page : List ℕ) → verdict bytes ≡ 0 → length bytes ≤ length page
-    → (rewriting bytes (length page) ≡ Length (length bytes)) × (page_rewritten bytes page ≡ bytes ++ drop (length bytes) page)
+    → (rewriting bytes (length page) ≡ Ok (length bytes)) × (page_rewritten bytes page ≡ bytes ++ drop (length bytes) page)
 unfolding rewriting page_rewritten
 accepted-rewriting bytes page z l = rw (accepted_told bytes z (length page), le-ltb _ _ l) (refl, refl)
 
 pub accepted-writing : (bytes page : List ℕ) → Bytes bytes → verdict bytes ≡ 0 → length bytes ≤ length page
-    → (writing (card_of bytes) (length page) ≡ Length (length bytes)) × (page_after (card_of bytes) page ≡ bytes ++ drop (length bytes) page)
+    → (writing (card_of bytes) (length page) ≡ Ok (length bytes)) × (page_after (card_of bytes) page ≡ bytes ++ drop (length bytes) page)
 accepted-writing bytes page b z l =
     let w = sound-rewriting bytes page b (accepted-none bytes z).0 in
     let d = accepted-rewriting bytes page z l in
@@ -163,7 +164,7 @@ accepted-writing bytes page b z l =
 
 -- with less room the answer is 16, and the page is as it was
 pub accepted_small : (bytes page : List ℕ) → Bytes bytes → verdict bytes ≡ 0 → length page < length bytes
-    → (writing (card_of bytes) (length page) ≡ Refused 16) × (page_after (card_of bytes) page ≡ page)
+    → (writing (card_of bytes) (length page) ≡ Err 16) × (page_after (card_of bytes) page ≡ page)
 accepted_small bytes page b z l =
     let w = sound-rewriting bytes page b (accepted-none bytes z).0 in
     let d = rewriting-refused bytes page 16 (λ e. absurd (omega arith)) (accepted_told bytes z (length page) ∙ rw (lt-ltb _ _ l) refl) in
@@ -234,7 +235,7 @@ module _ (card : Card) (full : length card.table ≡ 2 ^ most_words) (r : in_ran
   field-written : (k : ℕ) → k < field_count → let b = written card in let m = card.words in
       (values_at m b k ≡ numbers_of card k)
       × NoneApplies (cond (present b k) (part_checks (field m k) (drop (offset m b k) b))
-      (check table_missing (eqb k table_bit && not (eqb m default_words)) ∷ []))
+      (check TableMissing (eqb k table_bit && not (eqb m default_words)) ∷ []))
   unfolding values_at field_bytes NoneApplies
   field-written k l =
       let p = written_split (field_count - suc k) k (omega arith) in

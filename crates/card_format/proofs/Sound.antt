@@ -15,7 +15,8 @@ use Rattle.cycle.proofs.Digits.{length-tabulate}
 use Rattle.tsc.specs.Constants.{default_words}
 use Rattle.tsc.specs.Step.{entry}
 use Rattle.tsc.specs.Coverage.{WellFormed}
-use Rattle.refusals.specs.Refusals.{NoneApplies, check, table_missing}
+use Rattle.refusals.specs.Refusals.{NoneApplies, check}
+use Rattle.refusals.specs.declared.Refusal.TheVariants.{TableMissing}
 use Rattle.card_format.specs.Fields.{Field, fields, field, field_count, table_bit, extent, numbers, allowed}
 use Rattle.card_format.specs.Reading.{present, offset, values_at, words_of, values, value, card_of, part_checks, field_checks, checks_to, form_checks, SoundForm}
 use Rattle.refusals.proofs.Refusals.{none_left, none_right}
@@ -62,7 +63,7 @@ unfolding field_checks part_checks NoneApplies values_at numbers
 none_fitting bytes k l none = go (words_of bytes) (present bytes k) none
   where
     go : (m : ℕ) (here : Bool)
-        → NoneApplies (cond here (part_checks (field m k) (drop (offset m bytes k) bytes)) (check table_missing (eqb k table_bit && not (eqb m default_words)) ∷ []))
+        → NoneApplies (cond here (part_checks (field m k) (drop (offset m bytes k) bytes)) (check TableMissing (eqb k table_bit && not (eqb m default_words)) ∷ []))
         → Fitting (field m k) (cond here (numbers (field m k) (drop (offset m bytes k) bytes)) (field m k).absent)
     go m true h = record { allow = not-false _ h.1.0; count = length-tabulate _ _ }
     go m false h = absent_fitting m k l (λ e. eqb-true m default_words (not-false _ (rw (eq-eqb k table_bit e) at h.0)))

@@ -14,10 +14,12 @@ use Rattle.tsc.specs.Coverage.{WellFormed, FullPeriod}
 use Rattle.tsc.proofs.Table.{table_cycle}
 use Rattle.tsc.proofs.Coverage.{coverage}
 use Rattle.tsc.specs.Constants.{most_words}
-use Rattle.card_format.specs.declared.Reading.{Reading}
+use Rattle.refusals.specs.declared.Refusal.{Refusal}
 use Rattle.card_format.specs.Fields.{field, fields}
-use Rattle.refusals.specs.Refusals.{first_of, NoneApplies}
-use Rattle.card_format.specs.Reading.{card_of, form_checks, SoundForm, refused_reading, answering, reading}
+use Rattle.refusals.specs.Refusals.{first_of, NoneApplies, numbered}
+use Rattle.refusals.proofs.Answers.{of_value}
+use Rattle.std.specs.Prelude.{Result, Ok}
+use Rattle.card_format.specs.Reading.{card_of, form_checks, SoundForm, reading}
 use Rattle.card_format.specs.Verdict.{period_checks, card_checks, verdict, ZeroIffCovers, accepting, Accepted}
 use Rattle.refusals.proofs.Refusals.{first-none, none_first, first-append, first-left, none_left, none_right}
 use Rattle.card_format.proofs.Sound.{sound-value, sound_card}
@@ -49,10 +51,6 @@ period-none card wf = (forth, back)
           ),
         )
 
--- what is answered with a refusal
-pub answering-refused : (card : Card) (r : ℕ) → r ≢ 0 → refused_reading r ≡ answering r card
-answering-refused card r ne = simp (ne_eqb r 0 ne)
-
 -- a card of sound form is judged by its values
 pub verdict-period : (bytes : List ℕ) → SoundForm bytes → first_of (period_checks (card_of bytes)) ≡ verdict bytes
 unfolding verdict
@@ -79,11 +77,9 @@ pub verdict-form : (bytes : List ℕ) → first_of (form_checks bytes) ≢ 0 →
 unfolding verdict
 verdict-form bytes ne = sym (first-left (form_checks bytes) (period_checks (card_of bytes)) ne)
 
-pub reading-sound : (bytes : List ℕ) (r : Reading) → r ≡ reading bytes → r.refusal ≡ 0 → SoundForm bytes × (r.card ≡ card_of bytes)
+pub reading-sound : (bytes : List ℕ) {a : Result Card Refusal} {card : Card} → numbered a ≡ reading bytes → a ≡ Ok card → SoundForm bytes × (card ≡ card_of bytes)
 unfolding reading
-reading-sound bytes r e z =
-    let f : first_of (form_checks bytes) ≡ 0 = sym (ap (λ (r : Reading). r.refusal) e) ∙ z in
-    (none_first _ f, ap (λ (r : Reading). r.card) e ∙ rw f refl)
+reading-sound bytes h e = let found = of_value (first_of (form_checks bytes)) (card_of bytes) h e in (none_first _ found.0, found.1)
 
 pub words-sound : (bytes : List ℕ) → SoundForm bytes → (card_of bytes).words ≤ most_words
 unfolding card_of field fields
@@ -106,8 +102,6 @@ accepted_card bytes z =
     }
 
 -- the check's answer on an accepted card
-pub accepting-passed : (bytes : List ℕ) (r : Reading) → r ≡ accepting bytes → r.refusal ≡ 0 → (verdict bytes ≡ 0) × (r.card ≡ card_of bytes)
+pub accepting-passed : (bytes : List ℕ) {a : Result Card Refusal} {card : Card} → numbered a ≡ accepting bytes → a ≡ Ok card → (verdict bytes ≡ 0) × (card ≡ card_of bytes)
 unfolding accepting
-accepting-passed bytes r e z =
-    let v : verdict bytes ≡ 0 = sym (ap (λ (r : Reading). r.refusal) e) ∙ z in
-    (v, ap (λ (r : Reading). r.card) e ∙ rw v refl)
+accepting-passed bytes h e = of_value (verdict bytes) (card_of bytes) h e

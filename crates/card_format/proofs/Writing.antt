@@ -20,7 +20,7 @@ use Rattle.cycle.proofs.Every.{every_at}
 use Rattle.tsc.specs.declared.Card.{Card}
 use Rattle.tsc.specs.Constants.{most_words, default_words}
 use Rattle.tsc.specs.Coverage.{WellFormed}
-use Rattle.card_format.specs.declared.Written.TheVariants.{Length, Refused}
+use Rattle.std.specs.Prelude.{Ok, Err}
 use Rattle.refusals.specs.Refusals.{first_of, NoneApplies}
 use Rattle.card_format.specs.Fields.{fields, field, field_count, most_card_bytes, table_bit, extent, bytes_of, allowed, same}
 use Rattle.card_format.specs.Reading.{card_from}
@@ -176,11 +176,11 @@ unfolding value_checks NoneApplies
 value_range card z = not-false (in_range card) (none_first (value_checks card) z).0
 
 pub writing-refused : (card : Card) (page : List ℕ) (r : ℕ) → r ≢ 0 → first_of (write_checks card (length page)) ≡ r
-    → (Refused r ≡ writing card (length page)) × (page ≡ page_after card page)
+    → (Err r ≡ writing card (length page)) × (page ≡ page_after card page)
 unfolding writing page_after
 writing-refused card page r ne e = rw (e, ne_eqb r 0 ne) (refl, refl)
 
 pub writing_done : (card : Card) (page : List ℕ) → first_of (write_checks card (length page)) ≡ 0
-    → (Length (length (written card)) ≡ writing card (length page)) × (written card ++ drop (length (written card)) page ≡ page_after card page)
+    → (Ok (length (written card)) ≡ writing card (length page)) × (written card ++ drop (length (written card)) page ≡ page_after card page)
 unfolding writing page_after
 writing_done card page e = rw e (refl, refl)

@@ -1,10 +1,10 @@
 -- What the bytes of a card mean, and refusals 1 to 6 (document 01, The card and Refusal table). The first byte is the map; bytes past the end count as 0.
-use Rattle.std.specs.Prelude.{Bool, cond, not, ◌&&◌, List, [], ◌∷◌, ◌++◌, ℕ, zero, suc, ◌+◌, ◌^◌, eqb, leb, ltb, length, get_or, drop}
+use Rattle.std.specs.Prelude.{Bool, cond, not, ◌&&◌, List, [], ◌∷◌, ◌++◌, ℕ, zero, suc, ◌+◌, ◌^◌, eqb, leb, ltb, length, get_or, drop, Result}
 use Rattle.cycle.specs.Notation.{sum, zero_filled, bit}
 use Rattle.tsc.specs.declared.Card.{Card}
 use Rattle.tsc.specs.Constants.{most_words, default_words}
-use Rattle.card_format.specs.declared.Reading.{Reading}
-use Rattle.refusals.specs.Refusals.{Check, check, first_of, NoneApplies, truncated, out_of_range, redundant, table_missing, trailing_bytes, constant_too_wide}
+use Rattle.refusals.specs.Refusals.{Check, check, first_of, NoneApplies, answered}
+use Rattle.refusals.specs.declared.Refusal.TheVariants.{Truncated, OutOfRange, Redundant, TableMissing, TrailingBytes, ConstantTooWide}
 use Rattle.card_format.specs.Fields.{Field, field, field_count, table_bit, extent, numbers, allowed, same}
 
 -- whether field k is present
@@ -54,9 +54,9 @@ card_of bytes = card_from (value bytes) (padded (values bytes table_bit))
 -- a present field's checks, in their order, on the card's bytes from the field's start on
 unfoldable pub part_checks : Field → List ℕ → List Check
 part_checks f part =
-    check truncated (ltb (length part) (extent f))
-    ∷ check out_of_range (not (allowed f (numbers f part)))
-    ∷ check redundant (same (numbers f part) f.absent)
+    check Truncated (ltb (length part) (extent f))
+    ∷ check OutOfRange (not (allowed f (numbers f part)))
+    ∷ check Redundant (same (numbers f part) f.absent)
     ∷ []
 
 -- the checks of field k; 4 stands at the table's place
@@ -64,22 +64,22 @@ unfoldable pub field_checks : List ℕ → ℕ → List Check
 field_checks bytes k =
     let m = words_of bytes in
     cond (present bytes k) (part_checks (field m k) (drop (offset m bytes k) bytes))
-    (check table_missing (eqb k table_bit && not (eqb m default_words)) ∷ [])
+    (check TableMissing (eqb k table_bit && not (eqb m default_words)) ∷ [])
 
 -- the map, then the fields before field k
 unfoldable pub checks_to : List ℕ → ℕ → List Check
-checks_to bytes zero = check truncated (eqb (length bytes) 0) ∷ []
+checks_to bytes zero = check Truncated (eqb (length bytes) 0) ∷ []
 checks_to bytes (suc k) = checks_to bytes k ++ field_checks bytes k
 
 -- condition 6, on a card's values
 abbrev pub constant_check : Card → Check
-constant_check card = check constant_too_wide (leb (2 ^ card.width) card.constant)
+constant_check card = check ConstantTooWide (leb (2 ^ card.width) card.constant)
 
 -- conditions 1 to 6
 unfoldable pub form_checks : List ℕ → List Check
 form_checks bytes =
     checks_to bytes field_count
-    ++ (check trailing_bytes (ltb (offset (words_of bytes) bytes field_count) (length bytes))
+    ++ (check TrailingBytes (ltb (offset (words_of bytes) bytes field_count) (length bytes))
     ∷ constant_check (card_of bytes)
     ∷ [])
 
@@ -87,18 +87,6 @@ form_checks bytes =
 abbrev pub SoundForm : List ℕ → Type 0
 SoundForm bytes = NoneApplies (form_checks bytes)
 
--- the card that goes with a refusal: every value 0, which no check accepts
-abbrev pub no_card : Card
-no_card = card_from (λ k. 0) (padded [])
-
--- a refusal, with that card
-abbrev pub refused_reading : ℕ → Reading
-refused_reading r = record { refusal = r; card = no_card }
-
--- a refusal alone, or, where it is 0, the card
-abbrev pub answering : ℕ → Card → Reading
-answering r card = record { refusal = r; card = cond (eqb r 0) card no_card }
-
--- what the reader answers: 0 and the eight values, or the first of refusals 1 to 6
-unfoldable pub reading : List ℕ → Reading
-reading bytes = answering (first_of (form_checks bytes)) (card_of bytes)
+-- what the reader answers: the eight values, or the first of refusals 1 to 6
+unfoldable pub reading : List ℕ → Result Card ℕ
+reading bytes = answered (first_of (form_checks bytes)) (card_of bytes)

@@ -1,10 +1,9 @@
 -- What the writer writes, and its refusals (document 01, after the refusal table); and a card's bytes, read and written again.
-use Rattle.std.specs.Prelude.{Bool, cond, not, ◌&&◌, List, [], ◌∷◌, ◌++◌, ℕ, zero, suc, ◌^◌, eqb, ltb, length, get_or, take, drop, replicate}
+use Rattle.std.specs.Prelude.{Bool, cond, not, ◌&&◌, List, [], ◌∷◌, ◌++◌, ℕ, zero, suc, ◌^◌, eqb, ltb, length, get_or, take, drop, replicate, Result}
 use Rattle.cycle.specs.Notation.{sum, every}
 use Rattle.tsc.specs.declared.Card.{Card}
-use Rattle.card_format.specs.declared.Written.{Written}
-use Rattle.card_format.specs.declared.Written.TheVariants.{Length, Refused}
-use Rattle.refusals.specs.Refusals.{Check, check, first_of, out_of_range, buffer_too_small}
+use Rattle.refusals.specs.Refusals.{Check, check, first_of, answered}
+use Rattle.refusals.specs.declared.Refusal.TheVariants.{OutOfRange, BufferTooSmall}
 use Rattle.card_format.specs.Fields.{field, field_count, bytes_of, allowed, same}
 use Rattle.card_format.specs.Reading.{constant_check}
 use Rattle.card_format.specs.Verdict.{period_checks, card_checks}
@@ -48,19 +47,17 @@ in_range card = every field_count (λ k. allowed (field card.words k) (numbers_o
 -- 2, 6, 7, 8, 9, on a card's values
 unfoldable pub value_checks : Card → List Check
 value_checks card =
-    check out_of_range (not (in_range card))
+    check OutOfRange (not (in_range card))
     ∷ constant_check card
     ∷ period_checks card
 
 -- and 16, for a page of `room` bytes
 unfoldable pub write_checks : Card → ℕ → List Check
-write_checks card room = value_checks card ++ (check buffer_too_small (ltb room (length (written card))) ∷ [])
+write_checks card room = value_checks card ++ (check BufferTooSmall (ltb room (length (written card))) ∷ [])
 
 -- what the writer answers for a page of `room` bytes: the length, or the refusal
-unfoldable pub writing : Card → ℕ → Written
-writing card room =
-    let r = first_of (write_checks card room) in
-    cond (eqb r 0) (Length (length (written card))) (Refused r)
+unfoldable pub writing : Card → ℕ → Result ℕ ℕ
+writing card room = answered (first_of (write_checks card room)) (length (written card))
 
 -- the page after the call: bytes past the length are as they were, and so is the whole page after a refusal
 unfoldable pub page_after : Card → List ℕ → List ℕ
@@ -71,13 +68,11 @@ page_after card page =
 
 -- 1 to 9, and 16
 unfoldable pub rewrite_checks : List ℕ → ℕ → List Check
-rewrite_checks bytes room = card_checks bytes ++ (check buffer_too_small (ltb room (length bytes)) ∷ [])
+rewrite_checks bytes room = card_checks bytes ++ (check BufferTooSmall (ltb room (length bytes)) ∷ [])
 
 -- what is answered for a page of `room` bytes: the length, or the refusal
-unfoldable pub rewriting : List ℕ → ℕ → Written
-rewriting bytes room =
-    let r = first_of (rewrite_checks bytes room) in
-    cond (eqb r 0) (Length (length bytes)) (Refused r)
+unfoldable pub rewriting : List ℕ → ℕ → Result ℕ ℕ
+rewriting bytes room = answered (first_of (rewrite_checks bytes room)) (length bytes)
 
 -- the page after the call: it begins with the same bytes, and past them it is as it was; so is the whole page after a refusal
 unfoldable pub page_rewritten : List ℕ → List ℕ → List ℕ

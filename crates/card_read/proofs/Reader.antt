@@ -17,18 +17,22 @@ use lib.Seq.{get_or-set_other, set-get_or}
 use Rattle.tsc.specs.Constants.{most_words, default_words}
 use Rattle.cycle.specs.Notation.{sum, tabulate}
 use Rattle.card_values.specs.declared.values.Values.{Values}
-use Rattle.refusals.specs.Refusals.{Check, first_of, NoneApplies}
+use Rattle.std.specs.Prelude.{Ok, Err}
+use Rattle.tsc.specs.declared.Card.{Card}
+use Rattle.refusals.specs.declared.Refusal.{Refusal}
+use Rattle.refusals.specs.Refusals.{Check, number, first_of, NoneApplies, numbered}
+use Rattle.refusals.proofs.Answers.{value_answered, refusal_answered, number_nonzero}
 use Rattle.card_format.specs.Fields.{field, fields, field_count, table_bit, constant_bit, numbers}
-use Rattle.card_format.specs.Reading.{reading, refused_reading, answering, present, offset, values_at, words_of, values, value, padded, card_from, card_of, part_checks, field_checks, checks_to, form_checks, SoundForm}
-use Rattle.card_values.specs.FieldRead.{field_read, missing, end_checks}
+use Rattle.card_format.specs.Reading.{reading, present, offset, values_at, words_of, values, value, padded, card_from, card_of, field_checks, checks_to, form_checks, SoundForm}
+use Rattle.card_values.specs.FieldRead.{field_refusal, field_values, missing, end_checks}
 use Rattle.refusals.proofs.Refusals.{none_first, first-append, first-left, none-append}
 use Rattle.card_format.proofs.Fields.{each_number, count-one, size-one, allowed_at}
 use Rattle.card_fields.proofs.Arrays.{array_of, array_of_lem}
-use Rattle.card_format.proofs.Verdict.{answering-refused, words-sound}
+use Rattle.card_format.proofs.Verdict.{words-sound}
 use Rattle.card_format.proofs.RoundTrip.{row_facts}
 use Rattle.card_read.proofs.Map.{Left, lowest_one, left_below, next_field}
 use Rattle.card_format.proofs.Sound.{offset_suc, fields-none, none_fitting, value-words, sound-value}
-use Rattle.card_read.proofs.FieldRead.{used-fits}
+use Rattle.card_read.proofs.FieldRead.{part_long}
 
 -- the numbers of absent fields
 abbrev pub absents : List ℕ
@@ -144,14 +148,14 @@ unfolding field fields
 field_known bytes zero at v h = refl
 field_known bytes (suc k) at v h = ap (λ (m : ℕ). field m (suc k)) (words_known bytes (suc k) at v h (omega arith))
 
--- what the field's reader answers is what the checks of field k tell
+-- what the field's reader refuses is what the checks of field k tell
 field_told : (bytes : List ℕ) (k at : ℕ) (v : Values) → Reached bytes k at v → present bytes k ≡ true
-    → (field_read k (drop at bytes) v).refusal ≡ first_of (field_checks bytes k)
-unfolding field_read field_checks
+    → field_refusal k (drop at bytes) v ≡ first_of (field_checks bytes k)
+unfolding field_checks
 field_told bytes k at v h p = rw (p, field_known bytes k at v h, h.start) refl
 
 pub told_field : (bytes : List ℕ) (k at : ℕ) (v : Values) → k < field_count → Reached bytes k at v → present bytes k ≡ true
-    → (field_read k (drop at bytes) v).refusal ≢ 0 → first_of (form_checks bytes) ≡ (field_read k (drop at bytes) v).refusal
+    → field_refusal k (drop at bytes) v ≢ 0 → first_of (form_checks bytes) ≡ field_refusal k (drop at bytes) v
 told_field bytes k at v l h p ne = told_at bytes k l h.none _ ne (sym (field_told bytes k at v h p))
 
 pub values-present : (bytes : List ℕ) (k at : ℕ) (v : Values) → Reached bytes k at v → present bytes k ≡ true
@@ -159,21 +163,16 @@ pub values-present : (bytes : List ℕ) (k at : ℕ) (v : Values) → Reached by
 unfolding values_at
 values-present bytes k at v h p = rw (p, field_known bytes k at v h, h.start) refl
 
-cond_not : (b : Bool) (x y : List ℕ) → cond (not b) x y ≡ cond b y x
-cond_not true x y = refl
-cond_not false x y = refl
-
 pub reached-field : (bytes : List ℕ) (k at : ℕ) (v : Values) → k < field_count → Reached bytes k at v → present bytes k ≡ true
-    → (field_read k (drop at bytes) v).refusal ≡ 0 → Reached bytes (suc k) (at + (field_read k (drop at bytes) v).used) (field_read k (drop at bytes) v)
-unfolding checks_to field_read numbers_to
+    → field_refusal k (drop at bytes) v ≡ 0 → Reached bytes (suc k) (at + (field_values k (drop at bytes) v).used) (field_values k (drop at bytes) v)
+unfolding checks_to numbers_to
 reached-field bytes k at v l h p z =
     let x = values-present bytes k at v h p in
-    let fits = eq-eqb (first_of (part_checks (field (get_or v.numbers 0 0) k) (drop at bytes))) 0 z in
     record {
       none = none-append (checks_to bytes k) (field_checks bytes k) h.none (none_first _ (sym (field_told bytes k at v h p) ∙ z));
-      start = ap₂ (λ (i j : ℕ). i + j) h.start (rw (fits, p, field_known bytes k at v h) refl) ∙ sym (offset_suc (words_of bytes) bytes k);
-      within = omega (arith, used-fits k (drop at bytes) v, length-drop at bytes, h.within);
-      numbers = rw (fits, sym x, h.numbers) (cond_not (eqb k table_bit) _ _);
+      start = ap₂ (λ (i j : ℕ). i + j) h.start (rw (p, field_known bytes k at v h) refl) ∙ sym (offset_suc (words_of bytes) bytes k);
+      within = omega (arith, part_long _ (drop at bytes) z, length-drop at bytes, h.within);
+      numbers = rw (sym x, h.numbers) refl;
     }
 
 -- ---- over absent fields
@@ -229,27 +228,25 @@ rest_here bytes left next at v h p m =
     (rest_reached bytes left next at v h f.0 m, (lowest_one left p h.fields.small).within, eq-eqb _ 1 f.1)
 
 pub rest_next : (bytes : List ℕ) (left next at : ℕ) (v r : Values) → Rest bytes left next at v → 0 < left
-    → missing next (count_trailing_zeros 8 left) (get_or v.numbers 0 0) ≡ false → r ≡ field_read (count_trailing_zeros 8 left) (drop at bytes) v → r.refusal ≡ 0
-    → Rest bytes (bit_and left (left - 1)) (count_trailing_zeros 8 left + 1) (at + r.used) r
-rest_next bytes left next at v r h p m e z =
+    → missing next (count_trailing_zeros 8 left) (get_or v.numbers 0 0) ≡ false → field_refusal (count_trailing_zeros 8 left) (drop at bytes) v ≡ 0
+    → r ≡ field_values (count_trailing_zeros 8 left) (drop at bytes) v → Rest bytes (bit_and left (left - 1)) (count_trailing_zeros 8 left + 1) (at + r.used) r
+rest_next bytes left next at v r h p m z e =
     let f = next_field (get_or bytes 0 0) left next h.fields p in
     let here = rest_here bytes left next at v h p m in
     let k = count_trailing_zeros 8 left in
     record {
       reached =
           subst (λ (j : ℕ). Reached bytes j (at + r.used) r) (sym (add-one k))
-          (subst (λ (r : Values). Reached bytes (suc k) (at + r.used) r) (sym e)
-          (reached-field bytes k at v here.1 here.0 here.2 (ap (λ (r : Values). r.refusal) (sym e) ∙ z)));
+          (subst (λ (r : Values). Reached bytes (suc k) (at + r.used) r) (sym e) (reached-field bytes k at v here.1 here.0 here.2 z));
       fields = f.2;
     }
 
-pub rest_refused : (bytes : List ℕ) (left next at : ℕ) (v r : Values) → Rest bytes left next at v → 0 < left
-    → missing next (count_trailing_zeros 8 left) (get_or v.numbers 0 0) ≡ false → r ≡ field_read (count_trailing_zeros 8 left) (drop at bytes) v → r.refusal ≢ 0
-    → first_of (form_checks bytes) ≡ r.refusal
-rest_refused bytes left next at v r h p m e ne =
+pub rest_refused : (bytes : List ℕ) (left next at : ℕ) (v : Values) (e : Refusal) → Rest bytes left next at v → 0 < left
+    → missing next (count_trailing_zeros 8 left) (get_or v.numbers 0 0) ≡ false → field_refusal (count_trailing_zeros 8 left) (drop at bytes) v ≡ number e
+    → first_of (form_checks bytes) ≡ number e
+rest_refused bytes left next at v e h p m q =
     let here = rest_here bytes left next at v h p m in
-    let re = ap (λ (r : Values). r.refusal) e in
-    told_field bytes (count_trailing_zeros 8 left) at v here.1 here.0 here.2 (λ z. ne (re ∙ z)) ∙ sym re
+    told_field bytes (count_trailing_zeros 8 left) at v here.1 here.0 here.2 (λ z. number_nonzero e (sym q ∙ z)) ∙ q
 
 -- m is within its bounds once the words field is past its checks, and before
 pub words-few : (bytes : List ℕ) (next at : ℕ) (v : Values) → Reached bytes next at v → get_or v.numbers 0 0 ≤ most_words
@@ -291,13 +288,13 @@ pub card_read : (bytes : List ℕ) (at : ℕ) (v : Values) (t : List ℕ) → Re
 unfolding card_of numbers_to array_of tabulate
 card_read bytes at v t h e = rw (h.numbers, e) refl
 
-pub reading-refused : (bytes : List ℕ) (r : ℕ) → r ≢ 0 → first_of (form_checks bytes) ≡ r → refused_reading r ≡ reading bytes
+pub reading-refused : (bytes : List ℕ) (e : Refusal) → first_of (form_checks bytes) ≡ number e → numbered (Err e) ≡ reading bytes
 unfolding reading
-reading-refused bytes r ne e = answering-refused (card_of bytes) r ne ∙ ap (λ (n : ℕ). answering n (card_of bytes)) (sym e)
+reading-refused bytes e q = refusal_answered _ e (card_of bytes) q
 
-pub reading-accepted : (bytes : List ℕ) → first_of (form_checks bytes) ≡ 0 → record { refusal = 0; card = card_of bytes } ≡ reading bytes
+pub reading-accepted : (bytes : List ℕ) (card : Card) → first_of (form_checks bytes) ≡ 0 → card ≡ card_of bytes → numbered (Ok card) ≡ reading bytes
 unfolding reading
-reading-accepted bytes e = rw e refl
+reading-accepted bytes card z e = value_answered _ card _ z e
 
 -- a number is the field's value, and below 256 where it has one byte
 numbers_read : (bytes : List ℕ) (k : ℕ) → k < field_count → k ≢ table_bit → get_or (numbers_to bytes field_count) k 0 ≡ value bytes k

@@ -18,7 +18,7 @@ use Rattle.card_format.specs.Fields.{field, fields, field_count, table_bit}
 use Rattle.card_format.specs.Reading.{present, values, padded}
 use Rattle.card_format.proofs.Fields.{by_table, few-entries, numbers_table}
 use Rattle.cycle.proofs.Lists.{over, over_zeros, length_over}
-use Rattle.card_values.specs.FieldRead.{field_read, table_read, missing}
+use Rattle.card_values.specs.FieldRead.{field_refusal, table_read, missing}
 use Rattle.card_read.proofs.FieldRead.{part_long}
 use Rattle.card_read.proofs.Map.{next_field}
 use Rattle.card_read.proofs.Reader.{Reached, Rest, values-absent, values-present, absent-below, rest_here}
@@ -66,8 +66,8 @@ table_other bytes k ne = go (dec_lt table_bit k)
 
 -- the table's own field, that nothing refuses
 table_here : (bytes : List ℕ) (at : ℕ) (v : Values) → Reached bytes table_bit at v → present bytes table_bit ≡ true
-    → (field_read table_bit (drop at bytes) v).refusal ≡ 0 → table_read table_bit (drop at bytes) v (table_to bytes table_bit) ≡ table_to bytes (suc table_bit)
-unfolding table_to field_read table_read field fields
+    → field_refusal table_bit (drop at bytes) v ≡ 0 → table_read table_bit (drop at bytes) v (table_to bytes table_bit) ≡ table_to bytes (suc table_bit)
+unfolding table_to table_read field fields
 table_here bytes at v h p z =
     let m = get_or v.numbers 0 0 in
     let part = drop at bytes in
@@ -75,24 +75,24 @@ table_here bytes at v h p z =
     rw (le-leb _ _ long, p) (over_zeros part (2 ^ most_words) (2 ^ m) long ∙ ap padded (sym (values-present bytes table_bit at v h p ∙ numbers_table m part long)))
 
 table_field : (bytes : List ℕ) (at : ℕ) (v : Values) (k : ℕ) → k < field_count → Reached bytes k at v → present bytes k ≡ true
-    → (field_read k (drop at bytes) v).refusal ≡ 0 → table_read k (drop at bytes) v (table_to bytes k) ≡ table_to bytes (suc k)
+    → field_refusal k (drop at bytes) v ≡ 0 → table_read k (drop at bytes) v (table_to bytes k) ≡ table_to bytes (suc k)
 unfolding table_read
 table_field bytes at v =
-    by_table (λ k. Reached bytes k at v → present bytes k ≡ true → (field_read k (drop at bytes) v).refusal ≡ 0
+    by_table (λ k. Reached bytes k at v → present bytes k ≡ true → field_refusal k (drop at bytes) v ≡ 0
     → table_read k (drop at bytes) v (table_to bytes k) ≡ table_to bytes (suc k))
     (table_here bytes at v) (λ k l ne h p z. rw (ne_eqb k table_bit ne) (table_other bytes k ne))
 
 -- ---- the loop
 
-pub rest_table : (bytes : List ℕ) (left next at : ℕ) (v r : Values) (t₀ t : List ℕ) → Rest bytes left next at v → 0 < left
-    → missing next (count_trailing_zeros 8 left) (get_or v.numbers 0 0) ≡ false → r ≡ field_read (count_trailing_zeros 8 left) (drop at bytes) v → r.refusal ≡ 0
+pub rest_table : (bytes : List ℕ) (left next at : ℕ) (v : Values) (t₀ t : List ℕ) → Rest bytes left next at v → 0 < left
+    → missing next (count_trailing_zeros 8 left) (get_or v.numbers 0 0) ≡ false → field_refusal (count_trailing_zeros 8 left) (drop at bytes) v ≡ 0
     → t₀ ≡ table_to bytes next → t ≡ table_read (count_trailing_zeros 8 left) (drop at bytes) v t₀ → t ≡ table_to bytes (count_trailing_zeros 8 left + 1)
-rest_table bytes left next at v r t₀ t h p m e z d₀ d =
+rest_table bytes left next at v t₀ t h p m z d₀ d =
     let k = count_trailing_zeros 8 left in
     let here = rest_here bytes left next at v h p m in
     let gap = table_gap bytes next k (next_field (get_or bytes 0 0) left next h.fields p).0 (absent-below bytes left next h.fields) in
     d ∙ ap (table_read k (drop at bytes) v) (d₀ ∙ gap)
-    ∙ table_field bytes at v k here.1 here.0 here.2 (ap (λ (r : Values). r.refusal) (sym e) ∙ z) ∙ ap (table_to bytes) (sym (add-one k))
+    ∙ table_field bytes at v k here.1 here.0 here.2 z ∙ ap (table_to bytes) (sym (add-one k))
 
 -- ---- the end
 

@@ -22,23 +22,12 @@ pub fn entries(m: u32) -> usize
     1 << m
 }
 
-// A byte as a number to compare with a size.
-fn wide(x: u8) -> usize
-    ensures { result ≡ x }
-{
-    x as usize
-}
-
 // The first `size` bytes of the part, put over a table's entries. The reader has found them there.
 pub fn put_entries(part: &[u8], size: usize, table: &mut [u8; TABLE_SIZE])
     requires { (size ≤ 2 ^ most_words) × (size ≤ length part.now) × (length table.old ≡ 2 ^ most_words) }
     ensures { table.new ≡ take size part.now ++ drop size table.old }
 {
-    let mut i = 0;
-    while i < size {
-        table[i] = part[i];
-        i += 1;
-    }
+    table[..size].copy_from_slice(&part[..size]);
 }
 
 // The table of the first `size` bytes of the part, which are there: callers have looked at their number.
@@ -64,14 +53,7 @@ pub fn entries_allowed(table: &[u8; TABLE_SIZE], m: u32) -> bool
     ensures { result ≡ allowed (field m table_bit) (take (2 ^ m) table.now) }
 {
     let size = entries(m);
-    let mut i = 0;
-    while i < size {
-        if size <= wide(table[i]) {
-            return false;
-        }
-        i += 1;
-    }
-    true
+    table[..size].iter().all(|x| (*x as usize) < size)
 }
 
 // Whether it is TSC-1's table.
@@ -79,17 +61,7 @@ pub fn is_tsc1(table: &[u8; TABLE_SIZE], m: u32) -> bool
     requires { (m ≤ most_words) × (length table.now ≡ 2 ^ most_words) }
     ensures { result ≡ same (take (2 ^ m) table.now) tsc1_table }
 {
-    if m != DEFAULT_WORDS {
-        return false;
-    }
-    let mut i = 0;
-    while i < TSC1_SIZE {
-        if table[i] != TSC1_TABLE[i] {
-            return false;
-        }
-        i += 1;
-    }
-    true
+    m == DEFAULT_WORDS && table[..TSC1_SIZE] == TSC1_TABLE[..]
 }
 
 // Whether the entries past 2^m are 0.
@@ -97,14 +69,7 @@ pub fn unused_clear(table: &[u8; TABLE_SIZE], m: u32) -> bool
     requires { (m ≤ most_words) × (length table.now ≡ 2 ^ most_words) }
     ensures { result ≡ unused_clear m table.now }
 {
-    let mut i = entries(m);
-    while i < TABLE_SIZE {
-        if table[i] != 0 {
-            return false;
-        }
-        i += 1;
-    }
-    true
+    table[entries(m)..].iter().all(|x| *x == 0)
 }
 
 // The table followed from 0: the number of steps until 0 returns, or 0 if it does not within `size`. Callers have entries that passed their check.
@@ -113,6 +78,7 @@ pub fn first_return(table: &[u8; TABLE_SIZE], size: usize) -> usize
     requires by_index { (y : ℕ) → y < size → get_or table.now y 0 < size }
     ensures { result ≡ first_return (λ y. get_or table.now y 0) size }
 {
+    // A loop with break: document 01, Language forms in the code.
     let mut x = table[0];
     let mut steps: usize = 1;
     loop {

@@ -1,25 +1,25 @@
 -- What the functions that the reader calls answer. Only their contracts cite these; the reader's own does without.
-use Rattle.std.specs.Prelude.{Bool, cond, not, ◌&&◌, List, [], ◌∷◌, ◌++◌, ℕ, ◌^◌, eqb, leb, ltb, length, get_or, set, take, drop}
+use Rattle.std.specs.Prelude.{Bool, cond, not, ◌&&◌, List, [], ◌∷◌, ◌++◌, ℕ, ◌^◌, eqb, leb, ltb, length, get_or, set, take, drop, Result}
 use Rattle.card_values.specs.declared.values.Values.{Values}
 use Rattle.tsc.specs.Constants.{default_words}
-use Rattle.refusals.specs.Refusals.{Check, check, first_of, table_missing, trailing_bytes}
+use Rattle.refusals.specs.Refusals.{Check, check, first_of, answered}
+use Rattle.refusals.specs.declared.Refusal.TheVariants.{TableMissing, TrailingBytes}
 use Rattle.card_format.specs.Fields.{field, field_count, table_bit, extent, numbers}
 use Rattle.card_format.specs.Reading.{part_checks, card_from, constant_check}
 
--- a field's refusal: nothing is used and the numbers are as they were
-abbrev pub refused_at : Values → ℕ → Values
-refused_at v r = record { refusal = r; used = 0; numbers = v.numbers }
+-- the first refusal of field k's checks, or 0; the field stands at the start of the part, here and below
+abbrev pub field_refusal : ℕ → List ℕ → Values → ℕ
+field_refusal k part v = first_of (part_checks (field (get_or v.numbers 0 0) k) part)
 
--- the numbers after field k, which stands at the start of the part
-unfoldable pub field_read : ℕ → List ℕ → Values → Values
-field_read k part v =
+-- the numbers after field k
+abbrev pub field_values : ℕ → List ℕ → Values → Values
+field_values k part v =
     let f = field (get_or v.numbers 0 0) k in
-    let r = first_of (part_checks f part) in
-    record {
-      refusal = r;
-      used = cond (eqb r 0) (extent f) 0;
-      numbers = cond (eqb r 0 && not (eqb k table_bit)) (set v.numbers k (get_or (numbers f part) 0 0)) v.numbers;
-    }
+    record { used = extent f; numbers = cond (eqb k table_bit) v.numbers (set v.numbers k (get_or (numbers f part) 0 0)) }
+
+-- what a field's reader answers
+unfoldable pub field_read : ℕ → List ℕ → Values → Result Values ℕ
+field_read k part v = answered (field_refusal k part v) (field_values k part v)
 
 -- the table after field k: where the table's bytes are there, they are its first entries, whatever they are
 unfoldable pub table_read : ℕ → List ℕ → Values → List ℕ → List ℕ
@@ -35,7 +35,7 @@ missing next k m = leb next table_bit && ltb table_bit k && not (eqb m default_w
 unfoldable pub end_checks : ℕ → ℕ → ℕ → Values → List Check
 end_checks size next at v =
     let n : ℕ → ℕ = λ k. get_or v.numbers k 0 in
-    check table_missing (missing next field_count (n 0))
-    ∷ check trailing_bytes (ltb at size)
+    check TableMissing (missing next field_count (n 0))
+    ∷ check TrailingBytes (ltb at size)
     ∷ constant_check (card_from n [])
     ∷ []

@@ -1,5 +1,4 @@
 // The line of a case on the bits of a strip.
-use super::strip::STRIP_ROOM;
 use super::{calls, strip};
 use case_answers::answer;
 use case_answers::answer::PAGE;
@@ -10,17 +9,12 @@ use std::io::Write;
 
 // nist CARD STRIP PAGELEN
 pub fn replay_nist<W: Write>(out: &mut W, line: &[u8], card: &[u8]) -> io::Result<()> {
-    let mut words = strip::empty();
-    let count = strip::words_of(line::field(line, 2), &mut words);
+    let words = strip::words_of(line::field(line, 2));
     let size = number::number_of(line::field(line, 3), false);
-    if line::fields(line) != 4 {
-        return answer::print_syntax(out);
+    match (line::fields(line), words, size) {
+        (4, Some(words), Some(size)) if size as usize <= PAGE => {
+            calls::print_bits(out, card, words.as_slice(), size as usize)
+        }
+        _ => answer::print_syntax(out),
     }
-    if STRIP_ROOM <= count {
-        return answer::print_syntax(out);
-    }
-    if (PAGE as u64) < size {
-        return answer::print_syntax(out);
-    }
-    calls::print_bits(out, card, &words[..count], size as usize)
 }

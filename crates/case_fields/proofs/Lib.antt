@@ -1,4 +1,4 @@
--- For the loops over the text of a case.
-pub mod Finds
+-- For the readers of the text of a case.
 pub mod Parts
-pub mod Folds
+pub mod Lists
+mod Pairs

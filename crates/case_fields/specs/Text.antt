@@ -1,9 +1,5 @@
 -- Text as bytes: where a byte stands, and the parts between separators.
-use Rattle.std.specs.Prelude.{cond, List, [], ◌∷◌, ℕ, suc, eqb, take, drop}
-
--- the bytes from one place up to another
-unfoldable pub slice : ℕ → ℕ → List ℕ → List ℕ
-slice from to xs = drop from (take to xs)
+use Rattle.std.specs.Prelude.{cond, List, [], ◌∷◌, ℕ, suc, eqb}
 
 -- where a byte first stands; the length where it doesn't
 unfoldable pub index_of : ℕ → List ℕ → ℕ

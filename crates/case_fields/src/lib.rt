@@ -3,4 +3,3 @@
 
 pub mod line;
 pub mod list;
-pub mod scan;

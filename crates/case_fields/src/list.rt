@@ -1,112 +1,172 @@
 // Lists of numbers in a field.
-ghost use Rattle.std.specs.Prelude.{◌≡◌, ◌<◌, length, take, drop};
-ghost use Rattle.case_fields.specs.Lists.{zeros, with_number, is_nothing, numbers_in, pair_value, bytes_in};
+ghost use Rattle.std.specs.Prelude.{◌≡◌, ◌≤◌, Some, ◌%◌, map, take};
+ghost use Rattle.case_numbers.specs.Numbers.{base_of, numeral};
+ghost use Rattle.case_fields.specs.Lists.{empty, with_number, is_nothing, numbers_in, pair_value, bytes_in};
 
-use super::scan;
 use case_numbers::number;
+use std::marker::Model;
 
-// One more than a list may have. 600 bytes have room for the longest card of document 02, and for cards that are too long.
-pub const ROOM: usize = 601;
+// The most numbers of a list. 600 bytes have room for the longest card of document 02, and for cards that are too long.
+pub const ROOM: usize = 600;
 
-// The largest numbers of 16 and of 32 bits.
+// The largest numbers of 8, of 16 and of 32 bits.
+pub const BYTE: u32 = 0xff;
+
 pub const HALF: u32 = 0xffff;
 
 pub const WORD: u32 = 0xffff_ffff;
 
-// Numbers, `count` of them, each as it is and its low 16 and low 8 bits; zeros past them. A full array is a list that can't be read.
+// A list of numbers: as many of the words as count, and zeros past them. A program has fixed memory, and what reads a list can't fail for want of more.
 #[derive(Clone, Copy)]
-pub struct Numbers {
-    pub words: [u32; ROOM],
-    pub halves: [u16; ROOM],
-    pub bytes: [u8; ROOM],
-    pub count: usize,
+pub struct Numbers<const SIZE: usize> {
+    words: [u32; SIZE],
+    count: usize,
 }
 
-// Zeros, of which so many count.
-pub fn counted(count: usize) -> Numbers
-    ensures { result ≡ zeros count }
-{
-    Numbers {
-        words: [0; ROOM],
-        halves: [0; ROOM],
-        bytes: [0; ROOM],
-        count: count,
+impl<const SIZE: usize> Model for Numbers<SIZE> {
+    ghost use Rattle.std.specs.Prelude.{◌≤◌};
+    ghost use Rattle.case_fields.specs.Lists.{Held};
+
+    ghost Value = { Held };
+
+    ghost view = { λ n. record { words = n.words; count = n.count } };
+
+    ghost invariant = { λ n. n.count ≤ SIZE };
+
+    ghost inverse = { λ h. record { words = h.words; count = h.count } };
+}
+
+impl<const SIZE: usize> Numbers<SIZE> {
+    // An empty list.
+    pub fn new() -> Self
+        ensures { result ≡ empty SIZE }
+    {
+        Numbers {
+            words: [0; SIZE],
+            count: 0,
+        }
+    }
+
+    // How many there are.
+    pub fn len(&self) -> usize
+        ensures value { result ≡ self.now.count }
+        ensures bound { result ≤ SIZE }
+    {
+        self.count
+    }
+
+    // The numbers.
+    pub fn as_slice(&self) -> &[u32]
+        ensures { result.now ≡ take self.now.count self.now.words }
+    {
+        &self.words[..self.count]
+    }
+
+    // The numbers, to be changed.
+    pub fn as_mut_slice(&mut self) -> &mut [u32]
+        ensures { result.now ≡ take self.old.count self.old.words }
+    {
+        &mut self.words[..self.count]
+    }
+
+    // A list with a number put to it; none where it is full or the number above the most.
+    fn with(self, number: u32, most: u32) -> Option<Self>
+        ensures { result ≡ with_number most (Some self.entry) (Some number) }
+    {
+        if most < number || self.count == SIZE {
+            return None;
+        }
+        let mut longer = self;
+        longer.words[longer.count] = number;
+        longer.count += 1;
+        Some(longer)
     }
 }
 
-// A list with a number put to it.
-pub fn with_number(list: Numbers, value: u64, most: u32) -> Numbers
-    ensures { result ≡ with_number most list value }
+impl Numbers<ROOM> {
+    // Each word.
+    pub fn words(&self) -> [u32; ROOM]
+        ensures { result ≡ self.now.words }
+    {
+        self.words
+    }
+
+    // The low 16 bits of each word.
+    pub fn halves(&self) -> [u16; ROOM]
+        ensures { result ≡ map (λ x. x % 65536) self.now.words }
+    {
+        self.words.map(|word| (word % 0x1_0000) as u16)
+    }
+
+    // The low 8 bits of each word.
+    pub fn bytes(&self) -> [u8; ROOM]
+        ensures { result ≡ map (λ x. x % 256) self.now.words }
+    {
+        self.words.map(|word| (word % 0x100) as u8)
+    }
+}
+
+// A list with a number put to it, where both can be read.
+pub fn with_number<const SIZE: usize>(
+    list: Option<Numbers<SIZE>>,
+    number: Option<u32>,
+    most: u32,
+) -> Option<Numbers<SIZE>>
+    ensures { result ≡ with_number most list.entry number }
 {
-    let n = list.count;
-    if (most as u64) < value {
-        return counted(ROOM);
-    }
-    if ROOM <= n {
-        return counted(ROOM);
-    }
-    let mut longer = list;
-    longer.words[n] = value as u32;
-    longer.halves[n] = (value % 65536) as u16;
-    longer.bytes[n] = (value % 256) as u8;
-    longer.count = n + 1;
-    longer
+    list?.with(number?, most)
 }
 
 // Whether a field is the sign of an empty list.
 pub fn is_nothing(field: &[u8]) -> bool
     ensures { result ≡ is_nothing field.now }
 {
-    if field.len() == 1 {
-        return field[0] == b'-';
-    }
-    false
+    field == b"-".as_slice()
 }
 
 // Numbers up to the most, commas between.
-pub fn numbers_of(field: &[u8], hex: bool, most: u32) -> Numbers
-    ensures { result ≡ numbers_in hex most field.now }
+pub fn numbers_of<const SIZE: usize>(field: &[u8], hex: bool, most: u32) -> Option<Numbers<SIZE>>
+    ensures { result ≡ numbers_in hex most SIZE field.now }
 {
-    let mut list = counted(0);
+    let empty = Some(Numbers::new());
     if is_nothing(field) {
-        return list;
+        return empty;
     }
-    let mut at = 0;
-    while at <= field.len() {
-        let end = scan::find(field, at, field.len(), b',');
-        list = with_number(list, number::number_of(&field[at..end], hex), most);
-        at = end + 1;
-    }
-    list
+    // The closures here and below have their clauses written out, since the check reads none off a closure where sizes are parameters.
+    field.split(|byte| *byte == b',').fold(
+        empty,
+        move |list, part|
+            ensures { result ≡ with_number most list.entry (numeral (base_of hex) part.now) }
+        { with_number(list, number::number_of(part, hex), most) },
+    )
 }
 
-// The byte of the two hex digits at a place.
-fn pair_at(field: &[u8], at: usize) -> u64
-    requires { at < length field.now }
-    ensures { result ≡ pair_value (take 2 (drop at field.now)) }
+// The byte of two hex digits.
+fn pair_of(pair: &[u8]) -> Option<u32>
+    ensures { result ≡ pair_value pair.now }
 {
-    if field.len() - at < 2 {
-        return number::MALFORMED;
+    if pair.len() == 2 {
+        number::number_of(pair, true)
+    } else {
+        None
     }
-    let end = at + 2;
-    number::number_of(&field[at..end], true)
 }
 
 // Bytes as pairs of hex digits.
-pub fn bytes_of(field: &[u8]) -> Numbers
-    ensures { result ≡ bytes_in field.now }
+pub fn bytes_of<const SIZE: usize>(field: &[u8]) -> Option<Numbers<SIZE>>
+    ensures { result ≡ bytes_in SIZE field.now }
 {
-    let mut list = counted(0);
+    let empty = Some(Numbers::new());
     if is_nothing(field) {
-        return list;
+        return empty;
     }
-    if field.len() == 0 {
-        return counted(ROOM);
+    if field.is_empty() {
+        return None;
     }
-    let mut at = 0;
-    while at < field.len() {
-        list = with_number(list, pair_at(field, at), 255);
-        at += 2;
-    }
-    list
+    field.chunks(2).fold(
+        empty,
+        |list, pair|
+            ensures { result ≡ with_number 255 list.entry (pair_value pair.now) }
+        { with_number(list, pair_of(pair), BYTE) },
+    )
 }

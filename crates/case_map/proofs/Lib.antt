@@ -1,2 +1,2 @@
--- Coordinates with their bias.
-pub mod Biased
+-- For the readers of places.
+mod Places

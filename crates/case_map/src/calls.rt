@@ -1,50 +1,25 @@
-// The calls on the map, each with its answer printed. A state is lent as a copy, and compared with what was handed over after a refusal; that no list is more
-// than its array, the line's reader has seen.
-ghost use Rattle.std.specs.Prelude.{◌≤◌};
-ghost use Rattle.case_fields.specs.Lists.{room};
-
+// The calls on the map, each with its answer printed. A state is lent as a copy, and compared with what was handed over after a refusal.
 use case_answers::answer;
-use case_fields::list::Numbers;
+use case_answers::answer::Entries;
+use case_fields::list::{Numbers, ROOM};
 use case_states::calls;
 use std::io;
 use std::io::Write;
-use tie_list::check::MOST_SHOVELS;
 
 // A pick by the map.
 pub fn print_map_pick<W: Write>(
     out: &mut W,
     card: &[u8],
-    state: Numbers,
+    state: Numbers<ROOM>,
     x: i32,
     y: i32,
     shovels: &[u16],
     xs: &[i32],
     ys: &[i32],
-) -> io::Result<()>
-    requires { state.count ≤ room }
-{
-    let mut words = state.words;
-    let m = state.count;
-    let picked = map_pick::call::pick_by_map(card, &mut words[..m], x, y, shovels, xs, ys);
-    calls::print_picked(out, picked, state, words)
-}
-
-// Number k of a list, in decimal.
-fn print_entry<W: Write>(out: &mut W, k: usize, number: u16) -> io::Result<()> {
-    if 0 < k {
-        out.write_all(b",")?;
-    }
-    write!(out, "{number}")
-}
-
-// All numbers of an answer.
-fn print_numbers<W: Write>(out: &mut W, numbers: [u16; MOST_SHOVELS]) -> io::Result<()> {
-    let mut k = 0;
-    while k < MOST_SHOVELS {
-        print_entry(out, k, numbers[k])?;
-        k += 1;
-    }
-    Ok(())
+) -> io::Result<()> {
+    let mut moved = state;
+    let picked = map_pick::call::pick_by_map(card, moved.as_mut_slice(), x, y, shovels, xs, ys);
+    calls::print_picked(out, picked, state, moved)
 }
 
 // The shovels within a radius: how many, and all 64 numbers.
@@ -61,9 +36,7 @@ pub fn print_within<W: Write>(
     if found.refusal != 0 {
         return answer::print_refused(out, found.refusal, true);
     }
-    let numbers = found.shovels;
     let count = found.count;
-    write!(out, "count {count} numbers ")?;
-    print_numbers(out, numbers)?;
-    out.write_all(b"\n")
+    let numbers = Entries(found.shovels.as_slice());
+    writeln!(out, "count {count} numbers {numbers}")
 }

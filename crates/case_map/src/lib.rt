@@ -4,11 +4,3 @@
 mod calls;
 pub mod lines;
 mod read;
-
-// The calls on places.
-#[derive(Clone, Copy)]
-enum Ask {
-    Pick,
-    // with a radius
-    Within(i32),
-}

@@ -1,73 +1,49 @@
 // Places in the text of a case. A coordinate is read as a number, 2^31 more than it is, so that lists of numbers serve; then it is made a coordinate.
-ghost use Rattle.std.specs.Prelude.{◌≡◌, true, ℕ, ◌<◌, ◌≤◌, pos, length, get_or};
+ghost use Rattle.std.specs.Prelude.{◌≡◌, ℕ, ◌<◌, pos, get_or};
 ghost use Rattle.case_fields.specs.Lists.{room};
-ghost use Rattle.case_map.specs.Coordinates.{is_negative, biased_in, half_in, coordinates_in, coordinate_of};
+ghost use Rattle.case_map.specs.Coordinates.{biased_in, half_in, coordinates_in, coordinate_of};
 
+use case_fields::list;
 use case_fields::list::{Numbers, ROOM, WORD};
-use case_fields::{list, scan};
 use case_numbers::number;
 
-const BIAS: u64 = 0x8000_0000;
-
-// Whether a minus stands in front.
-fn is_negative(field: &[u8]) -> bool
-    ensures value { result ≡ is_negative field.now }
-    ensures in_bounds { result ≡ true → 1 ≤ length field.now }
-{
-    if field.len() < 1 {
-        return false;
-    }
-    field[0] == b'-'
-}
+const BIAS: u32 = 0x8000_0000;
 
 // A coordinate or a radius, with its bias.
-pub fn biased_of(field: &[u8]) -> u64
+pub fn biased_of(field: &[u8]) -> Option<u32>
     ensures { result ≡ biased_in field.now }
 {
-    if is_negative(field) {
-        let below = number::number_of(&field[1..], false);
-        if BIAS < below {
-            return number::MALFORMED;
-        }
-        return BIAS - below;
+    match field.strip_prefix(b"-") {
+        Some(digits) => BIAS.checked_sub(number::number_of(digits, false)?),
+        None => BIAS.checked_add(number::number_of(field, false)?),
     }
-    let above = number::number_of(field, false);
-    if BIAS <= above {
-        return number::MALFORMED;
-    }
-    BIAS + above
 }
 
 // x or y of a place, with its bias.
-pub fn half_of(place: &[u8], second: bool) -> u64
+pub fn half_of(place: &[u8], second: bool) -> Option<u32>
     ensures { result ≡ half_in second place.now }
 {
-    let colon = scan::find(place, 0, place.len(), b':');
-    if !second {
-        return biased_of(&place[..colon]);
+    match place.iter().position(|byte| *byte == b':') {
+        Some(at) if second => biased_of(&place[at + 1..]),
+        Some(at) => biased_of(&place[..at]),
+        None if second => None,
+        None => biased_of(place),
     }
-    if colon == place.len() {
-        return number::MALFORMED;
-    }
-    let next = colon + 1;
-    biased_of(&place[next..])
 }
 
 // All x or all y of places, with their bias.
-pub fn coordinates_of(field: &[u8], second: bool) -> Numbers
+pub fn coordinates_of(field: &[u8], second: bool) -> Option<Numbers<ROOM>>
     ensures { result ≡ coordinates_in second field.now }
 {
-    let mut coordinates = list::counted(0);
+    let empty = Some(Numbers::new());
     if list::is_nothing(field) {
-        return coordinates;
+        return empty;
     }
-    let mut at = 0;
-    while at <= field.len() {
-        let end = scan::find(field, at, field.len(), b',');
-        coordinates = list::with_number(coordinates, half_of(&field[at..end], second), WORD);
-        at = end + 1;
-    }
-    coordinates
+    field
+        .split(|byte| *byte == b',')
+        .fold(empty, move |numbers, place| {
+            list::with_number(numbers, half_of(place, second), WORD)
+        })
 }
 
 // The coordinate.
@@ -81,11 +57,5 @@ pub fn unbiased(biased: u32) -> i32
 pub fn unbiased_all(biased: [u32; ROOM]) -> [i32; ROOM]
     ensures { (i : ℕ) → i < room → get_or result i (pos 0) ≡ coordinate_of (get_or biased i 0) }
 {
-    let mut coordinates = [0i32; ROOM];
-    let mut i = 0;
-    while i < ROOM {
-        coordinates[i] = unbiased(biased[i]);
-        i += 1;
-    }
-    coordinates
+    biased.map(|word| unbiased(word))
 }

@@ -1,1 +1,2 @@
-mod Fold
+-- For the reader of digits.
+mod Digits

@@ -9,20 +9,19 @@ use std::io::Write;
 
 // desk RECORD
 pub fn replay_desk<W: Write>(out: &mut W, line: &[u8], bytes: &[u8]) -> io::Result<()> {
-    if line::fields(line) != 2 {
-        return answer::print_syntax(out);
+    match line::fields(line) {
+        2 => calls::print_desk(out, bytes),
+        _ => answer::print_syntax(out),
     }
-    calls::print_desk(out, bytes)
 }
 
 // cab TRUCK RECORD
 pub fn replay_cab<W: Write>(out: &mut W, line: &[u8], bytes: &[u8]) -> io::Result<()> {
-    let truck = number::number_of(line::field(line, 1), false);
-    if line::fields(line) != 3 {
-        return answer::print_syntax(out);
+    match (
+        line::fields(line),
+        number::number_of(line::field(line, 1), false),
+    ) {
+        (3, Some(truck)) if truck <= HALF => calls::print_cab(out, truck as u16, bytes),
+        _ => answer::print_syntax(out),
     }
-    if (HALF as u64) < truck {
-        return answer::print_syntax(out);
-    }
-    calls::print_cab(out, truck as u16, bytes)
 }

@@ -1,107 +1,107 @@
 // The calls on a card and a state, each with its answer printed. A state is handed over as a list of words, lent to the call as a copy, and compared with it
-// after a refusal; that the list is not more than its array, the line's reader has seen. Which numbers are printed is in the contracts of the calls; no contract
-// can speak of what is printed, so the stored output of the program holds that.
-ghost use Rattle.std.specs.Prelude.{◌≤◌};
-ghost use Rattle.case_fields.specs.Lists.{room};
+// after a refusal. Which numbers are printed is in the contracts of the calls; no contract can speak of what is printed, so the stored output of the program
+// holds that.
+ghost use Rattle.std.specs.Prelude.{◌≡◌};
+ghost use Rattle.refusals.specs.Refusals.{told};
+ghost use Rattle.draws.specs.Calls.{refusal_for};
 
+use card::check;
 use case_answers::answer;
+use case_answers::answer::{Choice, Words};
 use case_fields::list::{Numbers, ROOM};
 use case_words::row;
-use draws::Draw;
 use generator::call;
-use margins::{Margin, Nearest};
 use picks::Pick;
-use std::io;
+use refusals::Refusal;
+use state_words::lent;
 use std::io::Write;
+use std::{fmt, io};
 
-// A step. A list that was read has at most `room` numbers, here and below.
-pub fn print_step<W: Write>(out: &mut W, card: &[u8], state: Numbers) -> io::Result<()>
-    requires { state.count ≤ room }
-{
-    let mut words = state.words;
-    let m = state.count;
-    let refusal = call::step(card, &mut words[..m]);
-    answer::print_state(out, refusal, state, words)
-}
-
-// A step back.
-pub fn print_back<W: Write>(out: &mut W, card: &[u8], state: Numbers) -> io::Result<()>
-    requires { state.count ≤ room }
-{
-    let mut words = state.words;
-    let m = state.count;
-    let refusal = call::step_back(card, &mut words[..m]);
-    answer::print_state(out, refusal, state, words)
-}
-
-// A draw's answer.
-fn print_drawn<W: Write>(
+// The answer to a refused call that was lent a state.
+fn print_refused<W: Write, R: fmt::Display + Drop>(
     out: &mut W,
-    drawn: Draw,
-    lent: Numbers,
-    words: [u32; ROOM],
+    refusal: R,
+    lent: Numbers<ROOM>,
+    after: Numbers<ROOM>,
+) -> io::Result<()> {
+    let kept = answer::same_words(lent.as_slice(), after.as_slice());
+    answer::print_refused(out, refusal, kept)
+}
+
+// A step or a step back.
+pub fn print_moved<W: Write, F: FnOnce(&[u8], &mut [u32]) -> Result<(), Refusal>>(
+    out: &mut W,
+    card: &[u8],
+    state: Numbers<ROOM>,
+    step: F,
 ) -> io::Result<()>
-    requires { lent.count ≤ room }
+    requires { F.IsAlwaysCallable step }
 {
-    match drawn {
-        Draw::Word(word) => {
-            out.write_all(b"word ")?;
-            answer::print_word(out, 0, word)?;
-            out.write_all(b" ")?;
-            answer::print_state(out, 0, lent, words)
+    let mut moved = state;
+    match step(card, moved.as_mut_slice()) {
+        Ok(()) => {
+            let after = Words(moved.as_slice());
+            writeln!(out, "state {after}")
         }
-        Draw::Refused(number) => answer::print_state(out, number, lent, words),
+        Err(refusal) => print_refused(out, refusal, state, moved),
     }
 }
 
 // A draw.
-pub fn print_draw<W: Write>(out: &mut W, card: &[u8], state: Numbers) -> io::Result<()>
-    requires { state.count ≤ room }
+pub fn print_draw<W: Write>(out: &mut W, card: &[u8], state: Numbers<ROOM>) -> io::Result<()> {
+    let mut moved = state;
+    match call::draw(card, moved.as_mut_slice()) {
+        Ok(word) => {
+            let after = Words(moved.as_slice());
+            writeln!(out, "word {word:08x} state {after}")
+        }
+        Err(refusal) => print_refused(out, refusal, state, moved),
+    }
+}
+
+// Whether a card and a state are refused, as a draw refuses them.
+fn draw_refusal(card: &[u8], state: &[u32]) -> Result<(), Refusal>
+    ensures { told result ≡ refusal_for card.now state.now }
 {
-    let mut words = state.words;
-    let m = state.count;
-    let drawn = call::draw(card, &mut words[..m]);
-    print_drawn(out, drawn, state, words)
+    let values = check::accept(card)?;
+    lent::state_refusal(values.words, values.width, state)
 }
 
 // So many words drawn. No draw at all is refused as a draw is.
-pub fn print_run<W: Write>(out: &mut W, card: &[u8], state: Numbers, count: usize) -> io::Result<()>
-    requires { state.count ≤ room }
-{
-    let mut words = state.words;
-    let m = state.count;
-    let found = card::check::accept(card);
-    let refusal = call::call_refusal(
-        found.refusal,
-        found.card.words,
-        found.card.width,
-        &words[..m],
-    );
-    if refusal != 0 {
+pub fn print_run<W: Write>(
+    out: &mut W,
+    card: &[u8],
+    state: Numbers<ROOM>,
+    count: usize,
+) -> io::Result<()> {
+    if let Err(refusal) = draw_refusal(card, state.as_slice()) {
         return answer::print_refused(out, refusal, true);
     }
+    let mut moved = state;
     out.write_all(b"words ")?;
-    row::print_draws(out, card, &mut words[..m], count)?;
-    out.write_all(b" ")?;
-    answer::print_state(out, 0, state, words)
+    row::print_draws(out, card, moved.as_mut_slice(), count)?;
+    let after = Words(moved.as_slice());
+    writeln!(out, " state {after}")
 }
 
 // A pick's answer.
 pub fn print_picked<W: Write>(
     out: &mut W,
     picked: Pick,
-    lent: Numbers,
-    words: [u32; ROOM],
-) -> io::Result<()>
-    requires { lent.count ≤ room }
-{
+    lent: Numbers<ROOM>,
+    after: Numbers<ROOM>,
+) -> io::Result<()> {
     match picked {
         Pick::Shovel(shovel, ties, taken) => {
-            answer::print_choice(out, shovel, ties, taken)?;
-            out.write_all(b" ")?;
-            answer::print_state(out, 0, lent, words)
+            let choice = Choice {
+                shovel,
+                ties,
+                taken,
+            };
+            let words = Words(after.as_slice());
+            writeln!(out, "{choice} state {words}")
         }
-        Pick::Refused(number) => answer::print_state(out, number, lent, words),
+        Pick::Refused(number) => print_refused(out, number, lent, after),
     }
 }
 
@@ -109,48 +109,35 @@ pub fn print_picked<W: Write>(
 pub fn print_pick<W: Write>(
     out: &mut W,
     card: &[u8],
-    state: Numbers,
+    state: Numbers<ROOM>,
     shovels: &[u16],
     times: &[u32],
-) -> io::Result<()>
-    requires { state.count ≤ room }
-{
-    let mut words = state.words;
-    let m = state.count;
-    let picked = pick::call::pick(card, &mut words[..m], shovels, times);
-    print_picked(out, picked, state, words)
+) -> io::Result<()> {
+    let mut moved = state;
+    let picked = pick::call::pick(card, moved.as_mut_slice(), shovels, times);
+    print_picked(out, picked, state, moved)
 }
 
-// A change that sends the truck elsewhere, and the changed pick.
-fn print_nearest<W: Write>(out: &mut W, n: Nearest) -> io::Result<()> {
-    let changed = n.changed;
-    let seconds = n.seconds;
-    write!(out, "change {changed}")?;
-    if n.raised {
-        out.write_all(b" raised ")?;
-    } else {
-        out.write_all(b" lowered ")?;
-    }
-    write!(out, "{seconds} ")?;
-    answer::print_choice(out, n.shovel, n.ties, n.taken)?;
-    out.write_all(b"\n")
-}
-
-// A margin. The state is lent to read only, so that a refusal leaves it as lent.
+// A margin: the change that sends the truck elsewhere, and the changed pick. The state is lent to read only, so that a refusal leaves it as lent.
 pub fn print_margin<W: Write>(
     out: &mut W,
     card: &[u8],
-    state: Numbers,
+    state: Numbers<ROOM>,
     shovels: &[u16],
     times: &[u32],
-) -> io::Result<()>
-    requires { state.count ≤ room }
-{
-    let words = state.words;
-    let m = state.count;
-    let found = margin::call::margin(card, &words[..m], shovels, times);
-    match found {
-        Margin::Least(n) => print_nearest(out, n),
-        Margin::Refused(number) => answer::print_refused(out, number, true),
+) -> io::Result<()> {
+    match margin::call::margin(card, state.as_slice(), shovels, times) {
+        Ok(nearest) => {
+            let changed = nearest.changed;
+            let direction = if nearest.raised { "raised" } else { "lowered" };
+            let seconds = nearest.seconds;
+            let choice = Choice {
+                shovel: nearest.shovel,
+                ties: nearest.ties,
+                taken: nearest.taken,
+            };
+            writeln!(out, "change {changed} {direction} {seconds} {choice}")
+        }
+        Err(refusal) => answer::print_refused(out, refusal, true),
     }
 }

@@ -4,20 +4,3 @@
 pub mod calls;
 mod recorded;
 pub mod states;
-
-// The calls that move the state by one.
-#[derive(Clone, Copy)]
-pub enum Move {
-    Step,
-    Back,
-    Draw,
-}
-
-// The calls on a list of shovels and times.
-#[derive(Clone, Copy)]
-pub enum Ask {
-    Pick,
-    Margin,
-    // for a truck, with a page of so many bytes
-    Recorded(u16, usize),
-}

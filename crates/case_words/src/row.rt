@@ -3,19 +3,20 @@ ghost use Rattle.std.specs.Prelude.{◌≡◌};
 ghost use Rattle.cycle.specs.Notation.{iterate};
 ghost use Rattle.draws.specs.Calls.{stepped};
 
-use case_answers::answer;
-use draws::Draw;
 use generator::call;
 use std::io;
 use std::io::Write;
 
-// Word number k of a row of draws.
+// Word number k of a row of draws, behind a comma but for the first.
 fn print_next<W: Write>(out: &mut W, k: usize, card: &[u8], state: &mut [u32]) -> io::Result<()>
     ensures { state.new ≡ stepped card.now state.old }
 {
     match call::draw(card, state) {
-        Draw::Word(word) => answer::print_word(out, k, word),
-        Draw::Refused(_) => Ok(()),
+        Ok(word) => {
+            let comma = if k == 0 { "" } else { "," };
+            write!(out, "{comma}{word:08x}")
+        }
+        Err(_) => Ok(()),
     }
 }
 
@@ -32,10 +33,8 @@ pub fn print_draws<W: Write>(
     if count == 0 {
         printed = out.write_all(b"-");
     }
-    let mut k = 0;
-    while k < count {
+    for k in 0..count {
         printed = printed.and(print_next(out, k, card, state));
-        k += 1;
     }
     printed
 }

@@ -1,5 +1,5 @@
-// One column of a state: read, and put in, of `count` words, at least m, which callers name by a constant, so that the compiler writes the loops out. Callers
-// have i below the width of an accepted card.
+// One column of a state: read, and put in, of `count` words, at least m, which callers name by a constant, so that the compiler writes the loops out; no const
+// parameter, which would ask of callers that it is one. Callers have i below the width of an accepted card.
 ghost use Rattle.std.specs.Prelude.{◌≡◌, cond, ℕ, ◌^◌, ◌<◌, ◌≤◌, eqb, get_or, take};
 ghost use Rattle.cycle.specs.Notation.{bit};
 ghost use Rattle.tsc.specs.Constants.{most_words, widest_width};
@@ -15,9 +15,7 @@ pub fn column_of(s: State, i: u32, count: usize) -> u32
     ensures { result ≡ column i (take count s.words) }
 {
     let mut c: u32 = 0;
-    let mut k = count;
-    while 0 < k {
-        k -= 1;
+    for k in (0..count).rev() {
         c = mask::bit_of(s.words[k], i) + 2 * c;
     }
     c
@@ -31,12 +29,10 @@ pub fn with_column(s: State, i: u32, selector: u32, odd: u32, even: u32, count: 
     ensures { result.words ≡ with_column count i (cond (eqb (bit i selector) 1) odd even) s.words }
 {
     let mut out = s;
-    let mut k = 0;
-    while k < count {
+    for k in 0..count {
         let odd_bit = mask::bit_of(odd, k as u32) << i;
         let even_bit = mask::bit_of(even, k as u32) << i;
         out.words[k] = s.words[k] + mask::join(selector, odd_bit, even_bit);
-        k += 1;
     }
     out
 }

@@ -7,13 +7,12 @@ ghost use Rattle.tsc.specs.Columns.{column};
 ghost use Rattle.columns.specs.Replace.{with_column, image_of};
 
 use super::column;
-use tsc::{State, TABLE_SIZE};
-use words::byte::widened;
+use super::power::Powers;
+use tsc::State;
 
 // Column i of s, put through the table, as column i of a state that has the columns below it, as the step back has found them.
-pub fn replace_column<'a>(
-    odd: &'a [u8; TABLE_SIZE],
-    even: &'a [u8; TABLE_SIZE],
+pub fn replace_column(
+    powers: &Powers,
     s: State,
     selector: u32,
     i: u32,
@@ -22,10 +21,10 @@ pub fn replace_column<'a>(
 ) -> State
     requires i_lt_widest_width { (i < widest_width) × (count ≤ most_words) }
     requires by_index { (k : ℕ) → k < most_words → get_or below.words k 0 < 2 ^ i }
-    ensures { result.words ≡ with_column count i (image_of odd.now even.now (bit i selector) (column i (take count s.words))) below.words }
+    ensures { result.words ≡ with_column count i (image_of powers.now.odd powers.now.even (bit i selector) (column i (take count s.words))) below.words }
 {
     let c = column::column_of(s, i, count) as usize;
-    let odd_image = widened(odd[c]);
-    let even_image = widened(even[c]);
+    let odd_image = u32::from(powers.odd[c]);
+    let even_image = u32::from(powers.even[c]);
     column::with_column(below, i, selector, odd_image, even_image, count)
 }

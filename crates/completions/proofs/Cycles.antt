@@ -9,7 +9,7 @@ use native.Mathlib.Numerals.{add-one}
 use native.Mathlib.Omega.{arith}
 use borrow.Author.Tests.{eq-eqb, ne_eqb, eqb-true, eqb-false}
 use lib.Dec.{eqb}
-use Rattle.cycle.specs.Notation.{iterate}
+use Rattle.cycle.specs.Notation.{first, iterate}
 use Rattle.cycle.specs.Cycle.{SingleCycle}
 use Rattle.cycle.proofs.First.{first_le, first_at, before-first, first_is, first-none}
 use Rattle.cycle.proofs.Iterate.{iterate_add, MapsBelow, iterate-below}
@@ -38,20 +38,22 @@ module _ (N : ℕ) (f : ℕ → ℕ) (x : ℕ) where
   unfolding cycle_length
   length-returns l = eqb-true _ x (first_at (N - 1) (λ k. eqb (iterate f (suc k) x) x) (omega arith))
 
-  -- found by a loop: after k applications x has not returned, and the next one brings it back or is the last
+  -- found by a loop: within k applications x has not returned, and the next one brings it back, or k is all
   module _ (k : ℕ) (none : (j : ℕ) → 0 < j → j ≤ k → iterate f j x ≢ x) where
     not_back : (j : ℕ) → j < k → eqb (iterate f (suc j) x) x ≡ false
     not_back j l = ne_eqb (iterate f (suc j) x) x (none (suc j) (omega arith) l)
 
-    pub length_is : k + 1 < N → f (iterate f k x) ≡ x → k + 1 ≡ cycle_length N f x
-    unfolding cycle_length iterate
-    length_is l e = add-one k ∙ ap suc (sym (first_is (N - 1) (λ k. eqb (iterate f (suc k) x) x) k (omega arith) not_back (eq-eqb (f (iterate f k x)) x e)))
-
-    pub length_whole : k + 1 ≡ N → k + 1 ≡ cycle_length N f x
+    pub length_whole : 0 < k → k ≡ N → k ≡ cycle_length N f x
     unfolding cycle_length
-    length_whole e =
-        let n : N - 1 ≡ k = omega arith in
-        add-one k ∙ ap suc (sym (first-none (N - 1) (λ k. eqb (iterate f (suc k) x) x) (λ j l. not_back j (omega arith)) ∙ n))
+    length_whole pos e = omega (arith, first-none (N - 1) (λ k. eqb (iterate f (suc k) x) x) (λ j l. not_back j (omega arith)))
+
+    pub length_is : k < N → f (iterate f k x) ≡ x → k + 1 ≡ cycle_length N f x
+    unfolding cycle_length iterate
+    length_is l e = go (dec_lt (k + 1) N)
+      where
+        go : Dec (k + 1 < N) → k + 1 ≡ suc (first (N - 1) (λ j. eqb (iterate f (suc j) x) x))
+        go (yes m) = add-one k ∙ ap suc (sym (first_is (N - 1) (λ j. eqb (iterate f (suc j) x) x) k (omega arith) not_back (eq-eqb (f (iterate f k x)) x e)))
+        go (no m) = omega (arith, first-none (N - 1) (λ j. eqb (iterate f (suc j) x) x) (λ j i. not_back j (omega arith)))
 
     -- one more
     pub none_next : f (iterate f k x) ≢ x → (j : ℕ) → 0 < j → j ≤ k + 1 → iterate f j x ≢ x

@@ -1,5 +1,5 @@
 -- The ascending list of a set: its length is their count, and of two sets of one size the one that has the first number at which they differ comes first.
-use mathlib.Core.Path.{◌≡◌, refl, sym, ap, ◌∙◌}
+use mathlib.Core.Path.{◌≡◌, refl, sym, ap, ap₂, ◌∙◌}
 use mathlib.Core.Logic.{◌↔◌}
 use mathlib.Core.Bool.{Bool, true, false, cond, ◌&&◌, ◌||◌, true≢false}
 use mathlib.Core.List.{List, [], ◌∷◌, ◌++◌}
@@ -95,6 +95,13 @@ members_from_next (suc d) a P = rw (suc-add d a, sym (add-suc d a)) (go (P a) (m
 
 pub members_next : (n : ℕ) (P : ℕ → Bool) → members (suc n) P ≡ members n P ++ cond (P n) (n ∷ []) []
 members_next n P = simp add-zero at (members_from_next n 0 P)
+
+-- sets with the same numbers below n
+pub members_same : (n : ℕ) (P Q : ℕ → Bool) → ((x : ℕ) → x < n → P x ≡ Q x) → members n P ≡ members n Q
+unfolding members_from
+members_same zero P Q h = refl
+members_same (suc n) P Q h =
+    members_next n P ∙ ap₂ (λ (l : List ℕ) (b : Bool). l ++ cond b (n ∷ []) []) (members_same n P Q (λ x l. h x (omega arith))) (h n (omega arith)) ∙ sym (members_next n Q)
 
 -- ---- their comparison
 

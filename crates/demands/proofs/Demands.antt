@@ -9,8 +9,9 @@ use native.Mathlib.Nat.{lt_of_le_of_lt}
 use lib.Dec.{eqb, lit<}
 use lib.IntN.{nat_abs}
 use lib.ListN.{length, get_or, take, drop}
+use Rattle.std.specs.Prelude.{Ok, Err}
 use Rattle.cycle.proofs.Remainder.{multiple_is, multiple-largest, most-kept, ranks_fair}
-use Rattle.refusals.specs.Refusals.{Check, first_of, NoneApplies}
+use Rattle.refusals.specs.Refusals.{Check, first_of, NoneApplies, answered}
 use Rattle.refusals.proofs.Refusals.{first-none, none_first, none_left, none-append}
 use Rattle.tsc.specs.Columns.{column}
 use Rattle.tsc.specs.Step.{step, orbit}
@@ -22,7 +23,7 @@ use Rattle.tsc.proofs.Word.{word_of_few}
 use Rattle.tsc.proofs.Balanced.{word_balanced}
 use Rattle.tsc.proofs.ColumnPeriod.{column-period, opposite-top, opposite-lower}
 use Rattle.tsc.proofs.WordPeriod.{words_return, words-halved, word-period}
-use Rattle.card_format.specs.Reading.{card_of, form_checks, no_card, reading}
+use Rattle.card_format.specs.Reading.{card_of, form_checks, reading}
 use Rattle.card_format.specs.Verdict.{card_checks, verdict, Accepted}
 use Rattle.card_format.specs.Writing.{writing, page_after, rewrite_checks, rewriting, page_rewritten}
 use Rattle.card_format.proofs.Verdict.{verdict_covers, accepted_card}
@@ -50,8 +51,7 @@ use Rattle.margins.proofs.Alike.{margin_order}
 use Rattle.margins.proofs.Firm.{counts-unrefused, told_counts, told_least, firm-exactly, alone-firm}
 use Rattle.picks.specs.declared.Pick.{Pick}
 use Rattle.picks.specs.declared.Pick.TheVariants.{Shovel, Refused}
-use Rattle.records.specs.declared.Order.TheVariants as Order
-use Rattle.records.specs.Reading.{record_of, no_record, reading_record}
+use Rattle.records.specs.Reading.{reading_record}
 use Rattle.records.specs.Orders.{order_for}
 use Rattle.records.proofs.Reading.{read_absent, whole_unique, whole_short}
 use Rattle.records.proofs.Writing.{encoded_whole, encoded_back}
@@ -100,12 +100,16 @@ by_table : {A : Type 0} {refused : ℕ → A} {checks : List Check} {lent : List
     ByTable refused checks lent good (cond (eqb r 0) good.0 (refused r), cond (eqb r 0) good.1 lent)
 by_table {refused} {lent} {good} = by_first (λ b r. (cond b good.0 (refused r), cond b good.1 lent)) (λ r. refl)
 
+-- the same where nothing is lent
+by_answer : {A : Type 0} {checks : List Check} {x : A} → ByTable Err checks nothing (Ok x, nothing) (answered (first_of checks) x, nothing)
+by_answer {x} = by_first (λ b r. (cond b (Ok x) (Err r), nothing)) (λ r. refl)
+
 pub answered_or_refused : AnsweredOrRefused
 unfolding verdict reading writing page_after rewriting page_rewritten refusal_for stepped stepped_back drawing fill_refusal filled filled_state pick_refusal picking picked recorded_refusal recorded_picking recorded_state recorded_page reading_record order_for bit_refusal counting_bits bit_page map_pick_refusal map_picking map_picked within_radius
 answered_or_refused =
     record {
       of_check = λ bytes. by_first (λ b r. (r, nothing)) (λ r. refl);
-      of_read = λ bytes. by_first (λ b r. (record { refusal = r; card = cond b (card_of bytes) no_card }, nothing)) (λ r. refl);
+      of_read = λ bytes. by_answer;
       of_write = λ card page. by_table;
       of_rewrite = λ bytes page. by_table;
       of_step = λ bytes xs. by_first (λ b r. (r, cond b (step (card_of bytes) xs) xs)) (λ r. refl);
@@ -117,8 +121,8 @@ answered_or_refused =
       of_pick = λ bytes xs shovels times. by_table;
       of_recorded_pick = λ bytes xs shovels times truck page. let answer : Bool → ℕ → Pick = λ b r. cond b (picking bytes xs shovels times) (Refused r) in
           by_first (λ b r. (answer b r, (cond b (picked bytes xs shovels times) xs, recorded_on (record_left truck xs (answer b r)) page))) (λ r. refl);
-      of_read_record = λ bytes. by_first (λ b r. (record { refusal = r; values = cond b (record_of bytes) no_record }, nothing)) (λ r. refl);
-      of_order = λ truck bytes. by_first (λ b r. (cond b (Order.Shovel (record_of bytes).shovel) (Order.Refused r), nothing)) (λ r. refl);
+      of_read_record = λ bytes. by_answer;
+      of_order = λ truck bytes. by_answer;
       of_bit_counts = λ bytes strip page. by_table;
       of_pick_by_map = λ bytes state q. by_table;
       of_within = λ q radius. by_first (λ b r. (cond b (listing q radius) (no_list r), nothing)) (λ r. refl);
@@ -171,8 +175,8 @@ same_bytes =
     record {
       read_and_written = λ bytes page b z l.
           let r = (answered_or_refused.of_read bytes).passes (none_left (form_checks bytes) _ (none_first _ z)) in
-          let e : (reading bytes).card ≡ card_of bytes = λ i. (r i).0.card in
-          rw e (accepted-writing bytes page b z l);
+          let w = accepted-writing bytes page b z l in
+          (card_of bytes, λ i. (r i).0, w.0, w.1);
       rewritten = λ bytes page z l.
           let room = le-ltb (length page) (length bytes) l in
           let r = (answered_or_refused.of_rewrite bytes page).passes (none-append (card_checks bytes) _ (none_first _ z) (room, tt)) in
@@ -279,7 +283,7 @@ cab_and_desk =
       replayed = λ bytes xs shovels times page truck s k t lt h answer tie.
           let l = page-left bytes xs shovels times (length page) s k t answer truck lt h tie page refl in
           let e = ap reading_record l.0 ∙ (record_read bytes xs shovels times (length page) s k t answer truck lt h tie).1 in
-          record_replayed bytes xs shovels times (length page) s k t answer truck lt h tie _ e;
+          (_, e, record_replayed bytes xs shovels times (length page) s k t answer truck lt h tie);
       no_tie = λ bytes xs shovels times page truck s t. page-kept bytes xs shovels times truck page s t;
       absent = read_absent;
       hears_the_same = cabs_alike;

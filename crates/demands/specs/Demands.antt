@@ -1,7 +1,8 @@
 -- THE CLAIM: the user's three demands in the user's order, each part a statement, and what the requests of document 02 add. proofs/Demands.antt proves them all.
 -- What a call answers, and what it leaves in the words or the page lent to it, is by its contract what the definitions named here say, for every input.
-use Rattle.std.specs.Prelude.{◌≡◌, ◌↔◌, ◌⊎◌, ◌≢◌, Bool, true, false, List, [], ◌∷◌, ◌++◌, reverse, ℕ, suc, ◌+◌, ◌-◌, ◌*◌, ◌/◌, ◌%◌, ◌^◌, ◌≤◌, ◌<◌, max, eqb, ℤ, pos, nat_abs, ◌+ℤ◌, ◌-ℤ◌, ◌*ℤ◌, length, get_or, take, drop}
-use Rattle.refusals.specs.Refusals.{no_such_change, Check, first_of, NoneApplies}
+use Rattle.std.specs.Prelude.{◌≡◌, ◌↔◌, ◌⊎◌, ◌≢◌, Bool, true, false, List, [], ◌∷◌, ◌++◌, reverse, ℕ, suc, ◌+◌, ◌-◌, ◌*◌, ◌/◌, ◌%◌, ◌^◌, ◌≤◌, ◌<◌, max, eqb, ℤ, pos, nat_abs, ◌+ℤ◌, ◌-ℤ◌, ◌*ℤ◌, length, get_or, take, drop, Result, None, Ok, Err}
+use Rattle.refusals.specs.Refusals.{Check, first_of, NoneApplies, number}
+use Rattle.refusals.specs.declared.Refusal.TheVariants.{NoSuchChange}
 use Rattle.cycle.specs.Notation.{one, count, All, iterate, bit}
 use Rattle.cycle.specs.Cycle.{SingleCycle}
 use Rattle.cycle.specs.Period.{Period, LeastPeriod}
@@ -15,16 +16,14 @@ use Rattle.tsc.specs.Step.{entry, power, step, orbit}
 use Rattle.tsc.specs.Word.{filtered, word, word_at, orbit_words}
 use Rattle.tsc.specs.Coverage.{IsState, states, step_back}
 use Rattle.tsc.specs.Opposite.{opposite, Differs}
-use Rattle.card_format.specs.declared.Written.TheVariants as Written
 use Rattle.card_format.specs.Fields.{Bytes}
-use Rattle.card_format.specs.Reading.{present, card_of, form_checks, refused_reading, reading}
+use Rattle.card_format.specs.Reading.{present, card_of, form_checks, reading}
 use Rattle.card_format.specs.Verdict.{card_checks, verdict, ZeroIffCovers, Accepted}
 use Rattle.card_format.specs.Writing.{written, write_checks, writing, page_after, rewrite_checks, rewriting, page_rewritten}
 use Rattle.card_format.specs.Examples.{p1, p2}
 use Rattle.diagnoses.specs.declared.BadPlaces.{BadPlaces}
 use Rattle.diagnoses.specs.BadPlaces.{Fatal, bad_checks, no_places, Shows}
 use Rattle.periods.specs.WordPeriod.{WordPeriod, repeating}
-use Rattle.draws.specs.declared.Draw.TheVariants as Draw
 use Rattle.draws.specs.Calls.{call_checks, refusal_for, stepped, stepped_back, drawing, OnlyBefore}
 use Rattle.gates.specs.Formulas.{Formula, on_bits, on_words, equation16, equation17}
 use Rattle.gates.specs.Tsc1.{tsc1_card, GivesPower, gate_step}
@@ -44,19 +43,15 @@ use Rattle.nearby.specs.Calls.{within_checks, listing, no_list, within_radius}
 use Rattle.changes.specs.declared.Change.{Change}
 use Rattle.changes.specs.Change.{changed, Counts}
 use Rattle.margins.specs.declared.Nearest.{Nearest}
-use Rattle.margins.specs.declared.Margin.{Margin}
 use Rattle.margins.specs.Margins.{Elsewhere, Tells, IsMargin}
 use Rattle.picks.specs.Shift.{Request, answers, state_after, Alike}
 use Rattle.picks.specs.Fair.{sent_by_first}
-use Rattle.records.specs.declared.Optional.TheVariants.{Absent}
 use Rattle.records.specs.declared.Record.{Record}
-use Rattle.records.specs.declared.Order.TheVariants as Order
 use Rattle.records.specs.Fields.{record_bytes}
-use Rattle.records.specs.Reading.{is_whole, Whole, record_checks, record_of, no_record, reading_record}
+use Rattle.records.specs.Reading.{is_whole, Whole, record_checks, record_of, reading_record}
 use Rattle.records.specs.Writing.{state_of, encoded, Fits, full_record, recorded_on}
 use Rattle.records.specs.Orders.{order_checks, order_for, heard, SameOrder}
 use Rattle.recorded_picks.specs.Recorded.{Halves, recorded_checks, recorded_picking, recorded_state, record_left, recorded_page}
-use Rattle.bit_counts.specs.declared.BitCounts.TheVariants as BitCounts
 use Rattle.bit_counts.specs.Bits.{bits_of, text, words_read}
 use Rattle.bit_counts.specs.Counts.{balance, running_sum, furthest, runs, counts_of, peak, trough}
 use Rattle.bit_counts.specs.Calls.{strip_bits, bit_checks, counting_bits, bit_page}
@@ -79,15 +74,15 @@ nothing = tt
 pub record AnsweredOrRefused : Type 0 where
   pub of_check : (bytes : List ℕ) → ByTable (λ r. r) (card_checks bytes) nothing (0, nothing) (verdict bytes, nothing)
   pub of_read : (bytes : List ℕ) →
-      ByTable refused_reading (form_checks bytes) nothing (record { refusal = 0; card = card_of bytes }, nothing) (reading bytes, nothing)
-  pub of_write : (card : Card) (page : List ℕ) → ByTable Written.Refused (write_checks card (length page)) page
-      (Written.Length (length (written card)), written card ++ drop (length (written card)) page) (writing card (length page), page_after card page)
-  pub of_rewrite : (bytes page : List ℕ) → ByTable Written.Refused (rewrite_checks bytes (length page)) page
-      (Written.Length (length bytes), bytes ++ drop (length bytes) page) (rewriting bytes (length page), page_rewritten bytes page)
+      ByTable Err (form_checks bytes) nothing (Ok (card_of bytes), nothing) (reading bytes, nothing)
+  pub of_write : (card : Card) (page : List ℕ) → ByTable Err (write_checks card (length page)) page
+      (Ok (length (written card)), written card ++ drop (length (written card)) page) (writing card (length page), page_after card page)
+  pub of_rewrite : (bytes page : List ℕ) → ByTable Err (rewrite_checks bytes (length page)) page
+      (Ok (length bytes), bytes ++ drop (length bytes) page) (rewriting bytes (length page), page_rewritten bytes page)
   pub of_step : (bytes xs : List ℕ) → ByTable (λ r. r) (call_checks bytes xs) xs (0, step (card_of bytes) xs) (refusal_for bytes xs, stepped bytes xs)
   pub of_step_back : (bytes xs : List ℕ) → ByTable (λ r. r) (call_checks bytes xs) xs (0, step_back (card_of bytes) xs) (refusal_for bytes xs, stepped_back bytes xs)
   pub of_draw : (bytes xs : List ℕ) → let next = step (card_of bytes) xs in
-      ByTable Draw.Refused (call_checks bytes xs) xs (Draw.Word (word (card_of bytes) next), next) (drawing bytes xs, stepped bytes xs)
+      ByTable Err (call_checks bytes xs) xs (Ok (word (card_of bytes) next), next) (drawing bytes xs, stepped bytes xs)
   pub of_fill : (bytes xs strip : List ℕ) (place count : ℕ) → let card = card_of bytes in
       ByTable {L = List ℕ × List ℕ} (λ r. r) (fill_checks bytes xs strip place count) (strip, xs)
       (0, (take place strip ++ orbit_words card xs count ++ drop (place + count) strip, orbit card xs count))
@@ -101,13 +96,13 @@ pub record AnsweredOrRefused : Type 0 where
       ByTable {L = List ℕ × List ℕ} Pick.Refused (recorded_checks bytes xs shovels times room) (xs, page)
       (p, (picked bytes xs shovels times, recorded_on (record_left truck xs p) page))
       (recorded_picking bytes xs shovels times room, (recorded_state bytes xs shovels times room, recorded_page bytes xs shovels times truck page))
-  pub of_read_record : (bytes : List ℕ) → ByTable (λ r. record { refusal = r; values = no_record }) (record_checks bytes) nothing
-      (record { refusal = 0; values = record_of bytes }, nothing) (reading_record bytes, nothing)
+  pub of_read_record : (bytes : List ℕ) → ByTable Err (record_checks bytes) nothing
+      (Ok (record_of bytes), nothing) (reading_record bytes, nothing)
   pub of_order : (truck : ℕ) (bytes : List ℕ) →
-      ByTable Order.Refused (order_checks truck bytes) nothing (Order.Shovel (record_of bytes).shovel, nothing) (order_for truck bytes, nothing)
+      ByTable Err (order_checks truck bytes) nothing (Ok (record_of bytes).shovel, nothing) (order_for truck bytes, nothing)
   pub of_bit_counts : (bytes strip page : List ℕ) → let bits = strip_bits bytes strip in
-      ByTable BitCounts.Refused (bit_checks bytes strip (length page)) page
-      (BitCounts.Counted (counts_of bits), text bits ++ drop (length bits) page) (counting_bits bytes strip (length page), bit_page bytes strip page)
+      ByTable Err (bit_checks bytes strip (length page)) page
+      (Ok (counts_of bits), text bits ++ drop (length bits) page) (counting_bits bytes strip (length page), bit_page bytes strip page)
   -- a pick by the map is the timed pick by the squared distances
   pub of_pick_by_map : (bytes state : List ℕ) (q : Places) → let ds = distances_of q in
       ByTable Pick.Refused (map_pick_checks bytes state q) state
@@ -117,8 +112,8 @@ pub record AnsweredOrRefused : Type 0 where
   -- bad places where nothing is refused: document 02, Eleven, below
   pub of_bad_places : (bytes : List ℕ) (r : BadPlaces) → Shows bytes r → let n = first_of (bad_checks bytes) in n ≢ 0 → r ≡ no_places n
   -- a margin is refused as the pick is; where it is not, document 02, Four, below
-  pub of_margin : (bytes xs shovels times : List ℕ) (m : Margin) → IsMargin bytes xs shovels times m → let r = first_of (pick_checks bytes xs shovels times) in
-      r ≢ 0 → m ≡ Margin.Refused r
+  pub of_margin : (bytes xs shovels times : List ℕ) (m : Result Nearest ℕ) → IsMargin bytes xs shovels times m → let r = first_of (pick_checks bytes xs shovels times) in
+      r ≢ 0 → m ≡ Err r
 
 -- ---- demand 2: each step and word equals the published definition, step back undoes step and step undoes step back for accepted cards, an accepted card
 -- written out again has the same bytes, a tie goes by drawn rank among the equal shovels by ascending number, so list order makes no difference
@@ -134,7 +129,7 @@ pub record Published : Type 0 where
       column i (stepped bytes xs) ≡ iterate (entry card) (power card (bit i (selector card xs))) (column i xs)
   pub states : (bytes xs : List ℕ) → Ready bytes xs → (t : ℕ) → iterate (stepped bytes) t xs ≡ orbit (card_of bytes) xs t
   pub words : (bytes xs : List ℕ) → Ready bytes xs → (t : ℕ)
-      → drawing bytes (iterate (stepped bytes) t xs) ≡ Draw.Word (word_at (card_of bytes) xs t)
+      → drawing bytes (iterate (stepped bytes) t xs) ≡ Ok (word_at (card_of bytes) xs t)
 
 -- 2b. Of the calls, and of the definitions
 pub record Undone : Type 0 where
@@ -146,10 +141,10 @@ pub record Undone : Type 0 where
 
 -- 2c. An accepted card, read and written to a page with room: the same bytes at its front, and the rest as it was
 pub record SameBytes : Type 0 where
-  pub read_and_written : (bytes page : List ℕ) → Bytes bytes → verdict bytes ≡ 0 → length bytes ≤ length page → let card = (reading bytes).card in
-      (writing card (length page) ≡ Written.Length (length bytes)) × (page_after card page ≡ bytes ++ drop (length bytes) page)
+  pub read_and_written : (bytes page : List ℕ) → Bytes bytes → verdict bytes ≡ 0 → length bytes ≤ length page → (card : Card) × (reading bytes ≡ Ok card)
+      × (writing card (length page) ≡ Ok (length bytes)) × (page_after card page ≡ bytes ++ drop (length bytes) page)
   pub rewritten : (bytes page : List ℕ) → verdict bytes ≡ 0 → length bytes ≤ length page
-      → (rewriting bytes (length page) ≡ Written.Length (length bytes)) × (page_rewritten bytes page ≡ bytes ++ drop (length bytes) page)
+      → (rewriting bytes (length page) ≡ Ok (length bytes)) × (page_rewritten bytes page ≡ bytes ++ drop (length bytes) page)
 
 -- 2d. The chosen shovel is the tie of the drawn rank; the same shovels and times in another order make no difference, for one pick and over a shift
 pub record SameLots : Type 0 where
@@ -219,25 +214,25 @@ pub record FairRanks : Type 0 where
 
 pub record NearestChange : Type 0 where
   -- the change that is told counts, and is told with the changed pick
-  pub counts : (bytes xs shovels times : List ℕ) (n : Nearest) → IsMargin bytes xs shovels times (Margin.Least n)
+  pub counts : (bytes xs shovels times : List ℕ) (n : Nearest) → IsMargin bytes xs shovels times (Ok n)
       → (c : Change) × Counts times (Elsewhere bytes xs shovels times) c × Tells bytes xs shovels times c n
   -- no change that counts comes before it
-  pub least : (bytes xs shovels times : List ℕ) (n : Nearest) → IsMargin bytes xs shovels times (Margin.Least n)
+  pub least : (bytes xs shovels times : List ℕ) (n : Nearest) → IsMargin bytes xs shovels times (Ok n)
       → (e : Change) → Counts times (Elsewhere bytes xs shovels times) e → let number = get_or shovels e.place 0 in
       (n.seconds ≤ e.seconds) × (n.seconds ≡ e.seconds → n.changed ≤ number)
       × (n.seconds ≡ e.seconds → n.changed ≡ number → n.raised ≡ true → e.raised ≡ true)
   -- 19 exactly where none counts, once the pick is not refused; so for a list of one
-  pub firm : (bytes xs shovels times : List ℕ) → NoneApplies (pick_checks bytes xs shovels times) → (m : Margin) → IsMargin bytes xs shovels times m
-      → (m ≡ Margin.Refused no_such_change.number) ↔ ((c : Change) → Counts times (Elsewhere bytes xs shovels times) c → ⊥)
+  pub firm : (bytes xs shovels times : List ℕ) → NoneApplies (pick_checks bytes xs shovels times) → (m : Result Nearest ℕ) → IsMargin bytes xs shovels times m
+      → (m ≡ Err (number NoSuchChange)) ↔ ((c : Change) → Counts times (Elsewhere bytes xs shovels times) c → ⊥)
   pub alone : (bytes xs shovels times : List ℕ) → NoneApplies (pick_checks bytes xs shovels times) → length times ≡ 1
-      → (m : Margin) → IsMargin bytes xs shovels times m → m ≡ Margin.Refused no_such_change.number
+      → (m : Result Nearest ℕ) → IsMargin bytes xs shovels times m → m ≡ Err (number NoSuchChange)
   -- a change whose pick is refused doesn't count
   pub unrefused : (bytes xs shovels times : List ℕ) (c : Change) → Counts times (Elsewhere bytes xs shovels times) c
       → NoneApplies (pick_checks bytes xs shovels (changed times c))
   -- there is one answer, whatever the order of the list
-  pub one : (bytes xs shovels times : List ℕ) (m m₂ : Margin) → IsMargin bytes xs shovels times m → IsMargin bytes xs shovels times m₂ → m ≡ m₂
+  pub one : (bytes xs shovels times : List ℕ) (m m₂ : Result Nearest ℕ) → IsMargin bytes xs shovels times m → IsMargin bytes xs shovels times m₂ → m ≡ m₂
   pub order : (bytes xs shovels times shovels₂ times₂ : List ℕ) → SameShovels shovels times shovels₂ times₂
-      → (m m₂ : Margin) → IsMargin bytes xs shovels times m → IsMargin bytes xs shovels₂ times₂ m₂ → m₂ ≡ m
+      → (m m₂ : Result Nearest ℕ) → IsMargin bytes xs shovels times m → IsMargin bytes xs shovels₂ times₂ m₂ → m₂ ≡ m
 
 -- ---- document 02, Five: 2 to 8 words, hence a table of 4 to 256 entries and at most 267 bytes. The words past x3 enter the output word behind the filter, and
 -- a card of 2 to 4 words draws what it drew
@@ -283,17 +278,18 @@ pub record CabAndDesk : Type 0 where
   pub read_back : (bytes xs shovels times page : List ℕ) (truck s k t : ℕ) → truck < 65536 → Halves shovels
       → recorded_picking bytes xs shovels times (length page) ≡ Pick.Shovel s k t → k ≢ 1
       → let n = record_bytes (card_of bytes).words in let after = recorded_page bytes xs shovels times truck page in
-      Whole (take n after) × (reading_record (take n after) ≡ record { refusal = 0; values = full_record truck s k t xs }) × (drop n after ≡ drop n page)
+      Whole (take n after) × (reading_record (take n after) ≡ Ok (full_record truck s k t xs)) × (drop n after ≡ drop n page)
   -- and a pick from that state, with the same lists, gives this answer and leaves this state
   pub replayed : (bytes xs shovels times page : List ℕ) (truck s k t : ℕ) → truck < 65536 → Halves shovels
       → recorded_picking bytes xs shovels times (length page) ≡ Pick.Shovel s k t → k ≢ 1
-      → let w = take (record_bytes (card_of bytes).words) (recorded_page bytes xs shovels times truck page) in let ys = state_of (reading_record w).values in
+      → let w = take (record_bytes (card_of bytes).words) (recorded_page bytes xs shovels times truck page) in
+      (r : Record) × (reading_record w ≡ Ok r) × let ys = state_of r in
       (picking bytes ys shovels times ≡ Pick.Shovel s k t) × (picked bytes ys shovels times ≡ recorded_state bytes xs shovels times (length page))
   pub no_tie : (bytes xs shovels times page : List ℕ) (truck s t : ℕ) → recorded_picking bytes xs shovels times (length page) ≡ Pick.Shovel s 1 t
       → recorded_page bytes xs shovels times truck page ≡ page
   -- of any whole record it reads a field as absent exactly where the field's bit does not stand
-  pub absent : (bytes : List ℕ) → Whole bytes → let r = (reading_record bytes).values in
-      ((r.ties ≡ Absent) ↔ (present bytes 2 ≡ false)) × ((r.taken ≡ Absent) ↔ (present bytes 3 ≡ false)) × ((r.words ≡ Absent) ↔ (present bytes 4 ≡ false))
+  pub absent : (bytes : List ℕ) → Whole bytes → (r : Record) × (reading_record bytes ≡ Ok r)
+      × ((r.ties ≡ None) ↔ (present bytes 2 ≡ false)) × ((r.taken ≡ None) ↔ (present bytes 3 ≡ false)) × ((r.words ≡ None) ↔ (present bytes 4 ≡ false))
   -- the cab learns nothing else: two whole records with the same truck and shovel sound the same to every cab
   pub hears_the_same : (a b : List ℕ) → SameOrder a b → (cab : ℕ) → order_for cab a ≡ order_for cab b
   -- what it hears depends on nothing but whether the record is whole, its truck and its shovel; and on all of these, since its own cab tells them apart

@@ -21,7 +21,8 @@ use Rattle.tsc.specs.declared.Card.{Card}
 use Rattle.tsc.specs.Step.{entry}
 use Rattle.tsc.specs.Coverage.{WellFormed}
 use Rattle.tsc.proofs.Table.{table_below}
-use Rattle.refusals.specs.Refusals.{check, first_of, not_single_cycle, single_cycle}
+use Rattle.refusals.specs.Refusals.{check, first_of, number}
+use Rattle.refusals.specs.declared.Refusal.TheVariants.{NotSingleCycle, SingleCycle as SoundRing}
 use Rattle.refusals.proofs.Refusals.{first-append, first-left, first_both, none_first}
 use Rattle.card_format.specs.Reading.{card_of, form_checks, SoundForm}
 use Rattle.card_format.specs.Verdict.{verdict}
@@ -57,26 +58,26 @@ module _ (bytes : List ℕ) where
     below : MapsBelow N f
     below = (sound_card bytes s).entries
 
-    pub told : (b : Bool) → is_single_cycle (card_of bytes) ≡ b → first_of (bad_checks bytes) ≡ cond b single_cycle.number 0
+    pub told : (b : Bool) → is_single_cycle (card_of bytes) ≡ b → first_of (bad_checks bytes) ≡ cond b (number SoundRing) 0
     unfolding bad_checks first_of
-    told b e = first-append (form_checks bytes) _ s ∙ ap (λ (b : Bool). cond b single_cycle.number 0) e
+    told b e = first-append (form_checks bytes) _ s ∙ ap (λ (b : Bool). cond b (number SoundRing) 0) e
 
     -- 26 of a single cycle, and of no other table
-    told_ring : SingleCycle N f 0 → first_of (bad_checks bytes) ≡ single_cycle.number
+    told_ring : SingleCycle N f 0 → first_of (bad_checks bytes) ≡ number SoundRing
     told_ring c = told true (eq-eqb _ _ ((table_below (card_of bytes) below).1 c))
 
     told_none : (SingleCycle N f 0 → ⊥) → first_of (bad_checks bytes) ≡ 0
     told_none none = told false (ne_eqb _ _ (λ e. none ((table_below (card_of bytes) below).0 e)))
 
-    pub ring_iff : (first_of (bad_checks bytes) ≡ single_cycle.number) ↔ SingleCycle N f 0
+    pub ring_iff : (first_of (bad_checks bytes) ≡ number SoundRing) ↔ SingleCycle N f 0
     ring_iff = (λ e. go (ℕ_discrete (first_return f N) N) e, told_ring)
       where
-        go : Dec (first_return f N ≡ N) → first_of (bad_checks bytes) ≡ single_cycle.number → SingleCycle N f 0
+        go : Dec (first_return f N ≡ N) → first_of (bad_checks bytes) ≡ number SoundRing → SingleCycle N f 0
         go (yes q) e = (table_below (card_of bytes) below).0 q
         go (no q) e = absurd (omega (arith, told false (ne_eqb _ _ q)))
 
     -- places are shown exactly where check tells 7
-    pub shown_iff : (first_of (bad_checks bytes) ≡ 0) ↔ (verdict bytes ≡ not_single_cycle.number)
+    pub shown_iff : (first_of (bad_checks bytes) ≡ 0) ↔ (verdict bytes ≡ number NotSingleCycle)
     shown_iff = (
       λ z. sym (verdict-period bytes s) ∙ (seven_iff (card_of bytes) below).1 (λ c. let r = told_ring c in omega arith),
       λ v. told_none ((seven_iff (card_of bytes) below).0 (verdict-period bytes s ∙ v)),
@@ -193,11 +194,11 @@ shown-fits bytes r a =
 
 -- a card of as many words whose entries at the places shown are the same gets 7 as well
 pub still_seven : (bytes other : List ℕ) (r : BadPlaces) → Shows bytes r → first_of (bad_checks bytes) ≡ 0 → SoundForm other → (card_of other).words ≡ (card_of bytes).words
-    → ((k : ℕ) → k < r.count → let x = get_or r.places k 0 in entry (card_of other) x ≡ entry (card_of bytes) x) → verdict other ≡ not_single_cycle.number
+    → ((k : ℕ) → k < r.count → let x = get_or r.places k 0 in entry (card_of other) x ≡ entry (card_of bytes) x) → verdict other ≡ number NotSingleCycle
 still_seven bytes other r a z s w =
     let N = 2 ^ (card_of bytes).words in
     let (P, least, e) = a.shown z in
-    subst (λ (r : BadPlaces). ((k : ℕ) → k < r.count → let x = get_or r.places k 0 in entry (card_of other) x ≡ entry (card_of bytes) x) → verdict other ≡ not_single_cycle.number)
+    subst (λ (r : BadPlaces). ((k : ℕ) → k < r.count → let x = get_or r.places k 0 in entry (card_of other) x ≡ entry (card_of bytes) x) → verdict other ≡ number NotSingleCycle)
     (sym e)
     (λ keep.
     sym (verdict-period other s)

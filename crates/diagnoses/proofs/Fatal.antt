@@ -19,13 +19,14 @@ use Rattle.completions.proofs.Members.{least-same}
 use Rattle.tsc.specs.declared.Card.{Card}
 use Rattle.tsc.specs.Step.{entry}
 use Rattle.tsc.proofs.Table.{table_below}
-use Rattle.refusals.specs.Refusals.{first_of, not_single_cycle}
+use Rattle.refusals.specs.Refusals.{first_of, number}
+use Rattle.refusals.specs.declared.Refusal.TheVariants.{NotSingleCycle}
 use Rattle.card_format.specs.Verdict.{period_checks}
 use Rattle.diagnoses.specs.BadPlaces.{Fatal}
 
 -- 7 is told exactly where the table is no single cycle
 pub seven_iff : (card : Card) → MapsBelow (2 ^ card.words) (entry card)
-    → (first_of (period_checks card) ≡ not_single_cycle.number) ↔ (SingleCycle (2 ^ card.words) (entry card) 0 → ⊥)
+    → (first_of (period_checks card) ≡ number NotSingleCycle) ↔ (SingleCycle (2 ^ card.words) (entry card) 0 → ⊥)
 unfolding first_of period_checks
 seven_iff card below = (λ h c. later even parity (simp (eq-eqb _ _ ((table_below card below).1 c)) at h), λ none. simp (ne_eqb _ _ (λ e. none ((table_below card below).0 e))))
   where

@@ -7,7 +7,8 @@ use Rattle.completions.specs.Sets.{members, LeastSet}
 use Rattle.tsc.specs.declared.Card.{Card}
 use Rattle.tsc.specs.Constants.{most_words}
 use Rattle.tsc.specs.Step.{entry}
-use Rattle.refusals.specs.Refusals.{Check, check, first_of, not_single_cycle, single_cycle}
+use Rattle.refusals.specs.Refusals.{Check, check, first_of, number}
+use Rattle.refusals.specs.declared.Refusal.TheVariants.{NotSingleCycle, SingleCycle}
 use Rattle.card_format.specs.Reading.{card_of, form_checks}
 use Rattle.card_format.specs.Verdict.{period_checks}
 use Rattle.diagnoses.specs.declared.BadPlaces.{BadPlaces}
@@ -20,7 +21,7 @@ pub record Completion (card : Card) (P : ℕ → Bool) (other : Card) : Type 0 w
 
 -- every completion gets 7
 abbrev pub Fatal : Card → (ℕ → Bool) → Type 0
-Fatal card P = (other : Card) → Completion card P other → first_of (period_checks other) ≡ not_single_cycle.number
+Fatal card P = (other : Card) → Completion card P other → first_of (period_checks other) ≡ number NotSingleCycle
 
 -- whether the table is a whole ring: from 0 it first returns to 0 after all 2^m entries
 abbrev pub is_single_cycle : Card → Bool
@@ -28,7 +29,7 @@ is_single_cycle card = eqb (first_return (entry card) (2 ^ card.words)) (2 ^ car
 
 -- what is looked at: 1 to 6, then 26 where the table is a single cycle
 unfoldable pub bad_checks : List ℕ → List Check
-bad_checks bytes = form_checks bytes ++ (check single_cycle (is_single_cycle (card_of bytes)) ∷ [])
+bad_checks bytes = form_checks bytes ++ (check SingleCycle (is_single_cycle (card_of bytes)) ∷ [])
 
 -- the most places that are shown: half of the largest table
 abbrev pub most_places : ℕ

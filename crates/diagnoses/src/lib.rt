@@ -6,7 +6,7 @@ use tsc::TABLE_SIZE;
 // The most places that are shown: half of the largest table.
 pub const MOST_PLACES: usize = TABLE_SIZE / 2;
 
-// What is answered, as C has it too: places ascending, as many as the count says, and zeros past them; or the refusal.
+// What is answered: places ascending, as many as the count says, and zeros past them; or the refusal. C has this struct, so its fields stay as they are.
 #[repr(C)]
 #[derive(Clone, Copy)]
 pub struct BadPlaces {

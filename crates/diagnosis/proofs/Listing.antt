@@ -17,16 +17,24 @@ module _ (most : ℕ) (P : ℕ → Bool) (x : ℕ) where
   pub room : (N : ℕ) → x < N → count N P ≤ most → P x ≡ true → count x P < most
   room N l fits h = omega (arith, count_prefix (suc x) N P l, count_next x P, ap one h)
 
+  next : (b : Bool) → P x ≡ b → members (x + 1) P ≡ members x P ++ cond b (x ∷ []) []
+  next b h = ap (λ (k : ℕ). members k P) (add-one x) ∙ members_next x P ∙ ap (λ (b : Bool). members x P ++ cond b (x ∷ []) []) h
+
+  -- a marked place goes to the end of the list, and another leaves it as it is
+  pub listed_marked : (places : List ℕ) (n : ℕ) → places ≡ zero_filled most (members x P) → n ≡ count x P → P x ≡ true → n < most → set places n x ≡ zero_filled most (members (x + 1) P)
+  listed_marked places n e c h l =
+      let k : n ≡ length (members x P) = c ∙ sym (members-count x P) in
+      ap₂ (λ (l : List ℕ) (k : ℕ). set l k x) e k ∙ filled_more most (members x P) x (omega (arith, k))
+      ∙ ap (zero_filled most) (sym (next true h))
+
+  pub listed_passed : (places : List ℕ) → places ≡ zero_filled most (members x P) → P x ≡ false → places ≡ zero_filled most (members (x + 1) P)
+  listed_passed places e h = e ∙ ap (zero_filled most) (sym (next false h ∙ append-nil (members x P)))
+
+  -- whichever it is
   pub listed_next : (places : List ℕ) (n : ℕ) → places ≡ zero_filled most (members x P) → n ≡ count x P → (P x ≡ true → n < most)
       → cond (P x) (set places n x) places ≡ zero_filled most (members (x + 1) P)
   listed_next places n e c r = go (P x) refl
     where
-      next : (b : Bool) → P x ≡ b → members (x + 1) P ≡ members x P ++ cond b (x ∷ []) []
-      next b h = ap (λ (k : ℕ). members k P) (add-one x) ∙ members_next x P ∙ ap (λ (b : Bool). members x P ++ cond b (x ∷ []) []) h
-
       go : (b : Bool) → P x ≡ b → cond b (set places n x) places ≡ zero_filled most (members (x + 1) P)
-      go true h =
-          let k : n ≡ length (members x P) = c ∙ sym (members-count x P) in
-          ap₂ (λ (l : List ℕ) (k : ℕ). set l k x) e k ∙ filled_more most (members x P) x (omega (arith, r h))
-          ∙ ap (zero_filled most) (sym (next true h))
-      go false h = e ∙ ap (zero_filled most) (sym (next false h ∙ append-nil (members x P)))
+      go true h = listed_marked places n e c h (r h)
+      go false h = listed_passed places e h

@@ -1,7 +1,7 @@
 -- Marks, one more and along the way of a place; and how often each entry stands, counted in an array.
 use mathlib.Core.Path.{◌≡◌, refl, sym, ap, ap₂, ◌∙◌, subst}
 use mathlib.Core.Logic.{◌↔◌, ◌⊎◌, inl, inr}
-use mathlib.Core.Bool.{true, false}
+use mathlib.Core.Bool.{Bool, true, false}
 use mathlib.Core.List.{List}
 use Prim.Native.Nat.{ℕ, zero, suc, ◌+◌, ◌<◌}
 use native.Mathlib.Nat.{le_refl}
@@ -14,44 +14,45 @@ use lib.ListN.{length, get_or, set, length-set, replicate}
 use lib.Seq.{get_or-set_same, get_or-set_other}
 use Rattle.cycle.specs.Notation.{one, iterate}
 use Rattle.cycle.proofs.Count.{count_none, counted_next}
-use Rattle.cycle.proofs.Lists.{get_or_filler}
 use Rattle.completions.specs.Finding.{uses}
 use Rattle.diagnosis.specs.Marks.{marked, marks_along}
 
 -- ---- marks
 
-pub none-marked : (n v : ℕ) → marked (replicate n 0) v ≡ false
-none-marked n v = simp (get_or_filler n v 0)
+pub none-marked : (n v : ℕ) → marked (replicate n false) v ≡ false
+none-marked zero v = refl
+none-marked (suc n) zero = refl
+none-marked (suc n) (suc v) = none-marked n v
 
-pub one_more : (marks : List ℕ) (x v : ℕ) → x < length marks → (marked (set marks x 1) v ≡ true) ↔ ((marked marks v ≡ true) ⊎ (x ≡ v))
+pub one_more : (marks : List Bool) (x v : ℕ) → x < length marks → (marked (set marks x true) v ≡ true) ↔ ((marked marks v ≡ true) ⊎ (x ≡ v))
 one_more marks x v l = (λ h. forth h (ℕ_discrete v x), back)
   where
-    forth : marked (set marks x 1) v ≡ true → Dec (v ≡ x) → (marked marks v ≡ true) ⊎ (x ≡ v)
+    forth : marked (set marks x true) v ≡ true → Dec (v ≡ x) → (marked marks v ≡ true) ⊎ (x ≡ v)
     forth h (yes e) = inr (sym e)
-    forth h (no ne) = inl (sym (ap (λ (n : ℕ). eqb n 1) (get_or-set_other marks x v 1 0 ne)) ∙ h)
+    forth h (no ne) = inl (sym (get_or-set_other marks x v true false ne) ∙ h)
 
-    back : (marked marks v ≡ true) ⊎ (x ≡ v) → marked (set marks x 1) v ≡ true
+    back : (marked marks v ≡ true) ⊎ (x ≡ v) → marked (set marks x true) v ≡ true
     back r = go r (ℕ_discrete v x)
       where
-        go : (marked marks v ≡ true) ⊎ (x ≡ v) → Dec (v ≡ x) → marked (set marks x 1) v ≡ true
-        go r (yes e) = rw e (ap (λ (n : ℕ). eqb n 1) (get_or-set_same marks x 1 0 l))
-        go (inl h) (no ne) = ap (λ (n : ℕ). eqb n 1) (get_or-set_other marks x v 1 0 ne) ∙ h
+        go : (marked marks v ≡ true) ⊎ (x ≡ v) → Dec (v ≡ x) → marked (set marks x true) v ≡ true
+        go r (yes e) = rw e (get_or-set_same marks x true false l)
+        go (inl h) (no ne) = get_or-set_other marks x v true false ne ∙ h
         go (inr e) (no ne) = absurd (ne (sym e))
 
-pub along_length : (f : ℕ → ℕ) (x n : ℕ) (marks : List ℕ) → length (marks_along f x n marks) ≡ length marks
+pub along_length : (f : ℕ → ℕ) (x n : ℕ) (marks : List Bool) → length (marks_along f x n marks) ≡ length marks
 unfolding marks_along
 along_length f x zero marks = refl
-along_length f x (suc n) marks = length-set (marks_along f x n marks) (iterate f n x) 1 ∙ along_length f x n marks
+along_length f x (suc n) marks = length-set (marks_along f x n marks) (iterate f n x) true ∙ along_length f x n marks
 
-pub along_next : (f : ℕ → ℕ) (x n : ℕ) (marks : List ℕ) {now : List ℕ} {y : ℕ} → now ≡ marks_along f x n marks → y ≡ iterate f n x → set now y 1 ≡ marks_along f x (n + 1) marks
+pub along_next : (f : ℕ → ℕ) (x n : ℕ) (marks : List Bool) {now : List Bool} {y : ℕ} → now ≡ marks_along f x n marks → y ≡ iterate f n x → set now y true ≡ marks_along f x (n + 1) marks
 unfolding marks_along
-along_next f x n marks e q = ap₂ (λ (l : List ℕ) (y : ℕ). set l y 1) e q ∙ ap (λ (k : ℕ). marks_along f x k marks) (sym (add-one n))
+along_next f x n marks e q = ap₂ (λ (l : List Bool) (y : ℕ). set l y true) e q ∙ ap (λ (k : ℕ). marks_along f x k marks) (sym (add-one n))
 
 -- v is at one of the first n places of the way from x
 abbrev OnWay : (ℕ → ℕ) → ℕ → ℕ → ℕ → Type 0
 OnWay f x n v = (k : ℕ) × (k < n) × (iterate f k x ≡ v)
 
-pub along_marked : (f : ℕ → ℕ) (x n : ℕ) (marks : List ℕ) → ((k : ℕ) → iterate f k x < length marks) → (v : ℕ)
+pub along_marked : (f : ℕ → ℕ) (x n : ℕ) (marks : List Bool) → ((k : ℕ) → iterate f k x < length marks) → (v : ℕ)
     → (marked (marks_along f x n marks) v ≡ true) ↔ ((marked marks v ≡ true) ⊎ ((k : ℕ) × (k < n) × (iterate f k x ≡ v)))
 unfolding marks_along
 along_marked f x zero marks b v = (inl, back)

@@ -1,7 +1,7 @@
 -- Places tried one after the other: what is found stays the first of the shortest cycles.
 use mathlib.Core.Path.{◌≡◌, sym, ap, ◌∙◌}
 use mathlib.Core.Logic.{◌⊎◌, inl, inr}
-use mathlib.Core.Bool.{true, true≢false}
+use mathlib.Core.Bool.{Bool, true, false, true≢false}
 use mathlib.Core.List.{List}
 use Prim.Native.Nat.{ℕ, ◌+◌, ◌^◌, ◌≤◌, ◌<◌}
 use native.Mathlib.Omega.{arith}
@@ -19,7 +19,7 @@ use Rattle.diagnosis.proofs.Marking.{none-marked, along_length, along_marked}
 
 module _ (N : ℕ) (f : ℕ → ℕ) (pos : 0 < N) (fits : N ≤ 2 ^ most_words) (below : MapsBelow N f) where
   -- marks along the way from x, besides those that there were
-  passed_along : (x n : ℕ) (marks : List ℕ) → x < N → length marks ≡ 2 ^ most_words → ((v : ℕ) → marked marks v ≡ true → (z : ℕ) × (k : ℕ) × (z < x) × (iterate f k z ≡ v))
+  passed_along : (x n : ℕ) (marks : List Bool) → x < N → length marks ≡ 2 ^ most_words → ((v : ℕ) → marked marks v ≡ true → (z : ℕ) × (k : ℕ) × (z < x) × (iterate f k z ≡ v))
       → (v : ℕ) → marked (marks_along f x n marks) v ≡ true → (z : ℕ) × (k : ℕ) × (z < x + 1) × (iterate f k z ≡ v)
   passed_along x n marks xN long passed v h =
       go ((along_marked f x n marks (λ k. omega (arith, iterate-below N f below k x xN, fits)) v).0 h)
@@ -29,7 +29,7 @@ module _ (N : ℕ) (f : ℕ → ℕ) (pos : 0 < N) (fits : N ≤ 2 ^ most_words)
       go (inr (k, l, e)) = (x, k, omega arith, e)
 
   -- the first place
-  pub tried-first : (n : ℕ) (none after : List ℕ) → none ≡ replicate (2 ^ most_words) 0 → n ≡ cycle_length N f 0 → after ≡ marks_along f 0 n none
+  pub tried-first : (n : ℕ) (none after : List Bool) → none ≡ replicate (2 ^ most_words) false → n ≡ cycle_length N f 0 → after ≡ marks_along f 0 n none
       → Tried N f 1 (record { start = 0; steps = n }) after
   tried-first n none after clear e m =
       record {
@@ -38,13 +38,13 @@ module _ (N : ℕ) (f : ℕ → ℕ) (pos : 0 < N) (fits : N ≤ 2 ^ most_words)
         least = extend (λ z. n ≤ cycle_length N f z) 0 (λ z l. absurd (omega arith)) (omega arith);
         first = λ z l. absurd (omega arith);
         long = ap length m ∙ along_length f 0 n none ∙ long;
-        passed = λ v h. passed_along 0 n none pos long (λ v h. absurd (true≢false (sym h ∙ ap (λ (l : List ℕ). marked l v) clear ∙ none-marked (2 ^ most_words) v))) v (rw m at h);
+        passed = λ v h. passed_along 0 n none pos long (λ v h. absurd (true≢false (sym h ∙ ap (λ (l : List Bool). marked l v) clear ∙ none-marked (2 ^ most_words) v))) v (rw m at h);
       }
     where
       long : length none ≡ 2 ^ most_words
-      long = ap length clear ∙ length-replicate {A = ℕ} (2 ^ most_words) 0
+      long = ap length clear ∙ length-replicate {A = Bool} (2 ^ most_words) false
 
-  module _ (x : ℕ) (xN : x < N) (found : Found) (marks : List ℕ) (t : Tried N f x found marks) where
+  module _ (x : ℕ) (xN : x < N) (found : Found) (marks : List Bool) (t : Tried N f x found marks) where
     -- a marked place has the cycle of an earlier one
     pub tried-passed : Injective N f → marked marks x ≡ true → Tried N f (x + 1) found marks
     tried-passed inj h =
@@ -60,7 +60,7 @@ module _ (N : ℕ) (f : ℕ → ℕ) (pos : 0 < N) (fits : N ≤ 2 ^ most_words)
         }
 
     -- another is followed, with marks on its way
-    module _ (n : ℕ) (after : List ℕ) (e : n ≡ cycle_length N f x) (m : after ≡ marks_along f x n marks) where
+    module _ (n : ℕ) (after : List Bool) (e : n ≡ cycle_length N f x) (m : after ≡ marks_along f x n marks) where
       long_after : length after ≡ 2 ^ most_words
       long_after = ap length m ∙ along_length f x n marks ∙ t.long
 
@@ -90,7 +90,7 @@ module _ (N : ℕ) (f : ℕ → ℕ) (pos : 0 < N) (fits : N ≤ 2 ^ most_words)
           }
 
   -- all tried
-  pub tried_all : (found : Found) (marks : List ℕ) → Tried N f N found marks → Shortest N f found.start
+  pub tried_all : (found : Found) (marks : List Bool) → Tried N f N found marks → Shortest N f found.start
   tried_all found marks t =
       record {
         below = t.start;

@@ -1,9 +1,9 @@
 // The shortest cycle of a table that repeats no entry. Each place is passed once: those on the way of an earlier one are marked.
-ghost use Rattle.std.specs.Prelude.{◌≡◌, ◌+◌, ◌^◌, ◌<◌, replicate};
+ghost use Rattle.std.specs.Prelude.{◌≡◌, ◌+◌, ◌^◌, ◌<◌, false, length, replicate};
 ghost use Rattle.tsc.specs.Constants.{most_words};
 ghost use Rattle.completions.specs.Completion.{Injective};
 ghost use Rattle.completions.specs.Finding.{cycle_length, Shortest};
-ghost use Rattle.diagnosis.specs.Marks.{entry_of, TableOf, marks_along, Tried};
+ghost use Rattle.diagnosis.specs.Marks.{entry_of, IsTable, marks_along, Tried};
 
 use tsc::TABLE_SIZE;
 
@@ -15,53 +15,41 @@ pub struct Found {
 }
 
 // No place marked.
-pub fn no_marks() -> [u8; TABLE_SIZE]
-    ensures { result ≡ replicate (2 ^ most_words) 0 }
+pub fn no_marks() -> [bool; TABLE_SIZE]
+    ensures { result ≡ replicate (2 ^ most_words) false }
 {
-    [0u8; TABLE_SIZE]
+    [false; TABLE_SIZE]
 }
 
-// The table followed from x until it returns, `size` times at most: how often, with a mark at each place on the way. Callers hand over a place of the table.
-pub fn mark_cycle(
-    table: &[u8; TABLE_SIZE],
-    size: usize,
-    x: usize,
-    marks: &mut [u8; TABLE_SIZE],
-) -> usize
-    requires { TableOf size table.now × (x < size) }
-    ensures steps { result ≡ cycle_length size (entry_of table.now) x }
+// The table followed from x until it returns, as often as it has entries at most: how often, with a mark at each place on the way. Callers hand over a place of the table.
+pub fn mark_cycle(table: &[u8], x: usize, marks: &mut [bool; TABLE_SIZE]) -> usize
+    requires { IsTable table.now × (x < length table.now) }
+    ensures steps { result ≡ cycle_length (length table.now) (entry_of table.now) x }
     ensures after { marks.new ≡ marks_along (entry_of table.now) x result marks.old }
 {
     let mut y = x;
-    let mut steps = 0;
-    loop {
-        marks[y] = 1;
-        y = table[y] as usize;
-        steps += 1;
-        if size <= steps {
-            break steps;
-        }
+    for steps in 0..table.len() {
+        marks[y] = true;
+        y = usize::from(table[y]);
         if y == x {
-            break steps;
+            return steps + 1;
         }
     }
+    table.len()
 }
 
 // x tried: a place on the way of an earlier one has that one's cycle, and another is followed. The loop below has tried those before.
-fn try_place(
-    table: &[u8; TABLE_SIZE],
-    size: usize,
-    x: usize,
-    found: Found,
-    marks: &mut [u8; TABLE_SIZE],
-) -> Found
-    requires { TableOf size table.now × Injective size (entry_of table.now) × (x < size) × Tried size (entry_of table.now) x found marks.old }
-    ensures { Tried size (entry_of table.now) (x + 1) result marks.new }
+fn try_place(table: &[u8], x: usize, found: Found, marks: &mut [bool; TABLE_SIZE]) -> Found
+    requires { IsTable table.now
+        × Injective (length table.now) (entry_of table.now)
+        × (x < length table.now)
+        × Tried (length table.now) (entry_of table.now) x found marks.old }
+    ensures { Tried (length table.now) (entry_of table.now) (x + 1) result marks.new }
 {
-    if marks[x] == 1 {
+    if marks[x] {
         return found;
     }
-    let steps = mark_cycle(table, size, x, marks);
+    let steps = mark_cycle(table, x, marks);
     if found.steps <= steps {
         return found;
     }
@@ -69,17 +57,15 @@ fn try_place(
 }
 
 // The first place of a shortest cycle. Its caller has seen by `first_clash` that no entry stands twice.
-pub fn shortest(table: &[u8; TABLE_SIZE], size: usize) -> usize
-    requires { TableOf size table.now × Injective size (entry_of table.now) }
-    ensures { Shortest size (entry_of table.now) result }
+pub fn shortest(table: &[u8]) -> usize
+    requires { IsTable table.now × Injective (length table.now) (entry_of table.now) }
+    ensures { Shortest (length table.now) (entry_of table.now) result }
 {
     let mut marks = no_marks();
-    let steps = mark_cycle(table, size, 0, &mut marks);
+    let steps = mark_cycle(table, 0, &mut marks);
     let mut found = Found { start: 0, steps };
-    let mut x = 1;
-    while x < size {
-        found = try_place(table, size, x, found, &mut marks);
-        x += 1;
+    for x in 1..table.len() {
+        found = try_place(table, x, found, &mut marks);
     }
     found.start
 }

@@ -1,10 +1,8 @@
 -- What the calls promise, from what they begin with: the state moved by a map of states to states, or a refusal and the state as lent.
 use mathlib.Core.Path.{◌≡◌, sym, ap, ap₂, ◌∙◌, subst}
-use mathlib.Core.Logic.{◌≢◌}
 use mathlib.Core.List.{List}
 use Prim.Native.Nat.{ℕ, zero, ◌^◌, ◌≤◌, ◌<◌}
 use native.Mathlib.Omega.{arith}
-use borrow.Author.Tests.{eq-eqb, ne_eqb}
 use lib.ListN.{length, take}
 use Rattle.tsc.specs.declared.Card.{Card}
 use Rattle.tsc.specs.declared.State.{State}
@@ -19,7 +17,10 @@ use Rattle.card_format.specs.Reading.{card_of}
 use Rattle.card_format.specs.Verdict.{Accepted}
 use Rattle.cycle.proofs.Lists.{take-filled}
 use Rattle.card_format.proofs.Verdict.{accepted_card}
-use Rattle.draws.specs.declared.Draw.TheVariants.{Word, Refused}
+use Rattle.std.specs.Prelude.{Result, Ok, Err}
+use Rattle.refusals.specs.declared.Refusal.{Refusal}
+use Rattle.refusals.specs.Refusals.{number, numbered}
+use Rattle.refusals.proofs.Answers.{value_answered, refusal_answered, number_nonzero}
 use Rattle.stepping.specs.State.{used, Holds, holding}
 use Rattle.stepping.proofs.Holding.{held, holds}
 use Rattle.draws.specs.Calls.{refusal_for, unless_refused, stepped, stepped_back, OnlyBefore, drawing}
@@ -33,10 +34,9 @@ only-before card ok xs sx = (
   λ zs sz. back_only card ok.formed ok.period zs xs sz sx,
 )
 
--- a call that is refused, whatever else it promises of an answer 0
-pub call_refused : (bytes xs ys : List ℕ) (A : Type 0) (r : ℕ) → r ≡ refusal_for bytes xs → r ≢ 0
-    → (r ≡ refusal_for bytes xs) × ((xs ≡ unless_refused bytes xs ys) × (r ≡ 0 → A))
-call_refused bytes xs ys A r e ne = (e, (unless_refused_lem bytes xs ys (λ z. ne (e ∙ z)), λ z. absurd (ne z)))
+-- a refused call leaves the state as lent
+pub left : (bytes xs ys : List ℕ) (e : Refusal) → refusal_for bytes xs ≡ number e → xs ≡ unless_refused bytes xs ys
+left bytes xs ys e r = unless_refused_lem bytes xs ys (λ z. number_nonzero e (sym r ∙ z))
 
 -- a state as it is stored over n lent words
 pub stored : (card : Card) (n : ℕ) (ys : List ℕ) (s : State) → n ≡ card.words → IsState card ys → s ≡ holding ys → take n s.words ≡ ys
@@ -93,34 +93,24 @@ module _ {bytes xs : List ℕ} {card : Card} (k : Clear bytes xs card) where
 
 -- ---- the word of a draw's answer
 
-narrow-word : (card : Card) (xs : List ℕ) (v w : ℕ) → v ≡ word card xs → Word v ≡ Word w → w < 2 ^ card.width
+narrow-word : (card : Card) (xs : List ℕ) (v w : ℕ) → v ≡ word card xs → ◌≡◌ {A = Result ℕ Refusal} (Ok v) (Ok w) → w < 2 ^ card.width
 narrow-word card xs v w e h =
     let same : word card xs ≡ w = cc in
     rw same at (word_lt card xs)
 
-narrow-refused : (n r w : ℕ) → Refused r ≡ Word w → w < 2 ^ n
-narrow-refused n r w h = let never : ◌≡◌ {A = ℕ} 0 1 = cc in absurd (omega arith)
-
-pub drawing-refused : (bytes xs : List ℕ) (r : ℕ) → r ≡ refusal_for bytes xs → refusal_for bytes xs ≢ 0 → Refused r ≡ drawing bytes xs
+pub drawing-refused : (bytes xs : List ℕ) (e : Refusal) → refusal_for bytes xs ≡ number e → numbered (Err e) ≡ drawing bytes xs
 unfolding drawing
-drawing-refused bytes xs r e ne = ap Refused e ∙ simp (ne_eqb (refusal_for bytes xs) 0 ne)
+drawing-refused bytes xs e r = refusal_answered _ e _ r
 
-pub drawing-word : (bytes xs : List ℕ) (w : ℕ) → w ≡ word (card_of bytes) (step (card_of bytes) xs) → refusal_for bytes xs ≡ 0 → Word w ≡ drawing bytes xs
+pub drawing-word : (bytes xs : List ℕ) (w : ℕ) → w ≡ word (card_of bytes) (step (card_of bytes) xs) → refusal_for bytes xs ≡ 0 → numbered (Ok w) ≡ drawing bytes xs
 unfolding drawing
-drawing-word bytes xs w e z = ap Word e ∙ simp (eq-eqb (refusal_for bytes xs) 0 z)
+drawing-word bytes xs w e z = value_answered _ w _ z e
 
 -- ---- what a draw promises of its answer and of the words ys that it leaves
 
-pub draw_refused : (bytes xs : List ℕ) (r : ℕ) → r ≡ refusal_for bytes xs → r ≢ 0
-    → (Refused r ≡ drawing bytes xs) × ((xs ≡ stepped bytes xs) × ((w : ℕ) → Refused r ≡ Word w → w < 2 ^ (card_of bytes).width))
-unfolding stepped
-draw_refused bytes xs r e ne =
-    let b : refusal_for bytes xs ≢ 0 = λ z. ne (e ∙ z) in
-    (drawing-refused bytes xs r e b, (unless_refused_lem bytes xs (step (card_of bytes) xs) b, narrow-refused _ _))
-
 pub draw_made : {bytes xs : List ℕ} {card : Card} → Clear bytes xs card → {v : ℕ} {lent s : State} {ys : List ℕ} → lent ≡ holding xs → let next = step card (used card lent) in
     v ≡ word card next → s ≡ holding next → ys ≡ take (length xs) s.words
-    → (Word v ≡ drawing bytes xs) × ((ys ≡ stepped bytes xs) × ((w : ℕ) → Word v ≡ Word w → w < 2 ^ (card_of bytes).width))
+    → (numbered (Ok v) ≡ drawing bytes xs) × ((ys ≡ stepped bytes xs) × ((w : ℕ) → ◌≡◌ {A = Result ℕ Refusal} (Ok v) (Ok w) → w < 2 ^ (card_of bytes).width))
 draw_made {bytes} {xs} k {v} el ev es ey =
     let card = card_of bytes in
     let drawn : v ≡ word card (step card xs) = ev ∙ of_values k el (λ c w. word c (step c w)) in

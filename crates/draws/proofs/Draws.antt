@@ -15,7 +15,7 @@ use Rattle.tsc.proofs.StepBack.{back_of_step_lem}
 use Rattle.tsc.proofs.Coverage.{coverage}
 use Rattle.card_format.specs.Reading.{card_of}
 use Rattle.card_format.proofs.Verdict.{accepted_card}
-use Rattle.draws.specs.declared.Draw.TheVariants.{Word}
+use Rattle.std.specs.Prelude.{Ok}
 use Rattle.draws.specs.Calls.{refusal_for, stepped, stepped_back, drawing}
 use Rattle.draws.proofs.Opening.{passed, passes, unless_refused_lem, unless_passed}
 use Rattle.draws.proofs.Called.{drawing-word}
@@ -44,7 +44,7 @@ module _ (bytes start : List ℕ) (z : refusal_for bytes start ≡ 0) where
       ap (stepped bytes) (draws-state t)
       ∙ sym (unless_passed bytes (orbit (card_of bytes) start t) (orbit (card_of bytes) start (suc t)) (never_refused t))
 
-  pub draws-word : (t : ℕ) → drawing bytes (iterate (stepped bytes) t start) ≡ Word (word_at (card_of bytes) start t)
+  pub draws-word : (t : ℕ) → drawing bytes (iterate (stepped bytes) t start) ≡ Ok (word_at (card_of bytes) start t)
   unfolding iterate
   draws-word t =
       ap (drawing bytes) (draws-state t) ∙ sym (drawing-word bytes (orbit (card_of bytes) start t) _ refl (never_refused t))

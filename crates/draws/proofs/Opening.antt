@@ -1,10 +1,8 @@
 -- What the checks of a call come to: a refusal, or an accepted card and a state of its size.
 use mathlib.Core.Path.{◌≡◌, sym, ap, ◌∙◌}
 use mathlib.Core.Logic.{◌≢◌}
-use mathlib.Core.Bool.{cond}
 use mathlib.Core.List.{List, ◌++◌}
 use Prim.Native.Nat.{ℕ, ◌^◌}
-use native.Mathlib.Decide.{ℕ_discrete}
 use native.Mathlib.Omega.{arith}
 use borrow.Author.Tests.{eq-eqb, ne_eqb, eqb-true, lt-ltb, ltb-true, not-false}
 use lib.Dec.{eqb, ltb}
@@ -12,9 +10,12 @@ use lib.ListN.{length, get_or}
 use Rattle.cycle.proofs.Every.{every_at, every_of}
 use Rattle.tsc.specs.declared.Card.{Card}
 use Rattle.tsc.specs.Coverage.{IsState}
-use Rattle.refusals.specs.Refusals.{first_of, NoneApplies}
-use Rattle.card_format.specs.declared.Reading.{Reading}
-use Rattle.card_format.specs.Reading.{card_of, answering}
+use Rattle.std.specs.Prelude.{Result, Ok, Err}
+use Rattle.refusals.specs.declared.Refusal.{Refusal}
+use Rattle.refusals.specs.Refusals.{number, first_of, NoneApplies, numbered, told}
+use Rattle.refusals.proofs.Answers.{of_refusal, told_of_value, told_of_refusal, number_nonzero}
+use Rattle.card_format.proofs.Verdict.{accepting-passed}
+use Rattle.card_format.specs.Reading.{card_of}
 use Rattle.card_format.specs.Verdict.{card_checks, verdict, accepting}
 use Rattle.refusals.proofs.Refusals.{first-none, none_first, first_right, first-left, none_left, none_right}
 use Rattle.state_words.specs.Checks.{state_checks}
@@ -57,23 +58,27 @@ module _ (bytes xs : List ℕ) where
         (simp (every_of (length xs) (λ k. ltb (get_or xs k 0) (2 ^ n)) (λ k l. lt-ltb (get_or xs k 0) (2 ^ n) (sx.1 k (omega (arith, sx.0))))), tt),
       )
 
-  -- what a call tells, from what is found of the card, is the refusal
-  pub told : (found : Reading) → found ≡ accepting bytes → {r : ℕ}
-      → r ≡ cond (eqb found.refusal 0) (first_of (state_checks found.card.words found.card.width xs)) found.refusal → r ≡ refusal_for bytes xs
+  -- what a call tells once the card is refused
+  pub told_by_card : {a : Result Card Refusal} {e : Refusal} → numbered a ≡ accepting bytes → a ≡ Err e → refusal_for bytes xs ≡ number e
   unfolding accepting
-  told found e er = er ∙ ap answer e ∙ go (ℕ_discrete (verdict bytes) 0)
-    where
-      answer : Reading → ℕ
-      answer f = cond (eqb f.refusal 0) (first_of (state_checks f.card.words f.card.width xs)) f.refusal
+  told_by_card {e = e} h q =
+      let r = of_refusal (verdict bytes) (card_of bytes) h q in
+      sym (refusal_card (λ z. number_nonzero e (sym r ∙ z))) ∙ r
 
-      go : Dec (verdict bytes ≡ 0) → answer (answering (verdict bytes) (card_of bytes)) ≡ refusal_for bytes xs
-      go (yes z) = simp (eq-eqb (verdict bytes) 0 z) (refusal-state z)
-      go (no ne) = simp (ne_eqb (verdict bytes) 0 ne) (refusal_card ne)
+  -- and once the card is accepted and the state is checked against its values: the state's refusal, or that there is none
+  module _ {a : Result Card Refusal} {card : Card} (h : numbered a ≡ accepting bytes) (found : a ≡ Ok card) where
+    told_state : (r : ℕ) → r ≡ first_of (state_checks card.words card.width xs) → r ≡ refusal_for bytes xs
+    told_state r checked =
+        let p = accepting-passed bytes h found in
+        checked ∙ ap (λ (card : Card). first_of (state_checks card.words card.width xs)) p.1 ∙ refusal-state p.0
 
-  -- and where there is none, the card's values are those found
-  pub clear : (found : Reading) → found ≡ accepting bytes → refusal_for bytes xs ≡ 0 → Clear bytes xs found.card
-  unfolding accepting
-  clear found e z = record { none = z; card_is = ap (λ (f : Reading). f.card) e ∙ simp (eq-eqb (verdict bytes) 0 (passed z).0) }
+    module _ {b : Result (Unit {0}) Refusal} (checked : told b ≡ first_of (state_checks card.words card.width xs)) where
+      pub told_by_state : {e : Refusal} → b ≡ Err e → refusal_for bytes xs ≡ number e
+      told_by_state q = told_of_refusal (told_state _ checked) q
+
+      -- where there is none, the card's values are those found
+      pub clear : {u : Unit {0}} → b ≡ Ok u → Clear bytes xs card
+      clear q = record { none = told_of_value (told_state _ checked) q; card_is = (accepting-passed bytes h found).1 }
 
   pub unless_refused_lem : (ys : List ℕ) → refusal_for bytes xs ≢ 0 → xs ≡ unless_refused bytes xs ys
   unless_refused_lem ys ne = simp (ne_eqb (refusal_for bytes xs) 0 ne)

@@ -1,14 +1,12 @@
 -- What the calls answer and what the lent state words are after them (document 01, Refusal table, and Step, word and pick), for any bytes and any words.
-use Rattle.std.specs.Prelude.{◌≡◌, cond, List, ◌++◌, ℕ, eqb}
+use Rattle.std.specs.Prelude.{◌≡◌, cond, List, ◌++◌, ℕ, eqb, Result}
 use Rattle.tsc.specs.declared.Card.{Card}
 use Rattle.tsc.specs.Coverage.{IsState, step_back}
 use Rattle.tsc.specs.Step.{step}
 use Rattle.tsc.specs.Word.{word}
-use Rattle.refusals.specs.Refusals.{Check, first_of}
+use Rattle.refusals.specs.Refusals.{Check, first_of, answered}
 use Rattle.card_format.specs.Reading.{card_of}
 use Rattle.card_format.specs.Verdict.{card_checks}
-use Rattle.draws.specs.declared.Draw.{Draw}
-use Rattle.draws.specs.declared.Draw.TheVariants.{Word, Refused}
 use Rattle.state_words.specs.Checks.{state_checks}
 
 -- what each call looks at: 1 to 9, then 10 and 11
@@ -35,5 +33,5 @@ abbrev pub OnlyBefore : Card → List ℕ → List ℕ → Type 0
 OnlyBefore card xs ys = IsState card xs × (step card xs ≡ ys) × ((zs : List ℕ) → IsState card zs → step card zs ≡ ys → zs ≡ xs)
 
 -- what a draw answers: the word of the state after the step, or the refusal
-unfoldable pub drawing : List ℕ → List ℕ → Draw
-drawing bytes xs = cond (eqb (refusal_for bytes xs) 0) (Word (word (card_of bytes) (step (card_of bytes) xs))) (Refused (refusal_for bytes xs))
+unfoldable pub drawing : List ℕ → List ℕ → Result ℕ ℕ
+drawing bytes xs = answered (refusal_for bytes xs) (word (card_of bytes) (step (card_of bytes) xs))

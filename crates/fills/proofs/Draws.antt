@@ -7,23 +7,22 @@ use Prim.Native.Nat.{ℕ, zero, suc, ◌+◌, ◌≤◌}
 use native.Mathlib.Nat.{le_of_eq, add_comm, add_assoc, add-zero, add-suc}
 use native.Mathlib.Decide.{ℕ_discrete}
 use native.Mathlib.Omega.{arith}
+use borrow.Author.Tests.{ne_eqb}
 use lib.ListN.{length, take, drop, length-set}
 use lib.Seq.{paste, paste-zero, paste-suc, take_all}
+use Rattle.std.specs.Prelude.{Result, Ok, Err}
 use Rattle.cycle.specs.Notation.{iterate}
 use Rattle.cycle.proofs.Iterate.{iterate_add}
 use Rattle.tsc.specs.Word.{orbit_words}
 use Rattle.tsc.proofs.Word.{length-orbit_words, orbit_words_at}
 use Rattle.card_format.specs.Reading.{card_of}
-use Rattle.draws.specs.declared.Draw.{Draw}
-use Rattle.draws.specs.declared.Draw.TheVariants.{Word, Refused}
 use Rattle.draws.specs.Calls.{refusal_for, stepped, drawing}
-use Rattle.draws.proofs.Called.{drawing-refused}
 use Rattle.draws.proofs.Draws.{never_refused, draws-state, draws-word, refused-state}
 use Rattle.fills.specs.Draws.{with_draw, drawn_strip}
 
-length-with_draw : (strip : List ℕ) (place : ℕ) (d : Draw) → length (with_draw strip place d) ≡ length strip
-length-with_draw strip place (Word w) = length-set strip place w
-length-with_draw strip place (Refused r) = refl
+length-with_draw : (strip : List ℕ) (place : ℕ) (d : Result ℕ ℕ) → length (with_draw strip place d) ≡ length strip
+length-with_draw strip place (Ok w) = length-set strip place w
+length-with_draw strip place (Err r) = refl
 
 pub drawn-state-append : (bytes xs : List ℕ) (j k : ℕ) → iterate (stepped bytes) (j + k) xs ≡ iterate (stepped bytes) k (iterate (stepped bytes) j xs)
 drawn-state-append bytes xs j k = ap (λ (t : ℕ). iterate (stepped bytes) t xs) (add_comm j k) ∙ iterate_add (stepped bytes) k j xs
@@ -47,11 +46,12 @@ module _ (bytes xs strip : List ℕ) (place : ℕ) where
       ∙ ap (λ (ys : List ℕ). with_draw strip₁ (place + j + k) (drawing bytes ys)) (drawn-state-append bytes xs j k)
 
   pub refused_strip : refusal_for bytes xs ≢ 0 → (t : ℕ) → drawn_strip bytes xs strip place t ≡ strip
-  unfolding drawn_strip
+  unfolding drawn_strip drawing
   refused_strip ne zero = refl
   refused_strip ne (suc t) =
+      let refused : drawing bytes xs ≡ Err (refusal_for bytes xs) = simp (ne_eqb (refusal_for bytes xs) 0 ne) in
       ap (λ (ys : List ℕ). with_draw (drawn_strip bytes xs strip place t) (place + t) (drawing bytes ys)) (refused-state bytes xs ne t)
-      ∙ ap (with_draw (drawn_strip bytes xs strip place t) (place + t)) (sym (drawing-refused bytes xs _ refl ne)) ∙ refused_strip ne t
+      ∙ ap (with_draw (drawn_strip bytes xs strip place t) (place + t)) refused ∙ refused_strip ne t
 
   module _ (z : refusal_for bytes xs ≡ 0) (count : ℕ) (room : place + count ≤ length strip) where
     row : List ℕ
@@ -61,8 +61,8 @@ module _ (bytes xs strip : List ℕ) (place : ℕ) where
     unfolding drawn_strip row
     drawn_paste zero l = paste-zero strip place row
     drawn_paste (suc t) l =
-        let next = draws-word bytes xs z t ∙ ap Word (sym (orbit_words_at (card_of bytes) xs count t l)) in
-        ap₂ (λ (w : List ℕ) (d : Draw). with_draw w (place + t) d) (drawn_paste t (omega arith)) next
+        let next = draws-word bytes xs z t ∙ ap Ok (sym (orbit_words_at (card_of bytes) xs count t l)) in
+        ap₂ (λ (w : List ℕ) (d : Result ℕ ℕ). with_draw w (place + t) d) (drawn_paste t (omega arith)) next
         ∙ paste-suc strip place row t 0 (omega arith) (omega (arith, length-orbit_words (card_of bytes) xs count))
 
     pub drawn-row : drawn_strip bytes xs strip place count ≡ take place strip ++ orbit_words (card_of bytes) xs count ++ drop (place + count) strip

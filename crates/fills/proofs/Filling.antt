@@ -10,7 +10,9 @@ use Rattle.tsc.specs.Step.{orbit}
 use Rattle.tsc.specs.Word.{orbit_words}
 use Rattle.tsc.proofs.Step.{orbit_in_range}
 use Rattle.tsc.proofs.Word.{length-orbit_words}
-use Rattle.refusals.specs.Refusals.{first_of}
+use Rattle.refusals.specs.declared.Refusal.{Refusal}
+use Rattle.refusals.specs.Refusals.{number, first_of}
+use Rattle.refusals.proofs.Answers.{number_nonzero}
 use Rattle.refusals.proofs.Refusals.{first-left, first_right, first_both}
 use Rattle.card_format.specs.Reading.{card_of}
 use Rattle.cycle.proofs.Lists.{put_part}
@@ -56,11 +58,11 @@ module _ (bytes xs strip : List ℕ) (place count : ℕ) where
   promised_passed z = rw z (refl, (refl, refl))
 
   -- refused by the card or the state, and by the span
-  pub refused_call : (r : ℕ) → r ≡ refusal_for bytes xs → r ≢ 0 → Promised r strip xs
-  refused_call r e ne = promised_refused r ne (e ∙ refusal_call (λ z. ne (e ∙ z)))
+  pub refused_call : (e : Refusal) → refusal_for bytes xs ≡ number e → Promised (number e) strip xs
+  refused_call e r = promised_refused _ (number_nonzero e) (sym r ∙ refusal_call (λ z. number_nonzero e (sym r ∙ z)))
 
-  pub refused_span : {card : Card} → Clear bytes xs card → (r : ℕ) → r ≡ first_of (span_checks (length strip) place count) → r ≢ 0 → Promised r strip xs
-  refused_span k r e ne = promised_refused r ne (e ∙ refusal_span k.none)
+  pub refused_span : {card : Card} → Clear bytes xs card → (e : Refusal) → first_of (span_checks (length strip) place count) ≡ number e → Promised (number e) strip xs
+  refused_span k e r = promised_refused _ (number_nonzero e) (sym r ∙ refusal_span k.none)
 
   -- not refused: the part of the strip from the place on has come back with the words at its front, and the last state is stored
   module _ {given : Card} (k : Clear bytes xs given) (z : first_of (span_checks (length strip) place count) ≡ 0) where

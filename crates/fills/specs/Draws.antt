@@ -1,14 +1,12 @@
 -- Single draws, each word stored in a strip at the next place: what a fill is held to.
-use Rattle.std.specs.Prelude.{cond, List, ℕ, zero, suc, ◌+◌, ltb, set}
+use Rattle.std.specs.Prelude.{cond, List, ℕ, zero, suc, ◌+◌, ltb, set, Result, Ok, Err}
 use Rattle.cycle.specs.Notation.{iterate}
-use Rattle.draws.specs.declared.Draw.{Draw}
-use Rattle.draws.specs.declared.Draw.TheVariants.{Word, Refused}
 use Rattle.draws.specs.Calls.{stepped, drawing}
 
 -- a strip with a draw's word at a place; a refused draw has none
-abbrev pub with_draw : List ℕ → ℕ → Draw → List ℕ
-with_draw strip place (Word w) = set strip place w
-with_draw strip place (Refused r) = strip
+abbrev pub with_draw : List ℕ → ℕ → Result ℕ ℕ → List ℕ
+with_draw strip place (Ok w) = set strip place w
+with_draw strip place (Err r) = strip
 
 -- the strip after so many draws; the state words are then the step repeated
 unfoldable pub drawn_strip : List ℕ → List ℕ → List ℕ → ℕ → ℕ → List ℕ

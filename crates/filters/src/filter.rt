@@ -43,10 +43,8 @@ fn further_by(n: u32, m: u32) -> [u32; FURTHER_WORDS]
     if m as usize <= FILTER_WORDS {
         return places;
     }
-    let mut j = 0;
-    while j < FURTHER_WORDS {
+    for j in 0..FURTHER_WORDS {
         places[j] = (FILTER_WORDS + j) as u32 % n;
-        j += 1;
     }
     places
 }
@@ -80,7 +78,7 @@ pub fn rotations_of(card: Card) -> Rotations
     }
 }
 
-// Filter 1, document 002 (15).
+// Filter 1, document 002 (15). This and filter 2 are two formulas, of three and five rotations: one function of both would be no plainer.
 fn filter_1(t: Rotations, s: State) -> u32
     requires has_rotations { HasRotations t rotations1 }
     requires by_index { (k : ℕ) → k < most_words → get_or s.words k 0 < 2 ^ t.width.bits }
@@ -133,11 +131,9 @@ fn with_further(t: Rotations, s: State, word: u32) -> u32
 {
     let w = t.width;
     let mut sum = word;
-    let mut j = 0;
-    while j < FURTHER_WORDS {
+    for j in 0..FURTHER_WORDS {
         let turned = rotate_left(w, s.words[FILTER_WORDS + j], t.further[j]);
         sum = add(w, sum, turned);
-        j += 1;
     }
     sum
 }

@@ -6,11 +6,11 @@ ghost use Rattle.std.specs.Prelude.{◌≡◌, ◌<◌, length, replicate};
 ghost use Rattle.cycle.specs.Notation.{iterate};
 ghost use Rattle.card_format.specs.Fields.{most_card_bytes};
 ghost use Rattle.draws.specs.Calls.{stepped};
-ghost use Rattle.inspect.specs.Room.{most_read, IsPrefixLen};
+ghost use Rattle.inspect.specs.Room.{most_read};
 
 use card::check;
-use draws::Draw;
 use generator::call;
+use printing::Words;
 use std::io;
 use std::io::{Read, Write};
 use tsc::MOST_WORDS;
@@ -26,13 +26,11 @@ fn print_draw<W: Write>(out: &mut W, number: u8, card: &[u8], state: &mut [u32])
     ensures { state.new ≡ stepped card.now state.old }
 {
     match call::draw(card, state) {
-        Draw::Word(word) => {
-            write!(out, "{number}")?;
-            printing::print_words(out, state)?;
-            printing::print_word(out, word)?;
-            out.write_all(b"\n")
+        Ok(word) => {
+            let after = Words(state);
+            writeln!(out, "{number}{after} {word:08x}")
         }
-        Draw::Refused(_) => Ok(()),
+        Err(_) => Ok(()),
     }
 }
 
@@ -49,58 +47,14 @@ fn print_draws<W: Write>(out: &mut W, card: &[u8], state: &mut [u32]) -> io::Res
 
 // The verdict on any bytes and, for an accepted card, its draws from the state of zeros.
 pub fn print_card<W: Write>(out: &mut W, card: &[u8]) -> io::Result<()> {
-    let found = check::accept(card);
-    let verdict = found.refusal;
-    writeln!(out, "verdict {verdict}")?;
-    if found.refusal == 0 {
-        let m = found.card.words as usize;
-        let mut state = [0u32; MOST_WORDS];
-        print_draws(out, card, &mut state[..m])?;
-    }
-    Ok(())
-}
-
-// What was read: how many bytes stand at the front of the slice, and whether the read failed.
-#[derive(Clone, Copy)]
-struct Input {
-    length: usize,
-    failed: bool,
-}
-
-// One read.
-fn read_once<R: Read>(file: &mut R, bytes: &mut [u8]) -> Input
-    ensures { IsPrefixLen result.length bytes.new }
-{
-    match file.read(bytes) {
-        Ok(length) => Input {
-            length,
-            failed: false,
-        },
-        Err(_) => Input {
-            length: 0,
-            failed: true,
-        },
-    }
-}
-
-// Reads to the end of the file or of the slice: a short read is not the end.
-fn read_all<R: Read>(file: &mut R, bytes: &mut [u8]) -> Input
-    ensures { IsPrefixLen result.length bytes.new }
-{
-    let mut at: usize = 0;
-    while at < bytes.len() {
-        let more = read_once(file, &mut bytes[at..]);
-        if more.length == 0 {
-            return Input {
-                length: at,
-                failed: more.failed,
-            };
+    match check::accept(card) {
+        Ok(values) => {
+            writeln!(out, "verdict 0")?;
+            let m = values.words as usize;
+            let mut state = [0u32; MOST_WORDS];
+            print_draws(out, card, &mut state[..m])
         }
-        at += more.length;
-    }
-    Input {
-        length: at,
-        failed: false,
+        Err(refusal) => writeln!(out, "verdict {refusal}"),
     }
 }
 
@@ -119,17 +73,13 @@ pub fn print_from<R: Read + Drop>(
 ) -> io::Result<()> {
     let mut bytes = room();
     let found = match file {
-        Ok(mut open) => read_all(&mut open, &mut bytes),
-        Err(_) => Input {
-            length: 0,
-            failed: true,
-        },
+        Ok(mut open) => printing::read_full(&mut open, &mut bytes),
+        Err(error) => Err(error),
     };
-    if found.failed {
-        return eprintln!(rt; "the card can't be read");
+    match found {
+        Ok(n) => print_card(&mut io::writer(rt), &bytes[..n]),
+        Err(_) => eprintln!(rt; "the card can't be read"),
     }
-    let n = found.length;
-    print_card(&mut io::writer(rt), &bytes[..n])
 }
 
 // Standard input so.

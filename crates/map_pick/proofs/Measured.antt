@@ -1,5 +1,5 @@
 -- What follows where distances can be worked out, and where they can't.
-use mathlib.Core.Path.{◌≡◌, sym, ◌∙◌}
+use mathlib.Core.Path.{◌≡◌, refl, sym, ◌∙◌}
 use mathlib.Core.Logic.{◌≢◌}
 use mathlib.Core.Bool.{Bool, true, false, ◌&&◌, and-eq-true_iff, true≢false}
 use mathlib.Core.List.{List, ◌++◌}
@@ -10,7 +10,10 @@ use lib.Dec.{leb, ltb}
 use lib.IntN.{ℤ}
 use lib.ListN.{length}
 use Rattle.cycle.proofs.Ranking.{both}
-use Rattle.refusals.specs.Refusals.{first_of}
+use Rattle.std.proofs.Common.{rules}
+use Rattle.std.specs.Prelude.{Result, Ok, Err, IsErr}
+use Rattle.refusals.specs.declared.Refusal.{Refusal}
+use Rattle.refusals.specs.Refusals.{first_of, told}
 use Rattle.draws.specs.Calls.{call_checks}
 use Rattle.ties.specs.Ties.{most_shovels}
 use Rattle.ties.specs.Least.{SameTies}
@@ -38,6 +41,10 @@ module _ (shovels : List ℕ) (xs ys : List ℤ) (mapped : Bool) where
       let p = places_passed shovels xs ys mapped z in
       true≢false (sym (both (both (both p.all_allowed p.is_paired) (lt-ltb 0 (length shovels) p.some)) (le-leb (length shovels) most_shovels p.few)) ∙ f)
 
+told_error : (a : Result (Unit {0}) Refusal) → told a ≢ 0 → IsErr a
+told_error (Ok u) ne = absurd (ne refl)
+told_error (Err e) ne = search rules
+
 module _ (bytes state : List ℕ) (q : Places) where
   abbrev mapped_all : Bool
   mapped_all = on_map q.x q.y q.xs q.ys
@@ -54,6 +61,11 @@ module _ (bytes state : List ℕ) (q : Places) where
   told_refused {r} f e =
       let h = refused_here bytes state q (unmeasured q.shovels q.xs q.ys mapped_all f) in
       map-refused bytes state q r (λ z. h.1 (sym e ∙ z)) (e ∙ h.0)
+
+  -- so there is one
+  pub refuses : can_measure q.shovels q.xs q.ys mapped_all ≡ false → (a : Result (Unit {0}) Refusal)
+      → told a ≡ first_of (call_checks bytes state ++ place_checks q.shovels q.xs q.ys mapped_all) → IsErr a
+  refuses f a h = told_error a (λ z. (refused_here bytes state q (unmeasured q.shovels q.xs q.ys mapped_all f)).1 (sym h ∙ z))
 
   -- the timed pick of times that tie as the distances do
   pub told_picked : {p : Pick} {left times : List ℕ} → can_measure q.shovels q.xs q.ys mapped_all ≡ true → SameTies (distances_of q) times

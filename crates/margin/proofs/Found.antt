@@ -12,7 +12,8 @@ use Rattle.cycle.proofs.First.{first_meets}
 use Rattle.tsc.specs.declared.Card.{Card}
 use Rattle.tsc.specs.declared.State.{State}
 use Rattle.tsc.specs.Word.{orbit_words}
-use Rattle.refusals.specs.Refusals.{no_such_change}
+use Rattle.refusals.specs.Refusals.{number}
+use Rattle.refusals.specs.declared.Refusal.TheVariants.{NoSuchChange}
 use Rattle.card_format.specs.Reading.{card_of}
 use Rattle.stepping.specs.State.{used, holding}
 use Rattle.draws.proofs.Called.{accepted, of_values}
@@ -27,7 +28,6 @@ use Rattle.changes.specs.declared.Change.{Change}
 use Rattle.changes.specs.Change.{changed, Counts, LeastChange}
 use Rattle.changes.proofs.Listing.{length-changed, counts_same, least-same}
 use Rattle.outcomes.specs.declared.Known.{Known}
-use Rattle.change_order.specs.declared.Best.TheVariants as best
 use Rattle.outcomes.specs.Elsewhere.{elsewhere, Listed}
 use Rattle.candidates.specs.Best.{Sound, LeadsOver, BestOf}
 use Rattle.picks.specs.declared.Pick.TheVariants.{Shovel}
@@ -37,7 +37,7 @@ use Rattle.picks.proofs.Choice.{ties_from_one, drawn-rank_lt}
 use Rattle.pick.specs.declared.listing.Listing.{Listing}
 use Rattle.pick.proofs.Passed.{Free}
 use Rattle.margins.specs.declared.Nearest.{Nearest}
-use Rattle.margins.specs.declared.Margin.TheVariants.{Least, Refused}
+use Rattle.std.specs.Prelude.{Ok, Err, None, Some}
 use Rattle.margins.specs.Margins.{Elsewhere, Tells, IsMargin}
 use Rattle.margins.proofs.Changed.{rank_at, at_rank, changed_pick_lem, elsewhere_test}
 use Rattle.margins.proofs.Answers.{margin_passed}
@@ -111,13 +111,13 @@ module _ (bytes xs shovels times : List ℕ) (given : Card) (l : Listing) (f : F
   abbrev Test : List ℕ → Type 0
   Test ys = elsewhere known shovels ys ≡ true
 
-  pub found_nothing : BestOf shovels times Test (length times) best.Nothing → IsMargin bytes xs shovels times (Refused no_such_change.number)
+  pub found_nothing : BestOf shovels times Test (length times) None → IsMargin bytes xs shovels times (Err (number NoSuchChange))
   unfolding LeadsOver
   found_nothing h =
-      (margin_passed bytes xs shovels times f.none (Refused no_such_change.number)).1
+      (margin_passed bytes xs shovels times f.none (Err (number NoSuchChange))).1
       (refl, λ c k. h.leads c k.listed ((counts_same times Test (Elsewhere bytes xs shovels times) wanted c).1 k))
 
-  module _ (c : Change) (h : BestOf shovels times Test (length times) (best.Least c)) where
+  module _ (c : Change) (h : BestOf shovels times Test (length times) (Some c)) where
     pub found_counts : Counts times Test c
     unfolding Sound
     found_counts = h.sound
@@ -129,8 +129,8 @@ module _ (bytes xs shovels times : List ℕ) (given : Card) (l : Listing) (f : F
     -- told with the pick by the words
     pub found_least : (n : Nearest) → let ys = changed times c in let r = ranked known.width known.words (ties ys) in
         (n.seconds ≡ c.seconds) × (n.changed ≡ get_or shovels c.place 0) × (n.raised ≡ c.raised)
-        → n.shovel ≡ chosen shovels ys r.rank → n.ties ≡ ties ys → n.taken ≡ r.taken → IsMargin bytes xs shovels times (Least n)
-    found_least n t es ek et = (margin_passed bytes xs shovels times f.none (Least n)).1 (c, least, tells)
+        → n.shovel ≡ chosen shovels ys r.rank → n.ties ≡ ties ys → n.taken ≡ r.taken → IsMargin bytes xs shovels times (Ok n)
+    found_least n t es ek et = (margin_passed bytes xs shovels times f.none (Ok n)).1 (c, least, tells)
       where
         ys : List ℕ
         ys = changed times c

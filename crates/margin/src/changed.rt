@@ -28,11 +28,7 @@ fn changed_times(times: &[u32], c: Change) -> [u32; MOST_SHOVELS]
     ensures { take (length times.now) result ≡ changed times.now c }
 {
     let mut list = [0u32; MOST_SHOVELS];
-    let mut j = 0;
-    while j < times.len() {
-        list[j] = times[j];
-        j += 1;
-    }
+    list[..times.len()].copy_from_slice(times);
     let i = c.place;
     list[i] = moved_by(times[i], c.raised, c.seconds);
     list
@@ -48,12 +44,10 @@ pub fn told(known: Known, shovels: &[u16], times: &[u32], c: Change) -> Nearest
     ensures taken { result.taken ≡ (ranked known.width known.words (ties (changed times.now c))).taken }
 {
     let list = changed_times(times, c);
-    let m = times.len();
-    let p = chosen::pick_by(known, shovels, &list[..m]);
-    let i = c.place;
+    let p = chosen::pick_by(known, shovels, &list[..times.len()]);
     Nearest {
         seconds: c.seconds,
-        changed: shovels[i],
+        changed: shovels[c.place],
         raised: c.raised,
         shovel: p.shovel,
         ties: p.ties as u8,

@@ -17,8 +17,7 @@ use Rattle.picks.specs.Picks.{pick_refusal, picking}
 use Rattle.picks.proofs.Picking.{pick_passed}
 use Rattle.picks.proofs.Choice.{refusal-reordered, pick_order}
 use Rattle.margins.specs.declared.Nearest.{Nearest}
-use Rattle.margins.specs.declared.Margin.{Margin}
-use Rattle.margins.specs.declared.Margin.TheVariants.{Least, Refused}
+use Rattle.std.specs.Prelude.{Result, Ok, Err}
 use Rattle.margins.specs.Margins.{Apart, Elsewhere, Tells, IsMargin}
 use Rattle.margins.proofs.Answers.{Passed, margin_passed, margin_refused, margin_one}
 
@@ -57,25 +56,25 @@ module _ (bytes xs : List ℕ) (f : ℕ → ℕ) (shovels times : List ℕ) (s :
           changed_pick = sym (same_pick (changed times (there f c))) ∙ sym (ap (picking bytes xs (reordered f shovels)) (changed-reordered f times permutes c lc)) ∙ t.changed_pick;
         }
 
-    passed_there : (m : Margin) → Passed bytes xs (reordered f shovels) (reordered f times) m → Passed bytes xs shovels times m
-    passed_there (Refused r) h = (h.0, λ g k. let b = counts_back f times permutes There Here same g k in h.1 b.0 b.2)
-    passed_there (Least n) h =
+    passed_there : (m : Result Nearest ℕ) → Passed bytes xs (reordered f shovels) (reordered f times) m → Passed bytes xs shovels times m
+    passed_there (Err r) h = (h.0, λ g k. let b = counts_back f times permutes There Here same g k in h.1 b.0 b.2)
+    passed_there (Ok n) h =
         (there f h.0, least_there f times permutes There Here same shovels allowed.paired h.0 h.1, tells_there h.0 n h.1.counts.listed h.2)
 
   same-refusal : pick_refusal bytes xs (reordered f shovels) (reordered f times) ≡ pick_refusal bytes xs shovels times
   same-refusal = refusal-reordered f shovels times s bytes xs
 
-  is_there : (m : Margin) → IsMargin bytes xs (reordered f shovels) (reordered f times) m → IsMargin bytes xs shovels times m
+  is_there : (m : Result Nearest ℕ) → IsMargin bytes xs (reordered f shovels) (reordered f times) m → IsMargin bytes xs shovels times m
   is_there m h = go (ℕ_discrete (pick_refusal bytes xs shovels times) 0)
     where
       go : Dec (pick_refusal bytes xs shovels times ≡ 0) → IsMargin bytes xs shovels times m
       go (yes z) = (margin_passed bytes xs shovels times z m).1 (passed_there (pick_passed bytes xs shovels times z).1 m ((margin_passed bytes xs (reordered f shovels) (reordered f times) (same-refusal ∙ z) m).0 h))
       go (no n) =
           let refused = (margin_refused bytes xs (reordered f shovels) (reordered f times) (λ z. n (sym same-refusal ∙ z)) m).0 h in
-          (margin_refused bytes xs shovels times n m).1 (refused ∙ ap Refused same-refusal)
+          (margin_refused bytes xs shovels times n m).1 (refused ∙ ap Err same-refusal)
 
 -- the same shovels with the same times in any order, the same answer
 pub margin_order : (bytes xs shovels times shovels₂ times₂ : List ℕ) → SameShovels shovels times shovels₂ times₂
-    → (m m₂ : Margin) → IsMargin bytes xs shovels times m → IsMargin bytes xs shovels₂ times₂ m₂ → m₂ ≡ m
+    → (m m₂ : Result Nearest ℕ) → IsMargin bytes xs shovels times m → IsMargin bytes xs shovels₂ times₂ m₂ → m₂ ≡ m
 margin_order bytes xs shovels times shovels₂ times₂ h m m₂ a b =
     margin_one bytes xs shovels times m₂ m (is_there bytes xs h.order shovels times h.permutes m₂ (rw (h.numbers, h.durations) at b)) a

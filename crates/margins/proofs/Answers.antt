@@ -4,17 +4,17 @@ use mathlib.Core.Logic.{◌↔◌, ◌≢◌}
 use mathlib.Core.List.{List}
 use Prim.Native.Nat.{ℕ}
 use native.Mathlib.Decide.{ℕ_discrete}
-use Rattle.refusals.specs.Refusals.{no_such_change}
+use Rattle.refusals.specs.Refusals.{number}
+use Rattle.refusals.specs.declared.Refusal.TheVariants.{NoSuchChange}
 use Rattle.tie_list.proofs.Allowed.{Allowed}
 use Rattle.changes.specs.declared.Change.{Change}
-use Rattle.changes.specs.Change.{changed, Counts, LeastChange}
+use Rattle.changes.specs.Change.{Counts, LeastChange}
 use Rattle.changes.proofs.Listing.{least-one}
 use Rattle.picks.specs.declared.Pick.{Pick}
 use Rattle.picks.specs.Picks.{pick_refusal, words_taken}
 use Rattle.picks.proofs.Picking.{shovel_of, ties_of, pick_passed, picking-refused, picking-chosen}
 use Rattle.margins.specs.declared.Nearest.{Nearest}
-use Rattle.margins.specs.declared.Margin.{Margin}
-use Rattle.margins.specs.declared.Margin.TheVariants.{Least, Refused}
+use Rattle.std.specs.Prelude.{Result, Ok, Err}
 use Rattle.margins.specs.Margins.{Elsewhere, Tells, Answer, IsMargin}
 
 module _ (bytes xs shovels times : List ℕ) where
@@ -35,20 +35,20 @@ module _ (bytes xs shovels times : List ℕ) where
       }
 
   -- what is answered where the pick is not refused
-  abbrev pub Passed : Margin → Type 0
-  Passed (Refused r) = (r ≡ no_such_change.number) × ((c : Change) → Counts times (Elsewhere bytes xs shovels times) c → ⊥)
-  Passed (Least n) = (c : Change) × LeastChange shovels times (Elsewhere bytes xs shovels times) c × Tells bytes xs shovels times c n
+  abbrev pub Passed : Result Nearest ℕ → Type 0
+  Passed (Err r) = (r ≡ number NoSuchChange) × ((c : Change) → Counts times (Elsewhere bytes xs shovels times) c → ⊥)
+  Passed (Ok n) = (c : Change) × LeastChange shovels times (Elsewhere bytes xs shovels times) c × Tells bytes xs shovels times c n
 
   -- the answer by another pick
-  by_pick : (m : Margin) {p q : Pick} → p ≡ q → Answer bytes xs shovels times p m → Answer bytes xs shovels times q m
+  by_pick : (m : Result Nearest ℕ) {p q : Pick} → p ≡ q → Answer bytes xs shovels times p m → Answer bytes xs shovels times q m
   by_pick m e = subst (λ (p : Pick). Answer bytes xs shovels times p m) e
 
-  pub margin_passed : pick_refusal bytes xs shovels times ≡ 0 → (m : Margin) → IsMargin bytes xs shovels times m ↔ Passed m
+  pub margin_passed : pick_refusal bytes xs shovels times ≡ 0 → (m : Result Nearest ℕ) → IsMargin bytes xs shovels times m ↔ Passed m
   unfolding IsMargin
-  margin_passed z (Refused r) = let e = (picking-chosen bytes xs shovels times z).0 in (by_pick (Refused r) (sym e), by_pick (Refused r) e)
-  margin_passed z (Least n) = let e = (picking-chosen bytes xs shovels times z).0 in (by_pick (Least n) (sym e), by_pick (Least n) e)
+  margin_passed z (Err r) = let e = (picking-chosen bytes xs shovels times z).0 in (by_pick (Err r) (sym e), by_pick (Err r) e)
+  margin_passed z (Ok n) = let e = (picking-chosen bytes xs shovels times z).0 in (by_pick (Ok n) (sym e), by_pick (Ok n) e)
 
-  pub margin_refused : pick_refusal bytes xs shovels times ≢ 0 → (m : Margin) → IsMargin bytes xs shovels times m ↔ (m ≡ Refused (pick_refusal bytes xs shovels times))
+  pub margin_refused : pick_refusal bytes xs shovels times ≢ 0 → (m : Result Nearest ℕ) → IsMargin bytes xs shovels times m ↔ (m ≡ Err (pick_refusal bytes xs shovels times))
   unfolding IsMargin
   margin_refused n m = let e = (picking-refused bytes xs shovels times _ n refl).0 in (by_pick m (sym e), by_pick m e)
 
@@ -58,16 +58,16 @@ module _ (bytes xs shovels times : List ℕ) where
     allowed : Allowed shovels times
     allowed = (pick_passed bytes xs shovels times none).1
 
-    passed-one : (m m₂ : Margin) → Passed m → Passed m₂ → m ≡ m₂
-    passed-one (Refused r) (Refused r₂) a b = ap Refused (a.0 ∙ sym b.0)
-    passed-one (Refused r) (Least n₂) a b = absurd (a.1 b.0 b.1.counts)
-    passed-one (Least n) (Refused r₂) a b = absurd (b.1 a.0 a.1.counts)
-    passed-one (Least n) (Least n₂) a b =
+    passed-one : (m m₂ : Result Nearest ℕ) → Passed m → Passed m₂ → m ≡ m₂
+    passed-one (Err r) (Err r₂) a b = ap Err (a.0 ∙ sym b.0)
+    passed-one (Err r) (Ok n₂) a b = absurd (a.1 b.0 b.1.counts)
+    passed-one (Ok n) (Err r₂) a b = absurd (b.1 a.0 a.1.counts)
+    passed-one (Ok n) (Ok n₂) a b =
         let same = least-one shovels times allowed.once allowed.paired (Elsewhere bytes xs shovels times) a.0 b.0 a.1 b.1 in
-        ap Least (tells-one b.0 n n₂ (subst (λ (c : Change). Tells bytes xs shovels times c n) same a.2) b.2)
+        ap Ok (tells-one b.0 n n₂ (subst (λ (c : Change). Tells bytes xs shovels times c n) same a.2) b.2)
 
   -- THERE IS ONE ANSWER
-  pub margin_one : (m m₂ : Margin) → IsMargin bytes xs shovels times m → IsMargin bytes xs shovels times m₂ → m ≡ m₂
+  pub margin_one : (m m₂ : Result Nearest ℕ) → IsMargin bytes xs shovels times m → IsMargin bytes xs shovels times m₂ → m ≡ m₂
   margin_one m m₂ a b = go (ℕ_discrete (pick_refusal bytes xs shovels times) 0)
     where
       go : Dec (pick_refusal bytes xs shovels times ≡ 0) → m ≡ m₂
@@ -75,16 +75,16 @@ module _ (bytes xs shovels times : List ℕ) where
       go (no n) = (margin_refused n m).0 a ∙ sym ((margin_refused n m₂).0 b)
 
   -- an answer that is no refusal is of a pick that is not refused
-  pub margin_pick : (n : Nearest) → IsMargin bytes xs shovels times (Least n) → pick_refusal bytes xs shovels times ≡ 0
+  pub margin_pick : (n : Nearest) → IsMargin bytes xs shovels times (Ok n) → pick_refusal bytes xs shovels times ≡ 0
   margin_pick n a = go (ℕ_discrete (pick_refusal bytes xs shovels times) 0)
     where
       go : Dec (pick_refusal bytes xs shovels times ≡ 0) → pick_refusal bytes xs shovels times ≡ 0
       go (yes z) = z
-      go (no ne) = absurd (is_least ((margin_refused ne (Least n)).0 a))
+      go (no ne) = absurd (is_least ((margin_refused ne (Ok n)).0 a))
         where
-          told : Margin → Type 0
-          told (Least n) = Unit {0}
-          told (Refused r) = ⊥
+          told : Result Nearest ℕ → Type 0
+          told (Ok n) = Unit {0}
+          told (Err r) = ⊥
 
-          is_least : {r : ℕ} → Least n ≡ Refused r → ⊥
+          is_least : {r : ℕ} → Ok n ≡ Err r → ⊥
           is_least e = subst told e tt

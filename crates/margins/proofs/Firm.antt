@@ -9,7 +9,8 @@ use native.Mathlib.Omega.{arith}
 use borrow.Author.Tests.{not-true}
 use lib.Dec.{leb}
 use lib.ListN.{length, get_or}
-use Rattle.refusals.specs.Refusals.{no_such_change}
+use Rattle.refusals.specs.Refusals.{number}
+use Rattle.refusals.specs.declared.Refusal.TheVariants.{NoSuchChange}
 use Rattle.card_format.specs.Reading.{card_of}
 use Rattle.ties.specs.Ties.{ties, has_rank}
 use Rattle.ties.proofs.Least.{ties-some}
@@ -24,8 +25,7 @@ use Rattle.picks.specs.Picks.{pick_refusal, picking}
 use Rattle.picks.proofs.Picking.{pick_passed, picking-refused}
 use Rattle.picks.proofs.Choice.{drawn-rank_lt, pick_chooses}
 use Rattle.margins.specs.declared.Nearest.{Nearest}
-use Rattle.margins.specs.declared.Margin.{Margin}
-use Rattle.margins.specs.declared.Margin.TheVariants.{Least, Refused}
+use Rattle.std.specs.Prelude.{Result, Ok, Err}
 use Rattle.margins.specs.Margins.{Apart, Elsewhere, Tells, IsMargin}
 use Rattle.margins.proofs.Changed.{rank_at, elsewhere_test}
 use Rattle.margins.proofs.Answers.{Passed, margin_passed, margin_pick}
@@ -47,14 +47,14 @@ module _ (bytes xs shovels times : List ℕ) where
 
   -- ---- what is told
 
-  told : (n : Nearest) → IsMargin bytes xs shovels times (Least n) → Passed bytes xs shovels times (Least n)
-  told n h = (margin_passed bytes xs shovels times (margin_pick bytes xs shovels times n h) (Least n)).0 h
+  told : (n : Nearest) → IsMargin bytes xs shovels times (Ok n) → Passed bytes xs shovels times (Ok n)
+  told n h = (margin_passed bytes xs shovels times (margin_pick bytes xs shovels times n h) (Ok n)).0 h
 
-  pub told_counts : (n : Nearest) → IsMargin bytes xs shovels times (Least n)
+  pub told_counts : (n : Nearest) → IsMargin bytes xs shovels times (Ok n)
       → (c : Change) × Counts times (Elsewhere bytes xs shovels times) c × Tells bytes xs shovels times c n
   told_counts n h = let t = told n h in (t.0, t.1.counts, t.2)
 
-  pub told_least : (n : Nearest) → IsMargin bytes xs shovels times (Least n) → (e : Change) → Counts times (Elsewhere bytes xs shovels times) e
+  pub told_least : (n : Nearest) → IsMargin bytes xs shovels times (Ok n) → (e : Change) → Counts times (Elsewhere bytes xs shovels times) e
       → let number = get_or shovels e.place 0 in
       (n.seconds ≤ e.seconds) × (n.seconds ≡ e.seconds → n.changed ≤ number)
       × (n.seconds ≡ e.seconds → n.changed ≡ number → n.raised ≡ true → e.raised ≡ true)
@@ -70,13 +70,13 @@ module _ (bytes xs shovels times : List ℕ) where
   -- ---- 19
 
   module _ (none : pick_refusal bytes xs shovels times ≡ 0) where
-    pub firm-exactly : (m : Margin) → IsMargin bytes xs shovels times m
-        → (m ≡ Refused no_such_change.number) ↔ ((c : Change) → Counts times (Elsewhere bytes xs shovels times) c → ⊥)
-    firm-exactly m h = (λ e. ((margin_passed bytes xs shovels times none (Refused no_such_change.number)).0 (subst (IsMargin bytes xs shovels times) e h)).1, back m ((margin_passed bytes xs shovels times none m).0 h))
+    pub firm-exactly : (m : Result Nearest ℕ) → IsMargin bytes xs shovels times m
+        → (m ≡ Err (number NoSuchChange)) ↔ ((c : Change) → Counts times (Elsewhere bytes xs shovels times) c → ⊥)
+    firm-exactly m h = (λ e. ((margin_passed bytes xs shovels times none (Err (number NoSuchChange))).0 (subst (IsMargin bytes xs shovels times) e h)).1, back m ((margin_passed bytes xs shovels times none m).0 h))
       where
-        back : (m : Margin) → Passed bytes xs shovels times m → ((c : Change) → Counts times (Elsewhere bytes xs shovels times) c → ⊥) → m ≡ Refused no_such_change.number
-        back (Refused r) p f = ap Refused p.0
-        back (Least n) p f = absurd (f p.0 p.1.counts)
+        back : (m : Result Nearest ℕ) → Passed bytes xs shovels times m → ((c : Change) → Counts times (Elsewhere bytes xs shovels times) c → ⊥) → m ≡ Err (number NoSuchChange)
+        back (Err r) p f = ap Err p.0
+        back (Ok n) p f = absurd (f p.0 p.1.counts)
 
     -- of one shovel every pick is to that
     pub alone-firm : length times ≡ 1 → (c : Change) → Counts times (Elsewhere bytes xs shovels times) c → ⊥

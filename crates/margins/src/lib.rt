@@ -12,10 +12,3 @@ pub struct Nearest {
     pub ties: u8,
     pub taken: u8,
 }
-
-// What margin answers: that, or the refusal.
-#[derive(Clone, Copy)]
-pub enum Margin {
-    Least(Nearest),
-    Refused(u8),
-}

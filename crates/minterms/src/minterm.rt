@@ -15,9 +15,7 @@ pub fn minterm_of(low: u32, s: State, c: u32) -> u32
     ensures { HasBits result (λ i. bit i low * one (eqb (column i (take few_words s.words)) c)) }
 {
     let mut t = low;
-    let mut k = FEW_WORDS;
-    while 0 < k {
-        k -= 1;
+    for k in (0..FEW_WORDS).rev() {
         t = t & (s.words[k] ^ !mask::spread(c, k as u32));
     }
     t

@@ -8,8 +8,8 @@ ghost use Rattle.columns.specs.Replace.{HasColumns, Replaced};
 
 use super::minterm;
 use columns::few::{FEW_ENTRIES, FEW_WORDS};
-use tsc::{MOST_WORDS, State, TABLE_SIZE};
-use words::byte::widened;
+use columns::power::Powers;
+use tsc::{MOST_WORDS, State};
 use words::mask;
 
 // A state with an entry's image added to the columns of t: the odd power's where the selector has a 1, the even power's where it has a 0.
@@ -18,36 +18,26 @@ fn put(s: State, t: u32, selector: u32, odd: u32, even: u32) -> State
     ensures by_index { (k : ℕ) → few_words ≤ k → get_or result.words k 0 ≡ get_or s.words k 0 }
 {
     let mut out = s;
-    let mut k = 0;
-    while k < FEW_WORDS {
+    for k in 0..FEW_WORDS {
         let odd_bits = mask::spread(odd, k as u32);
         let even_bits = mask::spread(even, k as u32);
         out.words[k] = s.words[k] | (t & mask::join(selector, odd_bits, even_bits));
-        k += 1;
     }
     out
 }
 
 // The columns in `low` of the first words, each put through the power that its selector bit picks.
-pub fn replace_columns<'a>(
-    odd: &'a [u8; TABLE_SIZE],
-    even: &'a [u8; TABLE_SIZE],
-    s: State,
-    selector: u32,
-    low: u32,
-) -> State
-    ensures { Replaced few_words odd.now even.now s.words selector low result.words }
+pub fn replace_columns(powers: &Powers, s: State, selector: u32, low: u32) -> State
+    ensures { Replaced few_words powers.now.odd powers.now.even s.words selector low result.words }
 {
     let mut out = State {
         words: [0; MOST_WORDS],
     };
-    let mut c = 0;
-    while c < FEW_ENTRIES {
-        let odd_image = widened(odd[c]);
-        let even_image = widened(even[c]);
+    for c in 0..FEW_ENTRIES {
+        let odd_image = u32::from(powers.odd[c]);
+        let even_image = u32::from(powers.even[c]);
         let holders = minterm::minterm_of(low, s, c as u32);
         out = put(out, holders, selector, odd_image, even_image);
-        c += 1;
     }
     out
 }

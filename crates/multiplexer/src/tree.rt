@@ -17,10 +17,8 @@ fn chosen(f: [u32; LEAVES], size: usize, x: u32) -> [u32; LEAVES]
     ensures { HasPicked size f (λ i. bit i x) result }
 {
     let mut g = f;
-    let mut j = 0;
-    while j < size {
+    for j in 0..size {
         g[j] = mask::join(x, f[size + j], f[j]);
-        j += 1;
     }
     g
 }
@@ -31,9 +29,7 @@ fn looked_up(leaves: [u32; LEAVES], s: State) -> [u32; LEAVES]
 {
     let mut f = leaves;
     let mut size = LEAVES;
-    let mut k = FEW_WORDS;
-    while 0 < k {
-        k -= 1;
+    for k in (0..FEW_WORDS).rev() {
         size = size / 2;
         let g = chosen(f, size, s.words[k]);
         f = g;
@@ -50,10 +46,8 @@ pub fn replace_columns(leaves: [u32; LEAVES], s: State, selector: u32, low: u32)
     let mut out = State {
         words: [0; MOST_WORDS],
     };
-    let mut k = 0;
-    while k < FEW_WORDS {
+    for k in 0..FEW_WORDS {
         out.words[k] = low & mask::join(selector, f[FEW_WORDS + k], f[k]);
-        k += 1;
     }
     out
 }

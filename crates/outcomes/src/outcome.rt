@@ -8,7 +8,6 @@ ghost use Rattle.outcomes.specs.Elsewhere.{IsOutcome, elsewhere, Several};
 
 use super::Known;
 use sample::many;
-use tie_others::bit;
 use tie_others::others::Others;
 use tries::row;
 
@@ -18,6 +17,19 @@ pub struct Outcome {
     pub ties: usize,
     pub tie: bool,
     pub rank: usize,
+}
+
+// The shovel of a list whose time varies, at a place, with what the others come to, compared with the chosen shovel's number.
+#[derive(Drop)]
+pub struct Varied<'a> {
+    pub known: &'a Known,
+    pub shovels: &'a [u16],
+    pub times: &'a [u32],
+    pub place: usize,
+    pub others: Others,
+    pub ghost several: { Several known.now shovels.now times.now },
+    pub ghost listed: { place < length times.now },
+    pub ghost compared: { IsOthers shovels.now times.now place (get_or shovels.now known.now.chosen 0) (length times.now) others },
 }
 
 // Whether the chosen shovel is a tie where the ties have time x: by its time t, unless it is the changed one.
@@ -30,67 +42,57 @@ fn tie_at(own: bool, tie: bool, t: u32, x: u32) -> bool
     t == x
 }
 
-// The ties where the time at place i is v. The search has found the others, compared with the chosen shovel's number.
-fn outcome_of(known: Known, shovels: &[u16], times: &[u32], i: usize, o: Others, v: u32) -> Outcome
-    requires several { Several known shovels.now times.now × (i < length times.now) }
-    requires others { IsOthers shovels.now times.now i (get_or shovels.now known.chosen 0) (length times.now) o }
-    ensures { IsOutcome shovels.now (set times.now i v) known.chosen result }
-{
-    let p = known.chosen;
-    let x = shovels[i];
-    let lower = bit::count(x < shovels[p]);
-    if v < o.time {
-        return Outcome {
-            ties: 1,
-            tie: p == i,
-            rank: lower,
-        };
-    }
-    if v == o.time {
-        return Outcome {
-            ties: o.ties + 1,
-            tie: tie_at(p == i, true, times[p], o.time),
-            rank: o.lower + lower,
-        };
-    }
-    Outcome {
-        ties: o.ties,
-        tie: tie_at(p == i, false, times[p], o.time),
-        rank: o.lower,
-    }
-}
-
 // Whether a pick with such ties is not refused and goes elsewhere: the chosen shovel is no tie, or has another rank than the one drawn. A list has a tie at least,
 // and no more than shovels.
-fn leaves(known: Known, o: Outcome) -> bool
-    requires { (known.width ≤ widest_width) × (0 < o.ties) × (o.ties ≤ most_shovels) }
-    ensures { result ≡ (leb o.ties (2 ^ known.width) && not (o.tie && eqb o.rank (ranked known.width known.words o.ties).rank)) }
+fn leaves(known: &Known, o: Outcome) -> bool
+    requires { (known.now.width ≤ widest_width) × (0 < o.ties) × (o.ties ≤ most_shovels) }
+    ensures { result ≡ (leb o.ties (2 ^ known.now.width) && not (o.tie && eqb o.rank (ranked known.now.width known.now.words o.ties).rank)) }
 {
     let k = o.ties as u32;
-    if many::ties_refusal(known.width, k) != 0 {
+    if many::ties_refusal(known.width, k).is_err() {
         return false;
     }
     if !o.tie {
         return true;
     }
-    let words = known.words;
-    let drawn = row::rank_among(known.width, words, k);
+    let drawn = row::rank_among(known.width, known.words, k);
     o.rank != drawn.rank as usize
 }
 
-// Whether it does where the time at place i is v. The search has found the others, as above.
-pub fn goes_elsewhere(
-    known: Known,
-    shovels: &[u16],
-    times: &[u32],
-    i: usize,
-    o: Others,
-    v: u32,
-) -> bool
-    requires several { Several known shovels.now times.now × (i < length times.now) }
-    requires others { IsOthers shovels.now times.now i (get_or shovels.now known.chosen 0) (length times.now) o }
-    ensures { result ≡ elsewhere known shovels.now (set times.now i v) }
-{
-    let found = outcome_of(known, shovels, times, i, o, v);
-    leaves(known, found)
+impl Varied<'_> {
+    // The ties where the shovel's time is v.
+    fn outcome_of(&self, v: u32) -> Outcome
+        ensures { IsOutcome self.now.shovels.now (set self.now.times.now self.now.place v) self.now.known.now.chosen result }
+    {
+        let i = self.place;
+        let p = self.known.chosen;
+        let o = self.others;
+        let lower = usize::from(self.shovels[i] < self.shovels[p]);
+        if v < o.time {
+            return Outcome {
+                ties: 1,
+                tie: p == i,
+                rank: lower,
+            };
+        }
+        if v == o.time {
+            return Outcome {
+                ties: o.ties + 1,
+                tie: tie_at(p == i, true, self.times[p], o.time),
+                rank: o.lower + lower,
+            };
+        }
+        Outcome {
+            ties: o.ties,
+            tie: tie_at(p == i, false, self.times[p], o.time),
+            rank: o.lower,
+        }
+    }
+
+    // Whether a pick is not refused and goes elsewhere where the shovel's time is v.
+    pub fn goes_elsewhere(&self, v: u32) -> bool
+        ensures { result ≡ elsewhere self.now.known.now self.now.shovels.now (set self.now.times.now self.now.place v) }
+    {
+        leaves(self.known, self.outcome_of(v))
+    }
 }

@@ -15,9 +15,8 @@ use Rattle.tsc.specs.Step.{orbit}
 use Rattle.tsc.specs.Word.{orbit_words}
 use Rattle.tsc.proofs.Step.{orbit_in_range}
 use Rattle.tsc.proofs.Word.{length-orbit_words, orbit_words_at}
-use Rattle.cycle.proofs.Lists.{over, over_suc, length_over}
-use Rattle.selectors.specs.declared.selector.Terms.{Terms}
-use Rattle.stepping.specs.State.{used, Holds, holding, Steps}
+use Rattle.cycle.proofs.Lists.{over, over_suc}
+use Rattle.stepping.specs.State.{used, Holds, holding}
 use Rattle.stepping.proofs.Holding.{held, holds}
 use Rattle.outputs.specs.declared.next.Output.{Output}
 use Rattle.outputs.specs.Output.{output}
@@ -36,10 +35,6 @@ module _ (card : Card) (xs : List ℕ) (count : ℕ) (ws : List ℕ) (room : cou
   module _ (sx : IsState card xs) (k : ℕ) (s : State) (words : List ℕ) (w : Written card xs count ws k s words) where
     pub written-holds : Holds card s
     written-holds = rw w.state (holds card (orbit card xs k) (orbit_in_range card xs sx k))
-
-    pub written-length : length words ≡ length ws
-    written-length =
-        ap length w.written ∙ length_over (orbit_words card xs count) ws k (omega (arith, w.some, length-orbit_words card xs count)) (omega (arith, w.some))
 
     pub written_next : k < count → (o : Output) → o ≡ output card (used card s) → Written card xs count ws (k + 1) o.state (set words k o.word)
     unfolding iterate
@@ -78,15 +73,8 @@ module _ (P : Card → Type 0) (start : State) (count : ℕ) (ws : List ℕ) (ro
     pub row-holds : (card : Card) → P card → Holds card s
     row-holds card p = written-holds card (used card start) count ws room (held card p).0 k s words (row card p)
 
-    pub row-length : (card : Card) → P card → length words ≡ length ws
-    row-length card p = written-length card (used card start) count ws room (held card p).0 k s words (row card p)
-
     pub row_next : k < count → (o : Output) → ((card : Card) → P card → o ≡ output card (used card s)) → Row P start count ws (k + 1) o.state (set words k o.word)
     row_next l o e card p = written_next card (used card start) count ws room (held card p).0 k s words (row card p) l o (e card p)
 
     pub row-all : count ≤ k → (card : Card) → P card → (s ≡ holding (orbit card (used card start) count)) × (words ≡ orbit_words card (used card start) count ++ drop count ws)
     row-all l card p = written_all card (used card start) count ws room k s words (row card p) l
-
--- the same step from another state
-pub steps-at : (card : Card) (terms : Terms) (odd even : List ℕ) (start s : State) → Steps card terms odd even start → Holds card s → Steps card terms odd even s
-steps-at card terms odd even start s st h = record { accepted = st.accepted; holds = h; selects = st.selects; first = st.first; second = st.second }

@@ -5,11 +5,12 @@ ghost use Rattle.filters.specs.Rotations.{rotations_of};
 ghost use Rattle.stepping.specs.State.{used, Steps};
 ghost use Rattle.outputs.specs.Output.{output};
 
+use columns::power::Powers;
 use filters::filter;
 use filters::filter::Rotations;
 use selectors::selector::Terms;
 use stepping::step;
-use tsc::{State, TABLE_SIZE};
+use tsc::State;
 
 // The state that a step comes to, and its word.
 #[derive(Clone, Copy)]
@@ -19,17 +20,11 @@ pub struct Output {
 }
 
 // The next state of the orbit with its word, by what a call works out once: the selector's terms, the filter's rotations and the powers.
-pub fn next_output<'a>(
-    terms: Terms,
-    rotations: Rotations,
-    odd: &'a [u8; TABLE_SIZE],
-    even: &'a [u8; TABLE_SIZE],
-    s: State,
-) -> Output
-    requires { (card : Card) × Steps card terms odd.now even.now s × (rotations ≡ rotations_of card) }
-    ensures { (card : Card) → Steps card terms odd.now even.now s → rotations ≡ rotations_of card → result ≡ output card (used card s) }
+pub fn next_output(terms: Terms, rotations: Rotations, powers: &Powers, s: State) -> Output
+    requires { (card : Card) × Steps card terms powers.now.odd powers.now.even s × (rotations ≡ rotations_of card) }
+    ensures { (card : Card) → Steps card terms powers.now.odd powers.now.even s → rotations ≡ rotations_of card → result ≡ output card (used card s) }
 {
-    let after = step::next_state(terms, odd, even, s);
+    let after = step::next_state(terms, powers, s);
     Output {
         state: after,
         word: filter::word_by(rotations, after),

@@ -9,24 +9,24 @@ ghost use Rattle.filters.specs.Rotations.{rotations_of};
 ghost use Rattle.gates.specs.Tsc1.{OnlyTsc1};
 ghost use Rattle.multiplexer.specs.Leaves.{HasLeaves};
 ghost use Rattle.stepping.specs.State.{used, Holds, holding, Steps};
-ghost use Rattle.outputs.specs.Output.{output};
+ghost use Rattle.outputs.specs.Output.{output, StepsByLeaves};
 
 use super::next::Output;
-use super::{next, tsc1};
+use super::{fill, next, tsc1};
 use columns::few::FEW_WORDS;
-use columns::power;
 use filters::filter;
 use filters::filter::Rotations;
 use multiplexer::leaves::LEAVES;
 use multiplexer::{leaves, tree};
 use selectors::selector;
 use selectors::selector::Terms;
+use stepping::step;
 use tsc::{Card, State};
 
 // The next state of the orbit with its word, as `next_output` gives it, for the many words of a row of a card of few words: by the leaves of the powers.
 fn next_in_row(terms: Terms, leaves: [u32; LEAVES], rotations: Rotations, s: State) -> Output
-    requires { (card : Card) × (odd : List ℕ) × (even : List ℕ) × Steps card terms odd even s × (rotations ≡ rotations_of card) × (card.words ≤ few_words) × HasLeaves odd even leaves }
-    ensures { (card : Card) (odd even : List ℕ) → Steps card terms odd even s → rotations ≡ rotations_of card → card.words ≤ few_words → HasLeaves odd even leaves → result ≡ output card (used card s) }
+    requires { (card : Card) × StepsByLeaves card terms leaves rotations s }
+    ensures { (card : Card) → StepsByLeaves card terms leaves rotations s → result ≡ output card (used card s) }
 {
     let select = selector::selector_by(terms, s, FEW_WORDS);
     let after = tree::replace_columns(leaves, s, select, terms.width.low);
@@ -42,24 +42,16 @@ fn fill_few(card: Card, s: State, count: usize, words: &mut [u32]) -> State
     ensures value { result ≡ holding (orbit card (used card s) count) }
     ensures words_after { words.new ≡ orbit_words card (used card s) count ++ drop count words.old }
 {
-    let p = power::powers_of(
-        &card.table,
-        card.words as u32,
-        card.odd_power as u32,
-        card.even_power as u32,
-    );
+    let p = step::forward(&card);
     let terms = selector::terms_of(card);
     let rotations = filter::rotations_of(card);
-    let leaves = leaves::leaves_of(&p.odd, &p.even);
-    let mut held = s;
-    let mut k = 0;
-    while k < count {
-        let drawn = next_in_row(terms, leaves, rotations, held);
-        words[k] = drawn.word;
-        held = drawn.state;
-        k += 1;
-    }
-    held
+    let leaves = leaves::leaves_of(&p);
+    fill::fill_by(
+        |state: State| next_in_row(terms, leaves, rotations, state),
+        s,
+        count,
+        words,
+    )
 }
 
 // The same for a card of more words.
@@ -68,23 +60,15 @@ fn fill_many(card: Card, s: State, count: usize, words: &mut [u32]) -> State
     ensures value { result ≡ holding (orbit card (used card s) count) }
     ensures words_after { words.new ≡ orbit_words card (used card s) count ++ drop count words.old }
 {
-    let p = power::powers_of(
-        &card.table,
-        card.words as u32,
-        card.odd_power as u32,
-        card.even_power as u32,
-    );
+    let p = step::forward(&card);
     let terms = selector::terms_of(card);
     let rotations = filter::rotations_of(card);
-    let mut held = s;
-    let mut at = 0;
-    while at < count {
-        let drawn = next::next_output(terms, rotations, &p.odd, &p.even, held);
-        words[at] = drawn.word;
-        held = drawn.state;
-        at += 1;
-    }
-    held
+    fill::fill_by(
+        |state: State| next::next_output(terms, rotations, &p, state),
+        s,
+        count,
+        words,
+    )
 }
 
 // The words of the next states of the orbit, so many of them, over the first words lent, and the last of these states; by the gate formulas where the caller

@@ -6,6 +6,7 @@ ghost use Rattle.gates.specs.Tsc1.{tsc1_card};
 ghost use Rattle.stepping.specs.State.{used, Holds, holding};
 ghost use Rattle.outputs.specs.Output.{output};
 
+use super::fill;
 use super::next::Output;
 use gates::step;
 use tsc::State;
@@ -42,13 +43,5 @@ pub fn fill_words(s: State, count: usize, words: &mut [u32]) -> State
     ensures value { result ≡ holding (orbit tsc1_card (used tsc1_card s) count) }
     ensures words_after { words.new ≡ orbit_words tsc1_card (used tsc1_card s) count ++ drop count words.old }
 {
-    let mut held = s;
-    let mut k = 0;
-    while k < count {
-        let drawn = next_output(held);
-        words[k] = drawn.word;
-        held = drawn.state;
-        k += 1;
-    }
-    held
+    fill::fill_by(next_output, s, count, words)
 }

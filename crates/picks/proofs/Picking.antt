@@ -6,7 +6,9 @@ use Prim.Native.Nat.{ℕ, ◌^◌, ◌≤◌, ◌<◌}
 use native.Mathlib.Omega.{arith}
 use borrow.Author.Tests.{ne_eqb}
 use Rattle.tsc.specs.declared.Card.{Card}
-use Rattle.refusals.specs.Refusals.{Check, first_of}
+use Rattle.refusals.specs.declared.Refusal.{Refusal}
+use Rattle.refusals.specs.Refusals.{Check, number, first_of}
+use Rattle.refusals.proofs.Answers.{number_nonzero}
 use Rattle.card_format.specs.Reading.{card_of}
 use Rattle.refusals.proofs.Refusals.{first-left, first_right, first_both}
 use Rattle.draws.specs.Calls.{call_checks, refusal_for}
@@ -39,9 +41,9 @@ module _ (bytes xs shovels times : List ℕ) where
   later = list_checks shovels times ++ many_checks
 
   -- the card or the state is refused, or else the list, or else the count of ties
-  pub told_call : (r : ℕ) → r ≡ refusal_for bytes xs → r ≢ 0 → r ≡ pick_refusal bytes xs shovels times
+  pub told_call : (e : Refusal) → refusal_for bytes xs ≡ number e → pick_refusal bytes xs shovels times ≡ number e
   unfolding refusal_for pick_refusal
-  told_call r e ne = e ∙ sym (first-left (call_checks bytes xs) later (λ z. ne (e ∙ z)))
+  told_call e r = first-left (call_checks bytes xs) later (λ z. number_nonzero e (sym r ∙ z)) ∙ r
 
   pub refusal_later : refusal_for bytes xs ≡ 0 → first_of later ≡ pick_refusal bytes xs shovels times
   unfolding refusal_for pick_refusal
@@ -66,6 +68,10 @@ module _ (bytes xs shovels times : List ℕ) where
       → (Refused r ≡ picking bytes xs shovels times) × (xs ≡ picked bytes xs shovels times)
   unfolding picking picked
   picking-refused r ne e = rw (sym e) (simp (ne_eqb r 0 ne), simp (ne_eqb r 0 ne))
+
+  -- as the code refuses
+  pub refused_pick : (e : Refusal) → pick_refusal bytes xs shovels times ≡ number e → (Refused (number e) ≡ picking bytes xs shovels times) × (xs ≡ picked bytes xs shovels times)
+  refused_pick e q = picking-refused (number e) (number_nonzero e) (sym q)
 
   pub picking-chosen : pick_refusal bytes xs shovels times ≡ 0 → let card = card_of bytes in let k = ties times in
       (Shovel (chosen shovels times (drawn_rank card xs k)) k (taken card xs k) ≡ picking bytes xs shovels times)

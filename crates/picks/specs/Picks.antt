@@ -1,6 +1,7 @@
 -- What a pick answers and what the lent state words are after it (document 01, Step, word and pick; document 02, Two), for any bytes, words and lists.
-use Rattle.std.specs.Prelude.{cond, List, ◌++◌, ℕ, eqb}
-use Rattle.refusals.specs.Refusals.{Check, first_of}
+use Rattle.std.specs.Prelude.{cond, List, ◌++◌, ℕ, eqb, Result, Ok, Err}
+use Rattle.refusals.specs.declared.Refusal.{Refusal}
+use Rattle.refusals.specs.Refusals.{Check, number, first_of}
 use Rattle.card_format.specs.Reading.{card_of}
 use Rattle.samples.specs.Samples.{taken, drawn_rank, drawn_state, tie_checks}
 use Rattle.draws.specs.Calls.{call_checks}
@@ -24,6 +25,11 @@ picking bytes xs shovels times =
     let k = ties times in
     let r = pick_refusal bytes xs shovels times in
     cond (eqb r 0) (Shovel (chosen shovels times (drawn_rank card xs k)) k (taken card xs k)) (Refused r)
+
+-- the answer of code that hands its refusals on
+abbrev pub answering : Result Pick Refusal → Pick
+answering (Ok p) = p
+answering (Err e) = Refused (number e)
 
 -- how many words a pick tells that it took; none where it is refused
 abbrev pub words_taken : Pick → ℕ

@@ -1,15 +1,14 @@
--- What is on the map: the test of a coordinate, and what follows of places that are not refused.
+-- What is on the map, and what follows of places that are not refused.
 use mathlib.Core.Path.{◌≡◌, refl, sym, ap, subst, ◌∙◌}
 use mathlib.Core.Logic.{◌↔◌}
 use mathlib.Core.Bool.{Bool, true, false, ◌&&◌, and-eq-true_iff, true≢false}
 use mathlib.Core.List.{List}
-use Prim.Native.Nat.{ℕ, suc, ◌≤◌, ◌<◌}
+use Prim.Native.Nat.{ℕ, ◌≤◌, ◌<◌}
 use native.Mathlib.Omega.{arith}
-use borrow.Author.Tests.{ltb-true, ltb-false, le-leb, lt-leb, leb-true, eqb-true, eqb-false, not-false}
+use borrow.Author.Tests.{ltb-false, le-leb, leb-true, eqb-true, eqb-false, not-false}
 use lib.Dec.{eqb}
 use lib.IntN.{ℤ, pos, negsuc}
 use lib.ListN.{length, get_or}
-use lib.Signed.{lt_z, le_z}
 use mir.Syntax.{w32}
 use mir.Val.{SFits}
 use Rattle.cycle.proofs.Every.{every_at}
@@ -17,27 +16,11 @@ use Rattle.refusals.specs.Refusals.{first_of, NoneApplies}
 use Rattle.refusals.proofs.Refusals.{none_first}
 use Rattle.ties.specs.Ties.{most_shovels, twice}
 use Rattle.places.specs.Distances.{distances}
-use Rattle.places.specs.Places.{most_coordinate, most_radius, most_squared, paired, is_on_map, all_on_map, on_map, is_radius, place_checks, Measurable}
+use Rattle.places.specs.Places.{most_radius, most_squared, paired, is_on_map, all_on_map, on_map, is_radius, place_checks, Measurable}
 use Rattle.places.proofs.Signed.{read, read_back}
 use Rattle.places.proofs.Distances.{squared_le, distance_is}
 
--- ---- the tests of a coordinate and of a radius
-
-pub too_low : (c : ℤ) → lt_z c (negsuc 999999) ≡ true → is_on_map c ≡ false
-too_low (pos n) e = absurd (true≢false (sym e))
-too_low (negsuc n) e = let h : 999999 < n = ltb-true 999999 n e in lt-leb (suc n) most_coordinate (omega arith)
-
-pub low_enough : (c : ℤ) → lt_z c (negsuc 999999) ≡ false → le_z c (pos most_coordinate) ≡ is_on_map c
-low_enough (pos n) e = refl
-low_enough (negsuc n) e = let h : n ≤ 999999 = ltb-false 999999 n e in sym (le-leb (suc n) most_coordinate (omega arith))
-
-pub negative : (r : ℤ) → lt_z r (pos 0) ≡ true → is_radius r ≡ false
-negative (pos n) e = let h : n < 0 = ltb-true n 0 e in absurd (omega arith)
-negative (negsuc n) e = refl
-
-pub not_negative : (r : ℤ) → lt_z r (pos 0) ≡ false → le_z r (pos most_radius) ≡ is_radius r
-not_negative (pos n) e = refl
-not_negative (negsuc n) e = absurd (true≢false e)
+-- ---- the test of a radius
 
 pub radius_is : (r : ℤ) → (is_radius r ≡ true) ↔ ((n : ℕ) × (r ≡ pos n) × (n ≤ most_radius))
 radius_is (pos n) = ((λ h. (n, refl, leb-true n most_radius h)), (λ f. ap is_radius f.1 ∙ le-leb f.0 most_radius f.2))

@@ -1,7 +1,8 @@
 -- Places on the map, and what is refused of them (document 02, Ten): conditions 12 to 15 with places for times, then 25.
 use Rattle.std.specs.Prelude.{◌≡◌, Bool, true, false, not, ◌&&◌, List, [], ◌∷◌, ◌++◌, ℕ, ◌*◌, eqb, leb, ℤ, pos, negsuc, nat_abs, length, get_or}
 use Rattle.cycle.specs.Notation.{every}
-use Rattle.refusals.specs.Refusals.{Check, check, length_mismatch, off_map}
+use Rattle.refusals.specs.Refusals.{Check, check}
+use Rattle.refusals.specs.declared.Refusal.TheVariants.{LengthMismatch, OffMap}
 use Rattle.tie_list.specs.Checks.{number_checks}
 use Rattle.places.specs.Distances.{distances}
 
@@ -56,7 +57,7 @@ is_radius (negsuc r) = false
 -- 12 to 15, then 25 unless coordinates, and a radius where there is one, are allowed
 unfoldable pub place_checks : List ℕ → List ℤ → List ℤ → Bool → List Check
 place_checks shovels xs ys allowed =
-    check length_mismatch (not (paired shovels xs ys)) ∷ (number_checks shovels ++ check off_map (not allowed) ∷ [])
+    check LengthMismatch (not (paired shovels xs ys)) ∷ (number_checks shovels ++ check OffMap (not allowed) ∷ [])
 
 -- what is asked where distances are worked out: as many ys as xs, and all of it on the map
 pub record Measurable (x y : ℤ) (xs ys : List ℤ) : Type 0 where

@@ -1,5 +1,6 @@
 // Places on the map: squared distances, and what is refused. Both are defined in specs/.
 #![tactic(auto)]
 
-pub mod distance;
+pub mod around;
+mod distance;
 pub mod map;

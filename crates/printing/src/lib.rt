@@ -1,30 +1,36 @@
-// Words printed, for the program.
+// Words printed and input read, for the programs.
 #![tactic(auto)]
 
-ghost use Rattle.std.specs.Prelude.{◌≡◌};
+ghost use Rattle.std.specs.Prelude.{◌≤◌, length, IfOk};
 
-use std::io;
-use std::io::Write;
+use std::io::Read;
+use std::{fmt, io};
 
-// A word as it is printed.
-fn wide(x: u32) -> u64
-    ensures { result ≡ x }
-{
-    x as u64
-}
+// Words as eight hex digits each, after a space.
+#[derive(Clone, Copy)]
+pub struct Words<'a>(pub &'a [u32]);
 
-// A word as eight hex digits, after a space.
-pub fn print_word<W: Write>(out: &mut W, x: u32) -> io::Result<()> {
-    let word = wide(x);
-    write!(out, " {word:08x}")
-}
-
-// Each word so.
-pub fn print_words<W: Write>(out: &mut W, words: &[u32]) -> io::Result<()> {
-    let mut k = 0;
-    while k < words.len() {
-        print_word(out, words[k])?;
-        k += 1;
+impl<'a> fmt::Display for Words<'a> {
+    fn fmt<W: fmt::Write>(&self, f: &mut fmt::Formatter<W>) -> fmt::Result {
+        for word in self.0 {
+            write!(f, " {word:08x}")?;
+        }
+        Ok(())
     }
-    Ok(())
+}
+
+// Reads to the end of the input or of the slice, how many bytes then stand at its front: a short read is not the end.
+pub fn read_full<R: Read>(from: &mut R, bytes: &mut [u8]) -> io::Result<usize>
+    ensures { IfOk result (λ n. n ≤ length bytes.new) }
+{
+    let mut at = 0;
+    // A `while`: how many reads it takes is known to no iterator.
+    while at < bytes.len() {
+        let more = from.read(&mut bytes[at..])?;
+        if more == 0 {
+            break;
+        }
+        at += more;
+    }
+    Ok(at)
 }

@@ -1,47 +1,27 @@
-// A record read for the desk: every field, and one that lacks as absent.
+// A record read for the desk: every field, and one that lacks as None.
 ghost use Rattle.std.specs.Prelude.{◌≡◌, cond, [], ◌∷◌, ◌+◌, ◌*◌, ◌<◌, ◌≤◌, eqb, length, get_or, drop};
 ghost use Rattle.tsc.specs.Constants.{most_words, widest_width};
 ghost use Rattle.cycle.specs.Notation.{bit};
 ghost use Rattle.card_format.specs.Fields.{numbers};
+ghost use Rattle.refusals.specs.Refusals.{numbered};
 ghost use Rattle.records.specs.Fields.{word_field};
-ghost use Rattle.records.specs.Reading.{optional, held_state, no_record, reading_record};
+ghost use Rattle.records.specs.Reading.{optional, held_state, reading_record};
 
-use card_fields::number::low_first;
 use record_form::form;
-use records::{Optional, Record, RecordReading};
+use records::Record;
+use refusals::Refusal;
 use tsc::{MOST_WORDS, State};
 use words::mask::bit_of;
 
-// The refusal, with nothing read.
-fn torn() -> RecordReading
-    ensures { result ≡ record { refusal = 20; values = no_record } }
-{
-    let state = State {
-        words: [0; MOST_WORDS],
-    };
-    let values = Record {
-        truck: 0,
-        shovel: 0,
-        ties: Optional::Absent,
-        taken: Optional::Absent,
-        words: Optional::Absent,
-        state: state,
-    };
-    RecordReading {
-        refusal: refusals::MALFORMED_RECORD,
-        values: values,
-    }
-}
-
 // The byte at a place where bit k of the map stands, and nothing where it does not. A whole record has it there.
-fn optional_at(bytes: &[u8], map: u8, k: u32, at: usize) -> Optional
+fn optional_at(bytes: &[u8], map: u8, k: u32, at: usize) -> Option<u8>
     requires { (k < widest_width) × (bit k map ≡ 1 → at < length bytes.now) }
     ensures { result ≡ optional (cond (eqb (bit k map) 1) (get_or bytes.now at 0 ∷ []) []) }
 {
     if bit_of(map as u32, k) == 1 {
-        return Optional::Value(bytes[at]);
+        return Some(bytes[at]);
     }
-    Optional::Absent
+    None
 }
 
 // A state of m words of four bytes, at the start of the part. The record is whole, and so has them, here and below.
@@ -49,16 +29,12 @@ fn state_from(part: &[u8], m: usize) -> State
     requires { (m ≤ most_words) × (4 * m ≤ length part.now) }
     ensures { result ≡ held_state (numbers (word_field m) part.now) }
 {
-    let mut s = State {
-        words: [0; MOST_WORDS],
-    };
-    let mut k = 0;
-    while k < m {
+    let mut words = [0; MOST_WORDS];
+    for k in 0..m {
         let at = 4 * k;
-        s.words[k] = low_first(part[at], part[at + 1], part[at + 2], part[at + 3]);
-        k += 1;
+        words[k] = u32::from_le_bytes([part[at], part[at + 1], part[at + 2], part[at + 3]]);
     }
-    s
+    State { words }
 }
 
 // The state whose field would stand at this place: its words, and zeros past them; all zeros where the record has none.
@@ -74,26 +50,21 @@ fn state_of(bytes: &[u8], at: usize) -> State
     state_from(&bytes[at + 1..], bytes[at] as usize)
 }
 
-// Any bytes as a record: 0 and every field, or refusal 20.
-pub fn read_record(bytes: &[u8]) -> RecordReading
-    ensures { result ≡ reading_record bytes.now }
+// Any bytes as a record: every field, or refusal 20.
+pub fn read_record(bytes: &[u8]) -> Result<Record, Refusal>
+    ensures { numbered result ≡ reading_record bytes.now }
 {
     if !form::is_whole(bytes) {
-        return torn();
+        return Err(Refusal::MalformedRecord);
     }
     let map = bytes[0];
     let at = form::state_at(map);
-    let state = state_of(bytes, at);
-    let values = Record {
+    Ok(Record {
         truck: form::half_at(bytes, form::TRUCK_AT),
         shovel: form::half_at(bytes, form::SHOVEL_AT),
         ties: optional_at(bytes, map, form::TIES, form::TIES_AT),
         taken: optional_at(bytes, map, form::TAKEN, form::taken_at(map)),
         words: optional_at(bytes, map, form::STATE, at),
-        state: state,
-    };
-    RecordReading {
-        refusal: 0,
-        values: values,
-    }
+        state: state_of(bytes, at),
+    })
 }

@@ -38,17 +38,14 @@ pub fn half_at(bytes: &[u8], at: usize) -> u16
     requires { at + 1 < length bytes.now }
     ensures { result ≡ get_or bytes.now at 0 + get_or bytes.now (at + 1) 0 * 256 }
 {
-    bytes[at] as u16 + bytes[at + 1] as u16 * 256
+    u16::from_le_bytes([bytes[at], bytes[at + 1]])
 }
 
 // The byte at a place, or 0 where the bytes end before it.
 pub fn byte_at(bytes: &[u8], at: usize) -> u8
     ensures { result ≡ get_or bytes.now at 0 }
 {
-    if bytes.len() <= at {
-        return 0;
-    }
-    bytes[at]
+    bytes.get(at).copied().unwrap_or(0)
 }
 
 // Whether bytes are a whole record.

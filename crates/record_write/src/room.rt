@@ -8,8 +8,5 @@ use tsc::MOST_WORDS;
 pub fn lacks_room(m: usize, room: usize) -> bool
     ensures { result ≡ lacks_room m room }
 {
-    if MOST_WORDS < m {
-        return true;
-    }
-    room < 8 + 4 * m
+    MOST_WORDS < m || room < 8 + 4 * m
 }

@@ -5,32 +5,16 @@ ghost use Rattle.card_format.specs.Fields.{bytes_of};
 ghost use Rattle.records.specs.Fields.{word_field, record_bytes};
 ghost use Rattle.records.specs.Writing.{encoded, recorded_on, full_record};
 
-use card_fields::number::put_number;
-
 // The map of a record that has every field.
 const FULL: u8 = 31;
-
-// Bytes at the start of a page.
-fn put_bytes(bytes: &[u8], page: &mut [u8])
-    requires { length bytes.now ≤ length page.old }
-    ensures { page.new ≡ recorded_on bytes.now page.old }
-{
-    let mut i = 0;
-    while i < bytes.len() {
-        page[i] = bytes[i];
-        i += 1;
-    }
-}
 
 // Words of four bytes, low byte first, at the start of the part.
 fn put_words(words: &[u32], part: &mut [u8])
     requires { 4 * length words.now ≤ length part.old }
     ensures { part.new ≡ bytes_of (word_field (length words.now)) words.now ++ drop (4 * length words.now) part.old }
 {
-    let mut k = 0;
-    while k < words.len() {
-        put_number(words[k], 4, &mut part[4 * k..]);
-        k += 1;
+    for k in 0..words.len() {
+        part[4 * k..4 * k + 4].copy_from_slice(&words[k].to_le_bytes());
     }
 }
 
@@ -39,16 +23,18 @@ pub fn put_record(truck: u16, shovel: u16, ties: u8, taken: u8, state: &[u32], p
     requires { (length state.now ≤ most_words) × (record_bytes (length state.now) ≤ length page.old) }
     ensures { page.new ≡ recorded_on (encoded (full_record truck shovel ties taken state.now)) page.old }
 {
+    let [truck_low, truck_high] = truck.to_le_bytes();
+    let [shovel_low, shovel_high] = shovel.to_le_bytes();
     let head = [
         FULL,
-        (truck % 256) as u8,
-        (truck / 256) as u8,
-        (shovel % 256) as u8,
-        (shovel / 256) as u8,
+        truck_low,
+        truck_high,
+        shovel_low,
+        shovel_high,
         ties,
         taken,
         state.len() as u8,
     ];
-    put_bytes(&head, page);
+    page[..8].copy_from_slice(&head);
     put_words(state, &mut page[8..]);
 }

@@ -8,6 +8,7 @@ ghost use Rattle.recorded_picks.specs.Recorded.{recorded_picking, recorded_state
 use super::refusal;
 use picks::Pick;
 use record_write::{room, write};
+use refusals::Refusal;
 use state_words::lent;
 use tsc::State;
 
@@ -19,8 +20,7 @@ fn record_tie(picked: Pick, truck: u16, held: State, m: usize, page: &mut [u8])
     match picked {
         Pick::Shovel(shovel, ties, taken) => {
             if ties != 1 {
-                let words = held.words;
-                write::put_record(truck, shovel, ties, taken, &words[..m], page);
+                write::put_record(truck, shovel, ties, taken, &held.words[..m], page);
             }
         }
         Pick::Refused(_) => {}
@@ -43,11 +43,10 @@ pub fn pick_recorded(
 {
     let m = state.len();
     if room::lacks_room(m, page.len()) {
-        let told = refusal::pick_refusal(card, state, shovels, times);
-        if told != 0 {
-            return Pick::Refused(told);
-        }
-        return Pick::Refused(refusals::BUFFER_TOO_SMALL);
+        return match refusal::pick_refusal(card, state, shovels, times) {
+            Ok(()) => Pick::from(Refusal::BufferTooSmall),
+            Err(told) => Pick::from(told),
+        };
     }
     let held = lent::load(state);
     let picked = pick::call::pick(card, state, shovels, times);

@@ -23,8 +23,7 @@ use Rattle.picks.specs.Picks.{pick_refusal, picking, words_taken, picked}
 use Rattle.picks.proofs.Picking.{shovel_of, ties_of, pick_passed, ties-few}
 use Rattle.picks.proofs.Choice.{pick_chooses}
 use Rattle.records.specs.Fields.{record_bytes}
-use Rattle.records.specs.declared.Record.{Record}
-use Rattle.records.specs.declared.RecordReading.{RecordReading}
+use Rattle.std.specs.Prelude.{Ok}
 use Rattle.records.specs.Reading.{Whole, record_of, reading_record}
 use Rattle.records.specs.Writing.{state_of, encoded, Fits, full_record, recorded_on}
 use Rattle.records.proofs.Full.{state_full, length_full, full_fits}
@@ -101,8 +100,8 @@ module _ (bytes xs shovels times : List ℕ) (room s k t : ℕ) (answer : record
         let z = state-fits in
         ap length left_is ∙ length_full truck s k t xs lt f.0 f.1 f.2 (omega (arith, z.1)) ∙ ap record_bytes (word_size bytes xs shovels times unrefused)
 
-    pub record_read : Whole left × (reading_record left ≡ record { refusal = 0; values = full_record truck s k t xs })
-    record_read = (record_whole, reading_whole left record_whole ∙ ap {B = RecordReading} (λ (r : Record). record { refusal = 0; values = r }) record_back)
+    pub record_read : Whole left × (reading_record left ≡ Ok (full_record truck s k t xs))
+    record_read = (record_whole, reading_whole left record_whole ∙ ap Ok record_back)
 
     -- it stands at the front of the page
     pub page-left : (page : List ℕ) → length page ≡ room → let n = record_bytes (card_of bytes).words in let after = recorded_page bytes xs shovels times truck page in
@@ -111,9 +110,9 @@ module _ (bytes xs shovels times : List ℕ) (room s k t : ℕ) (answer : record
     page-left page e = rw e (take_at left _ _ record_length, drop_at left _ _ record_length ∙ ap (λ (n : ℕ). drop n page) record_length)
 
     -- a pick from the state that is read
-    pub record_replayed : (r : RecordReading) → r ≡ record { refusal = 0; values = full_record truck s k t xs } → let ys = state_of r.values in
+    pub record_replayed : let ys = state_of (full_record truck s k t xs) in
         (picking bytes ys shovels times ≡ Shovel s k t) × (picked bytes ys shovels times ≡ recorded_state bytes xs shovels times room)
-    record_replayed r e = rw (ap (λ (r : RecordReading). state_of r.values) e ∙ state_full truck s k t xs) (as_picked.0, sym as_picked.1)
+    record_replayed = rw (state_full truck s k t xs) (as_picked.0, sym as_picked.1)
 
 -- without a tie the page is as it was
 pub page-kept : (bytes xs shovels times : List ℕ) (truck : ℕ) (page : List ℕ) (s t : ℕ) → recorded_picking bytes xs shovels times (length page) ≡ Shovel s 1 t

@@ -2,14 +2,17 @@
 use mathlib.Core.Path.{◌≡◌, refl, sym, ap, ◌∙◌}
 use mathlib.Core.Logic.{◌≢◌}
 use mathlib.Core.Bool.{Bool, true, false, cond, ◌||◌, true≢false}
-use mathlib.Core.List.{List, []}
+use mathlib.Core.List.{List}
 use Prim.Native.Nat.{ℕ, ◌<◌, ◌≤◌}
 use native.Mathlib.Decide.{ℕ_discrete}
 use native.Mathlib.Omega.{arith}
 use borrow.Author.Tests.{ltb-true, ltb-false, lt-ltb, le-ltb, ne_eqb}
 use lib.Dec.{ltb}
 use lib.ListN.{length}
-use Rattle.refusals.specs.Refusals.{first_of}
+use Rattle.refusals.specs.declared.Refusal.{Refusal}
+use Rattle.refusals.specs.declared.Refusal.TheVariants.{BufferTooSmall}
+use Rattle.refusals.specs.Refusals.{number, first_of}
+use Rattle.refusals.proofs.Answers.{number_nonzero}
 use Rattle.refusals.proofs.Refusals.{first-left, first_right}
 use Rattle.tsc.specs.Constants.{most_words}
 use Rattle.card_format.specs.Reading.{card_of}
@@ -105,19 +108,20 @@ call_refused bytes xs shovels times truck page r ne e =
     let a = recorded_refused bytes xs shovels times (length page) r ne e in
     (sym a.0, (sym a.1, sym (ap (λ (p : Pick). recorded_on (record_left truck xs p) page) a.0)))
 
--- by what the pick refuses, r; or, where that is 0, by 16
-module _ (bytes xs shovels times : List ℕ) (truck : ℕ) (page : List ℕ) {r : ℕ} (e : r ≡ pick_refusal bytes xs shovels times) where
-  pub call_told : r ≢ 0 → (Refused r ≡ recorded_picking bytes xs shovels times (length page)) × ((xs ≡ recorded_state bytes xs shovels times (length page))
+-- by what the pick refuses; or, where that is nothing, by 16
+module _ (bytes xs shovels times : List ℕ) (truck : ℕ) (page : List ℕ) where
+  pub call_told : (e : Refusal) → pick_refusal bytes xs shovels times ≡ number e
+      → (Refused (number e) ≡ recorded_picking bytes xs shovels times (length page)) × ((xs ≡ recorded_state bytes xs shovels times (length page))
       × (page ≡ recorded_page bytes xs shovels times truck page))
-  call_told ne = call_refused bytes xs shovels times truck page r ne (told_pick bytes xs shovels times (length page) (λ z. ne (e ∙ z)) ∙ sym e)
+  call_told e q =
+      call_refused bytes xs shovels times truck page (number e) (number_nonzero e) (told_pick bytes xs shovels times (length page) (λ z. number_nonzero e (sym q ∙ z)) ∙ q)
 
-  pub call_small : r ≡ 0 → {b : Bool} → b ≡ lacks_room (length xs) (length page) → b ≡ true
-      → (Refused 16 ≡ recorded_picking bytes xs shovels times (length page)) × ((xs ≡ recorded_state bytes xs shovels times (length page))
+  pub call_small : pick_refusal bytes xs shovels times ≡ 0 → lacks_room (length xs) (length page) ≡ true
+      → (Refused (number BufferTooSmall) ≡ recorded_picking bytes xs shovels times (length page)) × ((xs ≡ recorded_state bytes xs shovels times (length page))
       × (page ≡ recorded_page bytes xs shovels times truck page))
-  call_small z eb t =
-      let none = sym e ∙ z in
-      let small = no_room (length xs) (length page) (word-few bytes xs shovels times none) (sym eb ∙ t) in
-      call_refused bytes xs shovels times truck page 16 (λ e. absurd (omega arith)) (told_small bytes xs shovels times (length page) none small)
+  call_small none t =
+      let small = no_room (length xs) (length page) (word-few bytes xs shovels times none) t in
+      call_refused bytes xs shovels times truck page (number BufferTooSmall) (number_nonzero BufferTooSmall) (told_small bytes xs shovels times (length page) none small)
 
 -- made: the pick answers p and leaves ys, and its record is put on the page
 pub call_made : (bytes xs shovels times : List ℕ) (truck : ℕ) (page : List ℕ) {p : Pick} {ys left : List ℕ} → record_bytes (length xs) ≤ length page

@@ -1,6 +1,7 @@
 -- What a recorded pick answers, and what the lent state words and the page are after it (document 02, Seven), for any bytes, words, lists, truck and page.
 use Rattle.std.specs.Prelude.{cond, List, [], ◌∷◌, ◌++◌, ℕ, ◌<◌, eqb, ltb, length, get_or}
-use Rattle.refusals.specs.Refusals.{Check, check, first_of, buffer_too_small}
+use Rattle.refusals.specs.Refusals.{Check, check, first_of}
+use Rattle.refusals.specs.declared.Refusal.TheVariants.{BufferTooSmall}
 use Rattle.card_format.specs.Reading.{card_of}
 use Rattle.records.specs.Fields.{record_bytes}
 use Rattle.records.specs.Writing.{encoded, recorded_on, full_record}
@@ -20,7 +21,7 @@ record_left truck xs (Refused r) = []
 module _ (bytes xs shovels times : List ℕ) (room : ℕ) where
   -- what it looks at: what a pick does, then 16, tie or not
   abbrev pub recorded_checks : List Check
-  recorded_checks = pick_checks bytes xs shovels times ++ (check buffer_too_small (ltb room (record_bytes (card_of bytes).words)) ∷ [])
+  recorded_checks = pick_checks bytes xs shovels times ++ (check BufferTooSmall (ltb room (record_bytes (card_of bytes).words)) ∷ [])
 
   unfoldable pub recorded_refusal : ℕ
   recorded_refusal = first_of recorded_checks

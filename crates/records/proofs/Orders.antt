@@ -6,9 +6,9 @@ use mathlib.Core.List.{List}
 use Prim.Native.Nat.{ℕ}
 use borrow.Author.Tests.{eqb-true, eq-eqb, ne_eqb}
 use lib.Dec.{eqb}
-use Rattle.refusals.specs.Refusals.{first_of, malformed_record, truck_mismatch}
-use Rattle.records.specs.declared.Order.{Order}
-use Rattle.records.specs.declared.Order.TheVariants.{Shovel, Refused}
+use Rattle.refusals.specs.Refusals.{first_of, number}
+use Rattle.refusals.specs.declared.Refusal.TheVariants.{MalformedRecord, TruckMismatch}
+use Rattle.std.specs.Prelude.{Result, Ok, Err}
 use Rattle.records.specs.Reading.{is_whole, Whole, record_of}
 use Rattle.records.specs.Orders.{order_for, heard, SameOrder}
 
@@ -18,21 +18,21 @@ unfolding order_for first_of
 order-heard cab bytes = go (is_whole bytes) (eqb cab (record_of bytes).truck)
   where
     go : (w t : Bool) → let s = (record_of bytes).shovel in
-        let r = cond (not w) malformed_record.number (cond (not t) truck_mismatch.number 0) in
-        cond (eqb r 0) (Shovel s) (Refused r) ≡ cond w (cond t (Shovel s) (Refused truck_mismatch.number)) (Refused malformed_record.number)
+        let r = cond (not w) (number MalformedRecord) (cond (not t) (number TruckMismatch) 0) in
+        cond (eqb r 0) (Ok s) (Err r) ≡ cond w (cond t (Ok s) (Err (number TruckMismatch))) (Err (number MalformedRecord))
     go true true = refl
     go true false = refl
     go false true = refl
     go false false = refl
 
 -- by case
-pub order_torn : (cab : ℕ) (bytes : List ℕ) → is_whole bytes ≡ false → order_for cab bytes ≡ Refused 20
+pub order_torn : (cab : ℕ) (bytes : List ℕ) → is_whole bytes ≡ false → order_for cab bytes ≡ Err 20
 order_torn cab bytes t = order-heard cab bytes ∙ rw t refl
 
-pub order_other : (cab : ℕ) (bytes : List ℕ) → Whole bytes → cab ≢ (record_of bytes).truck → order_for cab bytes ≡ Refused 21
+pub order_other : (cab : ℕ) (bytes : List ℕ) → Whole bytes → cab ≢ (record_of bytes).truck → order_for cab bytes ≡ Err 21
 order_other cab bytes w ne = order-heard cab bytes ∙ rw (w, ne_eqb cab _ ne) refl
 
-pub order_own : (cab : ℕ) (bytes : List ℕ) → Whole bytes → cab ≡ (record_of bytes).truck → order_for cab bytes ≡ Shovel (record_of bytes).shovel
+pub order_own : (cab : ℕ) (bytes : List ℕ) → Whole bytes → cab ≡ (record_of bytes).truck → order_for cab bytes ≡ Ok (record_of bytes).shovel
 order_own cab bytes w e = order-heard cab bytes ∙ rw (w, eq-eqb cab _ e) refl
 
 -- two whole records with the same truck and shovel: every cab hears the same
@@ -45,22 +45,22 @@ cabs_alike a b h cab =
 -- ---- and conversely
 
 -- what is heard by a record's own cab tells its shovel, and of another record that it is whole and has the same truck and shovel
-abbrev shovel_in : Order → ℕ
-shovel_in (Shovel s) = s
-shovel_in (Refused r) = 0
+abbrev shovel_in : Result ℕ ℕ → ℕ
+shovel_in (Ok s) = s
+shovel_in (Err r) = 0
 
-abbrev is_order : Order → Bool
-is_order (Shovel s) = true
-is_order (Refused r) = false
+abbrev is_order : Result ℕ ℕ → Bool
+is_order (Ok s) = true
+is_order (Err r) = false
 
-own : (truck shovel : ℕ) → heard truck true truck shovel ≡ Shovel shovel
+own : (truck shovel : ℕ) → heard truck true truck shovel ≡ Ok shovel
 own truck shovel = rw (eq-eqb truck truck refl) refl
 
-heard_back : (cab : ℕ) (w : Bool) (t s s₂ : ℕ) → heard cab w t s ≡ Shovel s₂ → (w ≡ true) × (cab ≡ t) × (s₂ ≡ s)
+heard_back : (cab : ℕ) (w : Bool) (t s s₂ : ℕ) → heard cab w t s ≡ Ok s₂ → (w ≡ true) × (cab ≡ t) × (s₂ ≡ s)
 heard_back cab false t s s₂ e = absurd (true≢false (sym (ap is_order e)))
 heard_back cab true t s s₂ e = go (eqb cab t) refl e
   where
-    go : (b : Bool) → eqb cab t ≡ b → cond b (Shovel s) (Refused truck_mismatch.number) ≡ Shovel s₂ → (true ≡ true) × (cab ≡ t) × (s₂ ≡ s)
+    go : (b : Bool) → eqb cab t ≡ b → cond b (Ok s) (Err (number TruckMismatch)) ≡ Ok s₂ → (true ≡ true) × (cab ≡ t) × (s₂ ≡ s)
     go true q e = (refl, eqb-true cab t q, sym (ap shovel_in e))
     go false q e = absurd (true≢false (sym (ap is_order e)))
 

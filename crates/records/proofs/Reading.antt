@@ -17,10 +17,10 @@ use Rattle.card_format.proofs.Fields.{allowed_at}
 use Rattle.card_format.specs.Reading.{present}
 use Rattle.cycle.proofs.Lists.{take-filled}
 use Rattle.card_format.proofs.Bytes.{cond_le, length-one, byte_lt, bytes_of-numbers, map-bit}
-use Rattle.records.specs.declared.Optional.{Optional}
-use Rattle.records.specs.declared.Optional.TheVariants.{Absent, Value}
+use Rattle.std.specs.Prelude.{Option, None, Some, Ok, Err}
+use Rattle.records.specs.declared.Record.{Record}
 use Rattle.records.specs.Fields.{record_fields, record_field, record_field_count, bit_count, bit_of, extent_at, start_of, numbers_at, word_count_of, record_numbers, record_bytes}
-use Rattle.records.specs.Reading.{is_whole, Whole, optional, record_of, no_record, reading_record}
+use Rattle.records.specs.Reading.{is_whole, Whole, optional, record_of, reading_record}
 use Rattle.records.specs.Writing.{given, word_count, numbers_of, is_given, field_bytes, encoded_to, encoded}
 use Rattle.records.proofs.Fields.{each_field, bit_below, start_suc, start-before, length-numbers_at, Form, whole_form, always, count-number}
 
@@ -124,11 +124,11 @@ pub whole_unique : (a b : List ℕ) → Bytes a → Bytes b → Whole a → Whol
 whole_unique a b ha hb wa wb e = sym (whole_encoded a ha wa) ∙ ap encoded e ∙ whole_encoded b hb wb
 
 -- what the desk is answered
-pub reading_torn : (bytes : List ℕ) → is_whole bytes ≡ false → reading_record bytes ≡ record { refusal = 20; values = no_record }
+pub reading_torn : (bytes : List ℕ) → is_whole bytes ≡ false → reading_record bytes ≡ Err 20
 unfolding reading_record first_of
 reading_torn bytes t = rw t refl
 
-pub reading_whole : (bytes : List ℕ) → Whole bytes → reading_record bytes ≡ record { refusal = 0; values = record_of bytes }
+pub reading_whole : (bytes : List ℕ) → Whole bytes → reading_record bytes ≡ Ok (record_of bytes)
 unfolding reading_record first_of
 reading_whole bytes w = rw w refl
 
@@ -152,22 +152,23 @@ whole_short bytes w =
 
 -- ---- what lacks is absent, and nothing else is
 
-abbrev is_value : Optional → Bool
-is_value Absent = false
-is_value (Value x) = true
+abbrev is_value : Option ℕ → Bool
+is_value None = false
+is_value (Some x) = true
 
-absent-exactly : (b : Bool) (xs : List ℕ) → length xs ≡ cond b 1 0 → (optional xs ≡ Absent) ↔ (b ≡ false)
+absent-exactly : (b : Bool) (xs : List ℕ) → length xs ≡ cond b 1 0 → (optional xs ≡ None) ↔ (b ≡ false)
 absent-exactly true [] e = absurd (omega arith)
 absent-exactly true (x ∷ xs) e = (λ q. absurd (true≢false (ap is_value q)), λ q. absurd (true≢false q))
 absent-exactly false [] e = (λ q. refl, λ q. refl)
 absent-exactly false (x ∷ xs) e = absurd (omega arith)
 
-pub read_absent : (bytes : List ℕ) → Whole bytes → let r = (reading_record bytes).values in
-    ((r.ties ≡ Absent) ↔ (present bytes 2 ≡ false)) × ((r.taken ≡ Absent) ↔ (present bytes 3 ≡ false)) × ((r.words ≡ Absent) ↔ (present bytes 4 ≡ false))
+pub read_absent : (bytes : List ℕ) → Whole bytes → (r : Record) × (reading_record bytes ≡ Ok r)
+    × ((r.ties ≡ None) ↔ (present bytes 2 ≡ false)) × ((r.taken ≡ None) ↔ (present bytes 3 ≡ false)) × ((r.words ≡ None) ↔ (present bytes 4 ≡ false))
 unfolding record_of record_field record_fields
 read_absent bytes w =
-    let c = word_count_of bytes in
-    rw (reading_whole bytes w) (
+    let c = word_count_of bytes in (
+      record_of bytes,
+      reading_whole bytes w,
       absent-exactly (present bytes 2) (record_numbers bytes 2) (length-numbers_at c bytes 2),
       absent-exactly (present bytes 3) (record_numbers bytes 3) (length-numbers_at c bytes 3),
       absent-exactly (present bytes 4) (record_numbers bytes 4) (length-numbers_at c bytes 4),

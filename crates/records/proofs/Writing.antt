@@ -18,17 +18,16 @@ use Rattle.card_format.specs.Fields.{Field, extent, numbers, bytes_of, allowed, 
 use Rattle.card_format.specs.Reading.{present}
 use Rattle.card_format.proofs.Fields.{allowed_at, same_true}
 use Rattle.card_format.proofs.Bytes.{length-cond, length-bytes_of, numbers-bytes_of, flag, map_lt, bit-map}
-use Rattle.records.specs.declared.Optional.{Optional}
-use Rattle.records.specs.declared.Optional.TheVariants.{Absent, Value}
+use Rattle.std.specs.Prelude.{Option, None, Some}
 use Rattle.records.specs.declared.Record.{Record}
 use Rattle.records.specs.Fields.{record_fields, record_field, record_field_count, bit_count, bit_of, start_of, numbers_at, word_count_of, record_numbers}
 use Rattle.records.specs.Reading.{Whole, optional, held_state, record_of}
 use Rattle.records.specs.Writing.{given, word_count, state_of, numbers_of, is_given, field_bytes, encoded_to, encoded, Fits}
 use Rattle.records.proofs.Fields.{each_field, bit_below, Form, form_whole}
 
-optional-given : (o : Optional) → optional (given o) ≡ o
-optional-given Absent = refl
-optional-given (Value x) = refl
+optional-given : (o : Option ℕ) → optional (given o) ≡ o
+optional-given None = refl
+optional-given (Some x) = refl
 
 module _ (r : Record) where
   -- ---- how many bytes they are
@@ -76,9 +75,9 @@ module _ (r : Record) where
     unfolding numbers_of record_field record_fields
     few = go r.words (allow 4 (lit< tt))
       where
-        go : (o : Optional) → allowed (record_field (word_count r) 4) (given o) ≡ true → get_or (given o) 0 0 ≤ most_words
-        go Absent h = omega arith
-        go (Value x) h = (allowed_at (record_field (word_count r) 4) (x ∷ []) h 0 (omega arith)).1
+        go : (o : Option ℕ) → allowed (record_field (word_count r) 4) (given o) ≡ true → get_or (given o) 0 0 ≤ most_words
+        go None h = omega arith
+        go (Some x) h = (allowed_at (record_field (word_count r) 4) (x ∷ []) h 0 (omega arith)).1
 
     length-state : length (state_of r) ≡ word_count r
     length-state =
@@ -95,9 +94,9 @@ module _ (r : Record) where
         each_field (λ k. is_given r (bit_of k) ≡ true → length (numbers_of r k) ≡ (record_field (word_count r) k).count) (λ t. refl) (λ t. refl) (one r.ties)
         (one r.taken) (one r.words) (λ t. length-state)
       where
-        one : (o : Optional) → not (same (given o) []) ≡ true → length (given o) ≡ 1
-        one Absent t = absurd (true≢false (sym t))
-        one (Value x) t = refl
+        one : (o : Option ℕ) → not (same (given o) []) ≡ true → length (given o) ≡ 1
+        one None t = absurd (true≢false (sym t))
+        one (Some x) t = refl
 
     -- one that lacks has none
     lacking : (k : ℕ) → k < record_field_count → is_given r (bit_of k) ≡ false → numbers_of r k ≡ []

@@ -1,14 +1,12 @@
 -- Which bytes are a whole record, what it holds, and what the desk is answered (document 02, Seven).
-use Rattle.std.specs.Prelude.{◌≡◌, Bool, true, cond, not, ◌&&◌, List, [], ◌∷◌, ℕ, ◌%◌, eqb, ltb, length, get_or}
+use Rattle.std.specs.Prelude.{◌≡◌, Bool, true, not, ◌&&◌, List, [], ◌∷◌, ℕ, ◌%◌, eqb, ltb, length, get_or, Option, None, Some, Result}
 use Rattle.cycle.specs.Notation.{zero_filled}
 use Rattle.tsc.specs.declared.State.{State}
 use Rattle.tsc.specs.Constants.{most_words}
-use Rattle.refusals.specs.Refusals.{Check, check, first_of, malformed_record}
+use Rattle.refusals.specs.Refusals.{Check, check, first_of, answered}
+use Rattle.refusals.specs.declared.Refusal.TheVariants.{MalformedRecord}
 use Rattle.card_format.specs.Fields.{allowed}
-use Rattle.records.specs.declared.Optional.{Optional}
-use Rattle.records.specs.declared.Optional.TheVariants.{Absent, Value}
 use Rattle.records.specs.declared.Record.{Record}
-use Rattle.records.specs.declared.RecordReading.{RecordReading}
 use Rattle.records.specs.Fields.{record_field, record_field_count, start_of, word_count_of, record_numbers}
 
 -- map, state count and length are of the form: bits 0 and 1 stand, 5 to 7 do not; the count, where it is given, is allowed; no byte is missing, and none is left
@@ -23,12 +21,12 @@ Whole bytes = is_whole bytes ≡ true
 
 -- condition 20
 abbrev pub record_checks : List ℕ → List Check
-record_checks bytes = check malformed_record (not (is_whole bytes)) ∷ []
+record_checks bytes = check MalformedRecord (not (is_whole bytes)) ∷ []
 
 -- a number that may lack
-abbrev pub optional : List ℕ → Optional
-optional [] = Absent
-optional (x ∷ xs) = Value x
+abbrev pub optional : List ℕ → Option ℕ
+optional [] = None
+optional (x ∷ xs) = Some x
 
 -- the state of these words, as a record holds it
 abbrev pub held_state : List ℕ → State
@@ -46,10 +44,6 @@ record_of bytes =
       state = held_state (record_numbers bytes 5);
     }
 
--- the fields that go with a refusal
-abbrev pub no_record : Record
-no_record = record { truck = 0; shovel = 0; ties = Absent; taken = Absent; words = Absent; state = held_state [] }
-
--- what the desk is answered: 0 and the fields, or 20
-unfoldable pub reading_record : List ℕ → RecordReading
-reading_record bytes = let r = first_of (record_checks bytes) in record { refusal = r; values = cond (eqb r 0) (record_of bytes) no_record }
+-- what the desk is answered: the fields, or 20
+unfoldable pub reading_record : List ℕ → Result Record ℕ
+reading_record bytes = answered (first_of (record_checks bytes)) (record_of bytes)

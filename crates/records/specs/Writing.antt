@@ -1,17 +1,15 @@
 -- The bytes of a record of these fields (document 02, Seven).
-use Rattle.std.specs.Prelude.{◌≡◌, Bool, true, cond, not, List, [], ◌∷◌, ◌++◌, ℕ, zero, suc, ◌^◌, length, get_or, take, drop}
+use Rattle.std.specs.Prelude.{◌≡◌, Bool, true, cond, not, List, [], ◌∷◌, ◌++◌, ℕ, zero, suc, ◌^◌, length, get_or, take, drop, Option, None, Some}
 use Rattle.cycle.specs.Notation.{sum, every}
 use Rattle.card_format.specs.Fields.{bytes_of, allowed, same}
-use Rattle.records.specs.declared.Optional.{Optional}
-use Rattle.records.specs.declared.Optional.TheVariants.{Absent, Value}
 use Rattle.records.specs.declared.Record.{Record}
 use Rattle.records.specs.Fields.{record_field, record_field_count, bit_count, bit_of}
 use Rattle.records.specs.Reading.{held_state}
 
 -- the number of a field that may lack, or none
-abbrev pub given : Optional → List ℕ
-given Absent = []
-given (Value x) = x ∷ []
+abbrev pub given : Option ℕ → List ℕ
+given None = []
+given (Some x) = x ∷ []
 
 -- how many words the state has, 0 where it lacks; and the words
 abbrev pub word_count : Record → ℕ
@@ -55,8 +53,8 @@ full_record truck shovel ties taken xs =
     record {
       truck = truck;
       shovel = shovel;
-      ties = Value ties;
-      taken = Value taken;
-      words = Value (length xs);
+      ties = Some ties;
+      taken = Some taken;
+      words = Some (length xs);
       state = held_state xs;
     }

@@ -4,7 +4,8 @@ use mathlib.Core.Logic.{◌≢◌}
 use mathlib.Core.Bool.{Bool, true, false, cond}
 use mathlib.Core.List.{List, [], ◌∷◌, ◌++◌}
 use native.Mathlib.Omega.{arith}
-use Rattle.refusals.specs.Refusals.{Check, first_of, NoneApplies}
+use Rattle.refusals.specs.Refusals.{Check, number, first_of, NoneApplies}
+use Rattle.refusals.proofs.Numbers.{number_positive}
 
 pub first-none : (cs : List Check) → NoneApplies cs → first_of cs ≡ 0
 unfolding first_of NoneApplies
@@ -16,8 +17,8 @@ unfolding first_of NoneApplies
 none_first [] e = tt
 none_first (c ∷ cs) e = go c.applies e (λ q. none_first cs q)
   where
-    go : (b : Bool) → cond b c.refusal.number (first_of cs) ≡ 0 → (first_of cs ≡ 0 → NoneApplies cs) → (b ≡ false) × NoneApplies cs
-    go true q ih = absurd (omega (arith, c.refusal.positive))
+    go : (b : Bool) → cond b (number c.refusal) (first_of cs) ≡ 0 → (first_of cs ≡ 0 → NoneApplies cs) → (b ≡ false) × NoneApplies cs
+    go true q ih = absurd (omega (arith, number_positive c.refusal))
     go false q ih = (refl, ih q)
 
 -- where none of the first list applies, the second list tells
@@ -32,8 +33,8 @@ unfolding first_of
 first-left [] ds ne = absurd (ne refl)
 first-left (c ∷ cs) ds ne = go c.applies ne (first-left cs ds)
   where
-    go : (b : Bool) → cond b c.refusal.number (first_of cs) ≢ 0 → (first_of cs ≢ 0 → first_of (cs ++ ds) ≡ first_of cs)
-        → cond b c.refusal.number (first_of (cs ++ ds)) ≡ cond b c.refusal.number (first_of cs)
+    go : (b : Bool) → cond b (number c.refusal) (first_of cs) ≢ 0 → (first_of cs ≢ 0 → first_of (cs ++ ds) ≡ first_of cs)
+        → cond b (number c.refusal) (first_of (cs ++ ds)) ≡ cond b (number c.refusal) (first_of cs)
     go true q ih = refl
     go false q ih = ih q
 
@@ -41,7 +42,7 @@ first-left (c ∷ cs) ds ne = go c.applies ne (first-left cs ds)
 pub first_ext : (cs ds es : List Check) → first_of ds ≡ first_of es → first_of (cs ++ ds) ≡ first_of (cs ++ es)
 unfolding first_of
 first_ext [] ds es e = e
-first_ext (c ∷ cs) ds es e = ap (cond c.applies c.refusal.number) (first_ext cs ds es e)
+first_ext (c ∷ cs) ds es e = ap (cond c.applies (number c.refusal)) (first_ext cs ds es e)
 
 pub none_left : (cs ds : List Check) → NoneApplies (cs ++ ds) → NoneApplies cs
 unfolding NoneApplies

@@ -1,92 +1,36 @@
--- The refusals (document 01, Refusal table; document 02 from 17 on): their numbers, each with its trade word, and which of several is told.
-use Rattle.std.specs.Prelude.{◌≡◌, Bool, false, cond, List, [], ◌∷◌, ℕ, ◌<◌, T, ltb}
-use Rattle.std.proofs.Common.{lit<}
+-- The refusals (document 01, Refusal table; document 02 from 17 on): their numbers, each with its trade word, which of several is told, and answers by number.
+use Rattle.std.specs.Prelude.{◌≡◌, Bool, false, cond, List, [], ◌∷◌, ℕ, eqb, Result, Ok, Err}
+use Rattle.refusals.specs.declared.Refusal.{Refusal}
+use Rattle.refusals.specs.declared.Refusal.TheVariants.{Truncated, OutOfRange, Redundant, TableMissing, TrailingBytes, ConstantTooWide, NotSingleCycle, EvenConstant, PowerParity, WordCount, WordTooWide, LengthMismatch, NoShovel, TooManyShovels, DuplicateShovel, BufferTooSmall, SpanOutOfBounds, TooManyTies, NoSuchChange, MalformedRecord, TruckMismatch, StripTooLong, StripWordTooWide, BitPageTooSmall, OffMap, SingleCycle}
 
--- a refusal is a number other than 0: 0 says that nothing is refused
-pub record Refusal : Type 0 where
-  pub number : ℕ
-  pub positive : 0 < number
-
-abbrev pub numbered : (n : ℕ) → T (ltb 0 n) → Refusal
-numbered n p = record { number = n; positive = lit< p }
-
-abbrev pub truncated : Refusal
-truncated = numbered 1 tt  -- short
-
-abbrev pub out_of_range : Refusal
-out_of_range = numbered 2 tt  -- range
-
-abbrev pub redundant : Refusal
-redundant = numbered 3 tt  -- idle
-
-abbrev pub table_missing : Refusal
-table_missing = numbered 4 tt  -- tableless
-
-abbrev pub trailing_bytes : Refusal
-trailing_bytes = numbered 5 tt  -- long
-
-abbrev pub constant_too_wide : Refusal
-constant_too_wide = numbered 6 tt  -- wide
-
-abbrev pub not_single_cycle : Refusal
-not_single_cycle = numbered 7 tt  -- broken ring
-
-abbrev pub even_constant : Refusal
-even_constant = numbered 8 tt  -- even constant
-
-abbrev pub power_parity : Refusal
-power_parity = numbered 9 tt  -- powers
-
-abbrev pub word_count : Refusal
-word_count = numbered 10 tt  -- word count
-
-abbrev pub word_too_wide : Refusal
-word_too_wide = numbered 11 tt  -- high bits
-
-abbrev pub length_mismatch : Refusal
-length_mismatch = numbered 12 tt  -- uneven
-
-abbrev pub no_shovel : Refusal
-no_shovel = numbered 13 tt  -- no shovel
-
-abbrev pub too_many_shovels : Refusal
-too_many_shovels = numbered 14 tt  -- crowd
-
-abbrev pub duplicate_shovel : Refusal
-duplicate_shovel = numbered 15 tt  -- twice
-
-abbrev pub buffer_too_small : Refusal
-buffer_too_small = numbered 16 tt  -- small page
-
-abbrev pub span_out_of_bounds : Refusal
-span_out_of_bounds = numbered 17 tt  -- span
-
-abbrev pub too_many_ties : Refusal
-too_many_ties = numbered 18 tt  -- too many equals
-
-abbrev pub no_such_change : Refusal
-no_such_change = numbered 19 tt  -- firm
-
-abbrev pub malformed_record : Refusal
-malformed_record = numbered 20 tt  -- torn
-
-abbrev pub truck_mismatch : Refusal
-truck_mismatch = numbered 21 tt  -- other truck
-
-abbrev pub strip_too_long : Refusal
-strip_too_long = numbered 22 tt  -- strip too long
-
-abbrev pub strip_word_too_wide : Refusal
-strip_word_too_wide = numbered 23 tt  -- strip bits
-
-abbrev pub bit_page_too_small : Refusal
-bit_page_too_small = numbered 24 tt  -- bit page
-
-abbrev pub off_map : Refusal
-off_map = numbered 25 tt  -- off map
-
-abbrev pub single_cycle : Refusal
-single_cycle = numbered 26 tt  -- sound ring
+-- the number of a refusal: never 0, which says that nothing is refused
+abbrev pub number : Refusal → ℕ
+number Truncated = 1  -- short
+number OutOfRange = 2  -- range
+number Redundant = 3  -- idle
+number TableMissing = 4  -- tableless
+number TrailingBytes = 5  -- long
+number ConstantTooWide = 6  -- wide
+number NotSingleCycle = 7  -- broken ring
+number EvenConstant = 8  -- even constant
+number PowerParity = 9  -- powers
+number WordCount = 10  -- word count
+number WordTooWide = 11  -- high bits
+number LengthMismatch = 12  -- uneven
+number NoShovel = 13  -- no shovel
+number TooManyShovels = 14  -- crowd
+number DuplicateShovel = 15  -- twice
+number BufferTooSmall = 16  -- small page
+number SpanOutOfBounds = 17  -- span
+number TooManyTies = 18  -- too many equals
+number NoSuchChange = 19  -- firm
+number MalformedRecord = 20  -- torn
+number TruckMismatch = 21  -- other truck
+number StripTooLong = 22  -- strip too long
+number StripWordTooWide = 23  -- strip bits
+number BitPageTooSmall = 24  -- bit page
+number OffMap = 25  -- off map
+number SingleCycle = 26  -- sound ring
 
 -- a refusal and whether its condition holds
 pub record Check : Type 0 where
@@ -99,9 +43,23 @@ check r b = record { refusal = r; applies = b }
 -- each is given exactly under its condition once no earlier check applies; 0 where none applies
 unfoldable pub first_of : List Check → ℕ
 first_of [] = 0
-first_of (c ∷ cs) = cond c.applies c.refusal.number (first_of cs)
+first_of (c ∷ cs) = cond c.applies (number c.refusal) (first_of cs)
 
 -- no condition of the list holds
 unfoldable pub NoneApplies : List Check → Type 0
 NoneApplies [] = Unit {0}
 NoneApplies (c ∷ cs) = (c.applies ≡ false) × NoneApplies cs
+
+-- the value x where r is 0, else the refusal of number r
+abbrev pub answered : {A : Type 0} → ℕ → A → Result A ℕ
+answered r x = cond (eqb r 0) (Ok x) (Err r)
+
+-- an answer of the code, with the refusal by its number
+abbrev pub numbered : {A : Type 0} → Result A Refusal → Result A ℕ
+numbered (Ok x) = Ok x
+numbered (Err r) = Err (number r)
+
+-- the number alone: 0 where nothing is refused
+abbrev pub told : {A : Type 0} → Result A Refusal → ℕ
+told (Ok x) = 0
+told (Err r) = number r

@@ -5,13 +5,16 @@ ghost use Rattle.tsc.specs.Constants.{widest_width};
 ghost use Rattle.card_format.specs.Verdict.{Accepted};
 ghost use Rattle.stepping.specs.State.{used, Holds};
 ghost use Rattle.samples.specs.Samples.{most_taken};
+ghost use Rattle.outputs.specs.Output.{Answers};
+ghost use Rattle.tsc.specs.declared.Card.{Card};
 ghost use Rattle.sample.specs.Drawn.{sample};
 
 use super::many;
-use columns::power;
 use filters::filter;
 use outputs::next;
+use outputs::next::Output;
 use selectors::selector;
+use stepping::step;
 use tsc::{Card, State};
 
 // The most words that are taken.
@@ -45,26 +48,21 @@ pub fn decides(n: u32, word: u32, k: u32, taken: u8) -> bool
     below_limit(n, word, k)
 }
 
-// The rank among several ties: by the first word below L, or by the last that may be taken. One alone has rank 0, and the pick draws nothing for it.
-pub fn draw_rank(card: Card, s: State, k: u32) -> Sample
-    requires { Accepted card × Holds card s × (0 < k) × (k ≢ 1) }
-    ensures { result ≡ sample card (used card s) k }
+// The rank among several ties, for words of n bits, by whichever step answers a state with its next one: by the first word below L, or by the last that may be
+// taken.
+pub(crate) fn rank_by<F: Fn(State) -> Output>(next: F, n: u32, s: State, k: u32) -> Sample
+    requires answers { (card : Card) × Answers card (F.pre next) (F.post next) × Holds card s × (card.width ≡ n) }
+    requires several { (n ≤ widest_width) × (0 < k) × (k ≢ 1) }
+    ensures { (card : Card) → Answers card (F.pre next) (F.post next) → Holds card s → card.width ≡ n → result ≡ sample card (used card s) k }
 {
-    let p = power::powers_of(
-        &card.table,
-        card.words as u32,
-        card.odd_power as u32,
-        card.even_power as u32,
-    );
-    let terms = selector::terms_of(card);
-    let rotations = filter::rotations_of(card);
     let mut held = s;
     let mut taken: u8 = 0;
+    // No for: it ends by the word that decides, and the sample is what it yields then.
     loop {
-        let drawn = next::next_output(terms, rotations, &p.odd, &p.even, held);
+        let drawn = next(held);
         held = drawn.state;
         taken += 1;
-        if decides(card.width as u32, drawn.word, k, taken) {
+        if decides(n, drawn.word, k, taken) {
             break Sample {
                 state: held,
                 rank: drawn.word % k,
@@ -72,4 +70,20 @@ pub fn draw_rank(card: Card, s: State, k: u32) -> Sample
             };
         }
     }
+}
+
+// The same for a card. One tie alone has rank 0, and the pick draws nothing for it.
+pub fn draw_rank(card: Card, s: State, k: u32) -> Sample
+    requires { Accepted card × Holds card s × (0 < k) × (k ≢ 1) }
+    ensures { result ≡ sample card (used card s) k }
+{
+    let p = step::forward(&card);
+    let terms = selector::terms_of(card);
+    let rotations = filter::rotations_of(card);
+    rank_by(
+        |state: State| next::next_output(terms, rotations, &p, state),
+        card.width as u32,
+        s,
+        k,
+    )
 }

@@ -14,18 +14,5 @@ pub fn draw_rank(s: State, k: u32) -> Sample
     requires { Holds tsc1_card s × (0 < k) × (k ≢ 1) }
     ensures { result ≡ sample tsc1_card (used tsc1_card s) k }
 {
-    let mut held = s;
-    let mut taken: u8 = 0;
-    loop {
-        let drawn = tsc1::next_output(held);
-        held = drawn.state;
-        taken += 1;
-        if draw::decides(32, drawn.word, k, taken) {
-            break Sample {
-                state: held,
-                rank: drawn.word % k,
-                taken: taken,
-            };
-        }
-    }
+    draw::rank_by(tsc1::next_output, 32, s, k)
 }

@@ -5,7 +5,8 @@ use Prim.Native.Nat.{ℕ, ◌^◌, ◌≤◌, ◌<◌}
 use native.Mathlib.Decide.{dec_lt}
 use native.Mathlib.Omega.{arith}
 use borrow.Author.Tests.{lt-ltb, le-ltb}
-use Rattle.refusals.specs.Refusals.{first_of, too_many_ties}
+use Rattle.refusals.specs.Refusals.{first_of, number}
+use Rattle.refusals.specs.declared.Refusal.TheVariants.{TooManyTies}
 use Rattle.samples.specs.Samples.{tie_checks}
 
 module _ (n k : ℕ) where
@@ -13,7 +14,7 @@ module _ (n k : ℕ) where
   unfolding first_of tie_checks
   ties_fit l = simp (le-ltb (2 ^ n) k l)
 
-  pub ties-over : 2 ^ n < k → first_of (tie_checks n k) ≡ too_many_ties.number
+  pub ties-over : 2 ^ n < k → first_of (tie_checks n k) ≡ number TooManyTies
   unfolding first_of tie_checks
   ties-over l = simp (lt-ltb (2 ^ n) k l)
 

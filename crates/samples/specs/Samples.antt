@@ -5,7 +5,8 @@ use Rattle.cycle.specs.Fair.{largest_multiple}
 use Rattle.tsc.specs.declared.Card.{Card}
 use Rattle.tsc.specs.Step.{orbit}
 use Rattle.tsc.specs.Word.{word, word_at}
-use Rattle.refusals.specs.Refusals.{Check, check, too_many_ties}
+use Rattle.refusals.specs.Refusals.{Check, check}
+use Rattle.refusals.specs.declared.Refusal.TheVariants.{TooManyTies}
 
 -- the most words that are tried, and so taken
 abbrev pub most_taken : ℕ
@@ -33,4 +34,4 @@ drawn_rank card xs k = word card (drawn_state card xs k) % k
 
 -- what is refused of k ties for words of n bits, condition 18: there are more ties than words
 unfoldable pub tie_checks : ℕ → ℕ → List Check
-tie_checks n k = check too_many_ties (ltb (2 ^ n) k) ∷ []
+tie_checks n k = check TooManyTies (ltb (2 ^ n) k) ∷ []

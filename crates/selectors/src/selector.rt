@@ -1,5 +1,6 @@
 // The selector of a state (document 002, 13 and 18), without a branch. The loops go from the last word to the first, as the definitions do, over `count`
-// words, at least m, which callers name by a constant, so that the compiler writes the loops out: masks leave out the words past m. Callers hold an accepted card.
+// words, at least m, which callers name by a constant, so that the compiler writes the loops out: masks leave out the words past m. It is no const parameter,
+// which would ask of callers that it is one. Callers hold an accepted card.
 ghost use Rattle.std.specs.Prelude.{◌≡◌, ℕ, ◌%◌, ◌^◌, ◌<◌, ◌≤◌, take};
 ghost use Rattle.tsc.specs.declared.Card.{Card};
 ghost use Rattle.tsc.specs.Constants.{most_words, widest_width};
@@ -33,10 +34,8 @@ fn absent_words(m: u32) -> [u32; MOST_WORDS]
 {
     let present = (1u32 << m) - 1;
     let mut absent = [0; MOST_WORDS];
-    let mut k = 0;
-    while k < MOST_WORDS {
+    for k in 0..MOST_WORDS {
         absent[k] = !mask::spread(present, k as u32);
-        k += 1;
     }
     absent
 }
@@ -68,9 +67,7 @@ fn and_words(t: Terms, s: State, count: usize) -> u32
     ensures { (m : ℕ) → m ≤ count → Absent m t.absent → result ≡ and_words t.width.bits (take m s.words) }
 {
     let mut p = t.width.low;
-    let mut k = count;
-    while 0 < k {
-        k -= 1;
+    for k in (0..count).rev() {
         p = (s.words[k] | t.absent[k]) & p;
     }
     p
@@ -82,9 +79,7 @@ fn sum_words(t: Terms, s: State, count: usize) -> u32
     ensures { (m : ℕ) → m ≤ count → Absent m t.absent → result ≡ sum_words (take m s.words) % 2 ^ widest_width }
 {
     let mut sum = 0;
-    let mut k = count;
-    while 0 < k {
-        k -= 1;
+    for k in (0..count).rev() {
         sum = wrapping_add_u32(s.words[k] & !t.absent[k], sum);
     }
     sum

@@ -4,7 +4,8 @@ use Prim.Native.Nat.{ℕ, ◌+◌, ◌-◌, ◌≤◌, ◌<◌}
 use native.Mathlib.Decide.{dec_lt}
 use native.Mathlib.Omega.{arith}
 use borrow.Author.Tests.{lt-ltb, le-ltb}
-use Rattle.refusals.specs.Refusals.{first_of, span_out_of_bounds}
+use Rattle.refusals.specs.Refusals.{first_of, number}
+use Rattle.refusals.specs.declared.Refusal.TheVariants.{SpanOutOfBounds}
 use Rattle.spans.specs.Span.{span_checks}
 
 module _ (size place count : ℕ) where
@@ -12,11 +13,11 @@ module _ (size place count : ℕ) where
   unfolding first_of span_checks
   span_fits h = simp (le-ltb size place (omega arith), le-ltb (size - place) count (omega arith))
 
-  pub span_outside : size < place + count → first_of (span_checks size place count) ≡ span_out_of_bounds.number
+  pub span_outside : size < place + count → first_of (span_checks size place count) ≡ number SpanOutOfBounds
   unfolding first_of span_checks
   span_outside h = go (dec_lt size place)
     where
-      go : Dec (size < place) → first_of (span_checks size place count) ≡ span_out_of_bounds.number
+      go : Dec (size < place) → first_of (span_checks size place count) ≡ number SpanOutOfBounds
       go (yes l) = simp (lt-ltb size place l)
       go (no n) = simp (le-ltb size place (omega arith), lt-ltb (size - place) count (omega arith))
 

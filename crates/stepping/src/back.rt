@@ -2,7 +2,6 @@
 ghost use Rattle.std.specs.Prelude.{◌≡◌, ◌<◌, ◌≤◌};
 ghost use Rattle.tsc.specs.Constants.{most_words};
 ghost use Rattle.tsc.specs.Coverage.{step_back};
-ghost use Rattle.columns.specs.Few.{few_words};
 ghost use Rattle.columns.specs.Replace.{IsCycle, IsPowerOf};
 ghost use Rattle.stepping.specs.State.{used, holding, undone, Undoes};
 
@@ -33,65 +32,29 @@ pub fn backward(table: &[u8; TABLE_SIZE], m: u32, odd: u32, even: u32) -> Powers
     power::powers_of(table, m, odd_undone, even_undone)
 }
 
-// The step back of a state, from the lowest column up, for a card of few words: the columns found so far are all that the next selector bit depends on.
-fn back_few<'a>(
-    card: Card,
-    terms: Terms,
-    odd: &'a [u8; TABLE_SIZE],
-    even: &'a [u8; TABLE_SIZE],
-    s: State,
-) -> State
-    requires { Undoes card terms odd.now even.now s × (card.words ≤ few_words) }
+// The step back of a state, from the lowest column up: the columns found so far are all that the next selector bit depends on. COUNT, at least the card's
+// words, is known when this is compiled, so that the loops over words are written out.
+fn back_by<const COUNT: usize>(card: Card, terms: Terms, powers: &Powers, s: State) -> State
+    requires { Undoes card terms powers.now.odd powers.now.even s × (card.words ≤ COUNT) × (COUNT ≤ most_words) }
     ensures { result ≡ holding (step_back card (used card s)) }
 {
     let mut found = State {
         words: [0; MOST_WORDS],
     };
-    let mut i = 0;
-    while i < terms.width.bits {
-        let select = selector::selector_by(terms, found, FEW_WORDS);
-        found = replace::replace_column(odd, even, s, select, i, found, FEW_WORDS);
-        i += 1;
-    }
-    found
-}
-
-// The same for a card of more words. These are two loops, since with one the compiler would not write out those over the words.
-fn back_many<'a>(
-    card: Card,
-    terms: Terms,
-    odd: &'a [u8; TABLE_SIZE],
-    even: &'a [u8; TABLE_SIZE],
-    s: State,
-) -> State
-    requires { Undoes card terms odd.now even.now s }
-    ensures { result ≡ holding (step_back card (used card s)) }
-{
-    let mut found = State {
-        words: [0; MOST_WORDS],
-    };
-    let mut i = 0;
-    while i < terms.width.bits {
-        let select = selector::selector_by(terms, found, MOST_WORDS);
-        found = replace::replace_column(odd, even, s, select, i, found, MOST_WORDS);
-        i += 1;
+    for i in 0..terms.width.bits {
+        let select = selector::selector_by(terms, found, COUNT);
+        found = replace::replace_column(powers, s, select, i, found, COUNT);
     }
     found
 }
 
 // The step back of a state. What it needs of the card is worked out before.
-pub fn previous_state<'a>(
-    card: Card,
-    terms: Terms,
-    odd: &'a [u8; TABLE_SIZE],
-    even: &'a [u8; TABLE_SIZE],
-    s: State,
-) -> State
-    requires { Undoes card terms odd.now even.now s }
+pub fn previous_state(card: Card, terms: Terms, powers: &Powers, s: State) -> State
+    requires { Undoes card terms powers.now.odd powers.now.even s }
     ensures { result ≡ holding (step_back card (used card s)) }
 {
     if terms.words as usize <= FEW_WORDS {
-        return back_few(card, terms, odd, even, s);
+        return back_by::<FEW_WORDS>(card, terms, powers, s);
     }
-    back_many(card, terms, odd, even, s)
+    back_by::<MOST_WORDS>(card, terms, powers, s)
 }

@@ -1,5 +1,4 @@
 // The shovels of a list but one: their least time, and the ties among them.
 #![tactic(auto)]
 
-pub mod bit;
 pub mod others;

@@ -3,8 +3,8 @@ ghost use Rattle.std.specs.Prelude.{◌≡◌, ◌≤◌, length};
 ghost use Rattle.ties.specs.Ties.{most_shovels};
 ghost use Rattle.tie_others.specs.Others.{joined_by, IsOthers};
 
-use super::bit;
 use changes::MOST_TIME;
+use std::cmp::Ordering;
 
 // With no shovel at all, the greatest time, and none.
 #[derive(Clone, Copy)]
@@ -15,6 +15,7 @@ pub struct Others {
 }
 
 // One shovel more, if it is another than the one left out, of time t, and whether its number is lower. The loop below has not counted more than a list may have.
+#[tactic(auto, unfolding(crate::specs::Others::joined_by))]
 fn joined(o: Others, other: bool, t: u32, lower: bool) -> Others
     requires { (o.ties ≤ most_shovels) × (o.lower ≤ most_shovels) }
     ensures { result ≡ joined_by o other t lower }
@@ -22,21 +23,19 @@ fn joined(o: Others, other: bool, t: u32, lower: bool) -> Others
     if !other {
         return o;
     }
-    if t < o.time {
-        return Others {
+    match t.cmp(&o.time) {
+        Ordering::Less => Others {
             time: t,
             ties: 1,
-            lower: bit::count(lower),
-        };
-    }
-    if t == o.time {
-        return Others {
+            lower: usize::from(lower),
+        },
+        Ordering::Equal => Others {
             time: t,
             ties: o.ties + 1,
-            lower: o.lower + bit::count(lower),
-        };
+            lower: o.lower + usize::from(lower),
+        },
+        Ordering::Greater => o,
     }
-    o
 }
 
 // All shovels but the one at place i, and the numbers lower than y. The pick has refused lists that are uneven or too long.
@@ -49,10 +48,8 @@ pub fn others_of(shovels: &[u16], times: &[u32], i: usize, y: u16) -> Others
         ties: 0,
         lower: 0,
     };
-    let mut j = 0;
-    while j < times.len() {
+    for j in 0..times.len() {
         o = joined(o, j != i, times[j], shovels[j] < y);
-        j += 1;
     }
     o
 }

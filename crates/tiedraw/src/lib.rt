@@ -2,6 +2,7 @@
 
 // The calls for C and whatever can call C (include/tiedraw.h): thin, under their plain names. A slice is a pointer and a length there.
 ghost use Rattle.std.specs.Prelude.{◌≡◌, List, ℕ, ◌^◌, ◌<◌, length};
+ghost use Rattle.refusals.specs.Refusals.{numbered, told};
 ghost use Rattle.tsc.specs.Coverage.{IsState, step_back};
 ghost use Rattle.card_format.specs.Reading.{card_of};
 ghost use Rattle.card_format.specs.Verdict.{verdict, ZeroIffCovers};
@@ -35,7 +36,28 @@ use diagnoses::BadPlaces;
 use generator::call;
 use nearby::WithinAnswer;
 use record::order;
+use refusals::Refusal;
 use tsc::{Card, TABLE_SIZE};
+
+// An answer with the refusal by its number, as the structs for C have it.
+fn numbered<T: Copy>(answer: Result<T, Refusal>) -> Result<T, u8>
+    ensures { result ≡ numbered answer }
+{
+    match answer {
+        Ok(value) => Ok(value),
+        Err(refusal) => Err(refusal.number()),
+    }
+}
+
+// The number of the refusal, or 0.
+fn refusal_number(answer: Result<(), Refusal>) -> u8
+    ensures { result ≡ told answer }
+{
+    match answer {
+        Ok(()) => 0,
+        Err(refusal) => refusal.number(),
+    }
+}
 
 // The version as one number.
 #[unsafe(no_mangle)]
@@ -51,7 +73,7 @@ pub extern "C" fn tiedraw_check(card: &[u8]) -> u8
     ensures told { result ≡ verdict card.now }
     ensures covers { ZeroIffCovers card.now result }
 {
-    check::check(card)
+    refusal_number(check::check(card))
 }
 
 // The eight values of a card of sound form, or refusal 1 to 6 and zeros.
@@ -59,7 +81,7 @@ pub extern "C" fn tiedraw_check(card: &[u8]) -> u8
 pub extern "C" fn tiedraw_read(card: &[u8]) -> CardReading
     ensures { result ≡ read_card card.now }
 {
-    answer::reading_of(read::read(card))
+    answer::reading_of(numbered(read::read(card)))
 }
 
 // The fewest places of the card's table whose entries alone make every completion get 7, ascending; or refusal 1 to 6 or 26 and zeros.
@@ -77,7 +99,7 @@ pub extern "C" fn tiedraw_step(card: &[u8], state: &mut [u32]) -> u8
     ensures after { state.new ≡ stepped card.now state.old }
     ensures undone { result ≡ 0 → IsState (card_of card.now) state.new × (step_back (card_of card.now) state.new ≡ state.old) }
 {
-    call::step(card, state)
+    refusal_number(call::step(card, state))
 }
 
 // 0 and the one state whose step it was, or refusal 1 to 11.
@@ -87,7 +109,7 @@ pub extern "C" fn tiedraw_step_back(card: &[u8], state: &mut [u32]) -> u8
     ensures after { state.new ≡ stepped_back card.now state.old }
     ensures only { result ≡ 0 → OnlyBefore (card_of card.now) state.new state.old }
 {
-    call::step_back(card, state)
+    refusal_number(call::step_back(card, state))
 }
 
 // The word of the step, or refusal 1 to 11. A word is below 2^n.
@@ -97,7 +119,7 @@ pub extern "C" fn tiedraw_draw(card: &[u8], state: &mut [u32]) -> DrawnWord
     ensures after { state.new ≡ stepped card.now state.old }
     ensures narrow { result.word < 2 ^ (card_of card.now).width }
 {
-    answer::word_of(call::draw(card, state))
+    answer::word_of(numbered(call::draw(card, state)))
 }
 
 // 0 and as many words in the strip from the place on as single draws would give, with the state moved as they would move it; or refusal 1 to 11 or 17.
@@ -113,7 +135,7 @@ pub extern "C" fn tiedraw_fill(
     ensures words { strip.new ≡ filled card.now state.old strip.old place count }
     ensures after { state.new ≡ filled_state card.now state.old strip.old place count }
 {
-    fill::call::fill(card, state, strip, place, count)
+    refusal_number(fill::call::fill(card, state, strip, place, count))
 }
 
 // The chosen shovel, the number of ties and how many words were taken, or refusal 1 to 15 or 18.
@@ -152,7 +174,7 @@ pub extern "C" fn tiedraw_pick_recorded(
 pub extern "C" fn tiedraw_read_record(bytes: &[u8]) -> RecordAnswer
     ensures { result ≡ read_record bytes.now }
 {
-    recorded::record_of(record::read::read_record(bytes))
+    recorded::record_of(numbered(record::read::read_record(bytes)))
 }
 
 // The shovel of a record, for the cab of a truck, or refusal 20 or 21. THE CAB LEARNS NOTHING ELSE, as of record::order.
@@ -161,7 +183,7 @@ pub extern "C" fn tiedraw_order(truck: u16, bytes: &[u8]) -> OrderAnswer
     ensures answer { result ≡ told_to truck bytes.now }
     ensures alone { (other : List ℕ) → SameOrder bytes.now other → result ≡ told_to truck other }
 {
-    recorded::order_of(order::order_for(truck, bytes))
+    recorded::order_of(numbered(order::order_for(truck, bytes)))
 }
 
 // The least change of one time that sends the truck elsewhere, and the changed pick; or refusal 1 to 15, 18 or 19.
@@ -174,7 +196,7 @@ pub extern "C" fn tiedraw_margin(
 ) -> MarginAnswer
     ensures { IsMarginAnswer card.now state.now shovels.now times.now result }
 {
-    nearest::margin_of(margin::call::margin(card, state, shovels, times))
+    nearest::margin_of(numbered(margin::call::margin(card, state, shovels, times)))
 }
 
 // The same pick by the map: the nearest by squared distance; or refusal 1 to 15, 25 or 18.
@@ -215,7 +237,7 @@ pub extern "C" fn tiedraw_count_bits(card: &[u8], strip: &[u32], page: &mut [u8]
     ensures answer { result ≡ counted_for card.now strip.now (length page.old) }
     ensures page { page.new ≡ bit_page card.now strip.now page.old }
 {
-    counted::counts_of(bit_count::call::bit_counts(card, strip, page))
+    counted::counts_of(numbered(bit_count::call::bit_counts(card, strip, page)))
 }
 
 // The length of the card written, or refusal 2, 6 to 9 or 16. A table longer than the array is refused by 2, and a shorter one counts as followed by zeros.
@@ -235,10 +257,7 @@ pub extern "C" fn tiedraw_write(
     ensures after { page.new ≡ page_from (given words width table.now odd_power even_power constant filter sum_term) page.old }
 {
     if TABLE_SIZE < table.len() {
-        return WrittenLength {
-            length: 0,
-            refusal: refusals::OUT_OF_RANGE,
-        };
+        return answer::length_of(Err(Refusal::OutOfRange.number()));
     }
     let card = Card {
         words: words,
@@ -250,5 +269,5 @@ pub extern "C" fn tiedraw_write(
         filter: filter,
         sum_term: sum_term,
     };
-    answer::length_of(write::write(card, page))
+    answer::length_of(numbered(write::write(card, page)))
 }

@@ -1,8 +1,10 @@
 -- A least time: there is one, and the ties are the shovels that have it.
 use mathlib.Core.Path.{◌≡◌, refl, sym, ◌∙◌}
 use mathlib.Core.Bool.{true, cond}
-use mathlib.Core.List.{List}
-use Prim.Native.Nat.{ℕ, zero, suc, ◌+◌, ◌≤◌, ◌<◌}
+use mathlib.Core.List.{List, [], ◌∷◌}
+use Prim.Native.Nat.{ℕ, zero, suc, ◌+◌, ◌≤◌, ◌<◌, min}
+use Rattle.std.proofs.Common.{Some, rules}
+use Rattle.std.specs.List.{fold, reduce}
 use native.Mathlib.Nat.{le_refl}
 use native.Mathlib.Decide.{dec_lt}
 use native.Mathlib.Numerals.{add-one}
@@ -77,3 +79,30 @@ module _ (times : List ℕ) where
   pub ties_le : ties times ≤ length times
   unfolding ties
   ties_le = count_le (length times) (is_tie times)
+
+-- ---- the least of a list, as it is folded
+
+folded : (x : ℕ) (xs : List ℕ) → LeastOf (x ∷ xs) (length (x ∷ xs)) (fold min x xs)
+folded x [] = record { stands = (0, omega arith, refl); least = go }
+  where
+    go : (j : ℕ) → j < 1 → x ≤ get_or (x ∷ []) j 0
+    go zero l = le_refl x
+    go (suc j) l = absurd (omega arith)
+folded x (y ∷ ys) =
+    let h = folded (min x y) ys in
+    record { stands = place h.stands.0 h.stands.1 h.stands.2 (dec_lt y x); least = below h.least }
+  where
+    place : (i : ℕ) → i < suc (length ys) → get_or (min x y ∷ ys) i 0 ≡ fold min (min x y) ys → Dec (y < x)
+        → (i : ℕ) × (i < suc (suc (length ys))) × (get_or (x ∷ y ∷ ys) i 0 ≡ fold min (min x y) ys)
+    place zero l e (yes b) = (1, omega arith, omega (arith, e))
+    place zero l e (no b) = (0, omega arith, omega (arith, e))
+    place (suc i) l e d = (suc (suc i), omega arith, e)
+
+    below : ((j : ℕ) → j < suc (length ys) → fold min (min x y) ys ≤ get_or (min x y ∷ ys) j 0) → (j : ℕ) → j < suc (suc (length ys)) → fold min (min x y) ys ≤ get_or (x ∷ y ∷ ys) j 0
+    below h zero l = omega (arith, h 0 (omega arith))
+    below h (suc zero) l = omega (arith, h 0 (omega arith))
+    below h (suc (suc j)) l = h (suc j) (omega arith)
+
+pub least-reduced : (times : List ℕ) (x : ℕ) → Some x ≡ reduce min times → LeastOf times (length times) x
+least-reduced [] x e = absurd (search (rules, e))
+least-reduced (y ∷ ys) x e = let s : x ≡ fold min y ys = grind (arith, e) in rw s (folded y ys)

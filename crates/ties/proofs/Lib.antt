@@ -1,4 +1,5 @@
 -- What is proved of ties.
+pub mod Entries
 pub mod Least
 pub mod Rank
 pub mod Order

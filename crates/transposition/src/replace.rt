@@ -8,6 +8,7 @@ ghost use Rattle.transposition.specs.Groups.{group_count, HasGroup, IsWord};
 ghost use Rattle.columns.specs.Replace.{image_of, Replaced};
 
 use super::{bytes, matrix};
+use columns::power::Powers;
 use tsc::{MOST_WORDS, State, TABLE_SIZE};
 
 // The groups of a word of the widest width.
@@ -55,20 +56,13 @@ fn chosen(selector: u32, low: u32, g: usize, odd: u64, even: u64) -> u64
 }
 
 // Group g with its columns replaced: row k is byte g of word k.
-fn group_of<'a>(
-    odd: &'a [u8; TABLE_SIZE],
-    even: &'a [u8; TABLE_SIZE],
-    s: State,
-    selector: u32,
-    low: u32,
-    g: usize,
-) -> u64
+fn group_of(powers: &Powers, s: State, selector: u32, low: u32, g: usize) -> u64
     requires { g < group_count }
-    ensures { HasGroup g result (λ i. bit i low * image_of odd.now even.now (bit i selector) (column i s.words)) }
+    ensures { HasGroup g result (λ i. bit i low * image_of powers.now.odd powers.now.even (bit i selector) (column i s.words)) }
 {
     let c = columns_of(s, g);
-    let o = matrix::transpose(images_of(odd, c));
-    let e = matrix::transpose(images_of(even, c));
+    let o = matrix::transpose(images_of(&powers.odd, c));
+    let e = matrix::transpose(images_of(&powers.even, c));
     chosen(selector, low, g, o, e)
 }
 
@@ -98,18 +92,12 @@ fn words_of(groups: [u64; GROUPS]) -> State
 }
 
 // The columns in `low`, each put through the power that its selector bit picks.
-pub fn replace_columns<'a>(
-    odd: &'a [u8; TABLE_SIZE],
-    even: &'a [u8; TABLE_SIZE],
-    s: State,
-    selector: u32,
-    low: u32,
-) -> State
-    ensures { Replaced most_words odd.now even.now s.words selector low result.words }
+pub fn replace_columns(powers: &Powers, s: State, selector: u32, low: u32) -> State
+    ensures { Replaced most_words powers.now.odd powers.now.even s.words selector low result.words }
 {
     let mut groups: [u64; GROUPS] = [0; GROUPS];
     for g in 0..GROUPS {
-        groups[g] = group_of(odd, even, s, selector, low, g);
+        groups[g] = group_of(powers, s, selector, low, g);
     }
     words_of(groups)
 }

@@ -6,26 +6,23 @@ ghost use Rattle.nearby.specs.Calls.{no_list, within_radius};
 
 use super::{keys, list};
 use nearby::WithinAnswer;
+use places::around::Around;
 use places::map;
 use tie_list::check::MOST_SHOVELS;
 
 // Whether places and radius are allowed.
-fn is_allowed(x: i32, y: i32, radius: i32, xs: &[i32], ys: &[i32]) -> bool
-    ensures { result ≡ (on_map x y xs.now ys.now && is_radius radius) }
+fn is_allowed(around: &Around<'_>, radius: i32) -> bool
+    ensures { result ≡ (on_map around.now.x around.now.y around.now.xs.now around.now.ys.now && is_radius radius) }
 {
-    if map::on_map(x, y, xs, ys) {
-        return map::is_radius(radius);
-    }
-    false
+    around.on_map() && map::is_radius(radius)
 }
 
 // A refusal, with no list.
 fn refused(number: u8) -> WithinAnswer
     ensures { result ≡ no_list number }
 {
-    let none = [0u16; MOST_SHOVELS];
     WithinAnswer {
-        shovels: none,
+        shovels: [0; MOST_SHOVELS],
         count: 0,
         refusal: number,
     }
@@ -41,16 +38,16 @@ fn squared(radius: i32) -> u64
 }
 
 // The shovels within the radius around (x, y), by distance and then by number; or the first refusal of 12 to 15 and 25 that applies. No distance is worked out
-// before that is known.
+// before that is known. The struct is C's, so a refusal is its number in there.
 pub fn within(x: i32, y: i32, radius: i32, shovels: &[u16], xs: &[i32], ys: &[i32]) -> WithinAnswer
     ensures { result ≡ within_radius (placed x y shovels.now xs.now ys.now) radius }
 {
-    let allowed = is_allowed(x, y, radius, xs, ys);
-    let told = map::places_refusal(shovels, xs, ys, allowed);
-    if told != 0 {
-        return refused(told);
+    let around = Around { x, y, xs, ys };
+    let allowed = is_allowed(&around, radius);
+    if let Err(refusal) = map::places_refusal(shovels, xs, ys, allowed) {
+        return refused(refusal.number());
     }
-    let found = keys::keys_of(x, y, squared(radius), shovels, xs, ys);
+    let found = keys::keys_of(&around, squared(radius), shovels);
     let n = xs.len();
     let mut numbers = [0u16; MOST_SHOVELS];
     let count = list::list_by(&found[..n], shovels, &mut numbers);

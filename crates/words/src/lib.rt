@@ -1,6 +1,5 @@
 #![tactic(auto)]
 
-// Words of n bits in a u32: sums and rotations, masks, and bytes as words.
+// Words of n bits in a u32: sums and rotations, and masks.
 pub mod arithmetic;
-pub mod byte;
 pub mod mask;

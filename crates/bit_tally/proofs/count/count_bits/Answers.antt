@@ -13,13 +13,10 @@ use Rattle.bit_tally.proofs.count.count_bits.Goals.{Start}
 few : (c : Start) → length (bits_of c.args.n c.args.strip.now) ≤ base
 few c = subst (λ (m : ℕ). m ≤ base) (sym (length-bits_of c.args.n c.args.strip.now)) (few_bits c.args.n (length c.args.strip.now) c.requires.0 c.requires.1)
 
-pub put_words-t-requires : goal.put_words-t-requires
-put_words-t-requires c = c.requires
+pub counts-requires : goal.counts-requires
+counts-requires c = let a = c.args in
+    subst Extremes (sym c.put_words.ensures.counted) (pass_extremes (bits_of a.n a.strip.now) (strip_bits_lem a.n a.strip.now) (few (goal.at.counts-requires c).Start))
 
-pub counts_of-requires : goal.counts_of-requires
-counts_of-requires c = let a = c.args in
-    subst Extremes (sym c.put_words-t.ensures.counted) (pass_extremes (bits_of a.n a.strip.now) (strip_bits_lem a.n a.strip.now) (few (goal.at.counts_of-requires c).Start))
-
-pub returns : goal.returns
-returns c = let a = c.args in
-    let put = c.put_words-t.ensures in record { counted = c.counts_of.ensures ∙ ap counts_from put.counted ∙ pass_counts (bits_of a.n a.strip.now) (strip_bits_lem a.n a.strip.now) (few (goal.at.returns c).Start); page = put.page }
+pub returns-clause-counted : goal.returns-clause-counted
+returns-clause-counted c = let a = c.args in
+    c.counts.ensures ∙ ap counts_from c.put_words.ensures.counted ∙ pass_counts (bits_of a.n a.strip.now) (strip_bits_lem a.n a.strip.now) (few (goal.at.returns-clause-counted c).Start)

@@ -9,9 +9,7 @@ use Rattle.bit_tally.specs.Tally.{base, tally_of_none, tallied, HasRoom}
 use Rattle.bit_tally.proofs.count.put_words.Given as goal
 
 -- the words before word k are put and counted
-pub record Put (n : ℕ) (strip page₀ page : List ℕ) (t : Tally) (at k : ℕ) : Type 0 where
-  pub place : at ≡ n * k
-  pub within : k ≤ length strip
+pub record Put (n : ℕ) (strip page₀ page : List ℕ) (t : Tally) (k : ℕ) : Type 0 where
   pub narrow : n ≤ widest_width
   pub few : n * length strip ≤ base
   pub room : n * length strip ≤ length page₀
@@ -20,7 +18,4 @@ pub record Put (n : ℕ) (strip page₀ page : List ℕ) (t : Tally) (at k : ℕ
   pub written : page ≡ text (bits_of n (take k strip)) ++ drop (n * k) page₀
 
 abbrev pub invariant-loop-k : goal.invariant-loop-k
-invariant-loop-k l = Put l.n l.strip l.initial.page l.page l.t l.at l.k
-
-abbrev pub decreases-loop-k : goal.decreases-loop-k
-decreases-loop-k l = length l.strip - l.k
+invariant-loop-k l = Put l.n l.strip l.initial.page l.page l.tally l.k

@@ -1,13 +1,8 @@
-use native.Mathlib.Omega.{arith}
 use mathlib.Core.Path.{sym, ap, ◌∙◌}
 use mathlib.Core.Bool.{not}
-use borrow.Author.Rules.{rules}
 use Rattle.card_format.specs.Fields.{fields, field}
 use Rattle.card_format.specs.Writing.{numbers_of, is_written}
 use Rattle.card_encode.proofs.put.is_written.Goals as goal
-
-pub is_tsc1-requires : goal.is_tsc1-requires
-is_tsc1-requires c = (omega arith, search rules)
 
 pub returns-then-k-eq-TABLE : goal.returns-then-k-eq-TABLE
 unfolding numbers_of field fields

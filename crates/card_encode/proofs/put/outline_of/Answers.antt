@@ -18,7 +18,7 @@ map_suc card k = ap (map_to card) (add-one k)
 
 pub loop-k-init : goal.loop-k-init
 unfolding sum written_to
-loop-k-init c = (omega arith, refl, refl)
+loop-k-init c = (refl, refl)
 
 pub with_field-o-requires : goal.with_field-o-requires
 with_field-o-requires c = let l = c.loop-k in
@@ -26,8 +26,8 @@ with_field-o-requires c = let l = c.loop-k in
     let few = c.requires in record {
       k_lt_field_count = (omega arith, few);
       map_bound = (
-        omega (arith, l.invariant.1, map_lt l.k (is_written card)),
-        omega (arith, l.invariant.2, length_before card l.k field_count l.invariant.0, written-short card few),
+        omega (arith, l.invariant.0, map_lt l.k (is_written card)),
+        omega (arith, l.invariant.1, length_before card l.k field_count (omega arith), written-short card few),
       );
     }
 
@@ -35,12 +35,11 @@ pub loop-k-preserved : goal.loop-k-preserved
 loop-k-preserved c = let l = c.loop-k in
     let card = c.args.card in
     let e = c.with_field-o.ensures in (
-      omega arith,
-      e.map_value ∙ ap (λ (n : ℕ). n + cond (is_written card l.k) (2 ^ l.k) 0) l.invariant.1 ∙ sym (map_suc card l.k),
-      e.length_value ∙ ap (λ (n : ℕ). n + length (field_bytes card l.k)) l.invariant.2 ∙ sym (length_suc card l.k),
+      e.map_value ∙ ap (λ (n : ℕ). n + cond (is_written card l.k) (2 ^ l.k) 0) l.invariant.0 ∙ sym (map_suc card l.k),
+      e.length_value ∙ ap (λ (n : ℕ). n + length (field_bytes card l.k)) l.invariant.1 ∙ sym (length_suc card l.k),
     )
 
 pub returns : goal.returns
 returns c = let l = c.loop-k in
     let card = c.args.card in
-    let e : l.k ≡ field_count = omega arith in record { map_value = l.invariant.1 ∙ ap (map_to card) e; length_value = l.invariant.2 ∙ ap (length_to card) e }
+    let e : l.k ≡ field_count = omega arith in record { map_value = l.invariant.0 ∙ ap (map_to card) e; length_value = l.invariant.1 ∙ ap (length_to card) e }

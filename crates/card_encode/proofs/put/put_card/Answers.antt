@@ -35,12 +35,6 @@ loop-k-init c = let a = c.args in
       omega (arith, length-set a.page.now 0 a.map, c.requires.card_in_bounds),
     )
 
-pub slice_bounds-put_field-count : goal.slice_bounds-put_field-count
-slice_bounds-put_field-count c = let l = c.loop-k in (room c.args.card _ l.page l.at l.k (omega arith) l.invariant).0
-
-pub slice_bounds-put_field-start : goal.slice_bounds-put_field-start
-slice_bounds-put_field-start c = let l = c.loop-k in (room c.args.card _ l.page l.at l.k (omega arith) l.invariant).0
-
 pub put_field-at-requires : goal.put_field-at-requires
 put_field-at-requires c = let l = c.loop-k in record {
   k_lt_field_count = (omega arith, c.requires.card_value.0);

@@ -1,6 +1,6 @@
 use mathlib.Core.Path.{◌≡◌}
 use mathlib.Core.List.{List, ◌++◌}
-use Prim.Native.Nat.{ℕ, ◌-◌, ◌≤◌}
+use Prim.Native.Nat.{ℕ, ◌≤◌}
 use lib.ListN.{length, drop}
 use Rattle.tsc.specs.declared.Card.{Card}
 use Rattle.card_format.specs.Fields.{field_count}
@@ -14,6 +14,3 @@ Front card d page at k = (k ≤ field_count) × (at ≡ length_to card k) × (pa
 
 abbrev pub invariant-loop-k : goal.invariant-loop-k
 invariant-loop-k l = Front l.card l.initial.page l.page l.at l.k
-
-abbrev pub decreases-loop-k : goal.decreases-loop-k
-decreases-loop-k l = field_count - l.k

@@ -8,6 +8,7 @@ use Rattle.cycle.specs.Notation.{sum}
 use Rattle.card_format.specs.Fields.{field, fields, field_count, table_bit, constant_bit, extent, numbers}
 use Rattle.card_format.proofs.Fields.{low_first, numbers-one, count-one, size-one}
 use Rattle.card_fields.proofs.number.number_at.Goals as goal
+use Rattle.card_fields.proofs.number.number_at.Goals.{Then-k-eq-CONSTANT}
 
 four : (part : List ℕ) → get_or part 0 0 + get_or part 1 0 * 256 + get_or part 2 0 * 65536 + get_or part 3 0 * 16777216 ≡ low_first 4 part
 unfolding sum
@@ -31,26 +32,30 @@ module _ (k m : ℕ) (part : List ℕ) (numeric : (k < field_count) × (k ≢ ta
   unfolding field fields
   size_four e = ap (λ (j : ℕ). (field m j).size) e
 
+-- the constant's four bytes are there
+four_there : (c : Then-k-eq-CONSTANT) → 4 ≤ length c.args.part.now
+four_there c = let r = c.requires in room _ _ _ r.k_lt_field_count r.k_in_bounds 4 (size_four _ _ _ r.k_lt_field_count r.k_in_bounds c.if-k-eq-CONSTANT.true)
+
 pub bounds-part-0 : goal.bounds-part-0
-bounds-part-0 c = omega (arith, room c.args.k c.args.m c.args.part.now c.requires.k_lt_field_count c.requires.k_in_bounds 4 (size_four c.args.k c.args.m c.args.part.now c.requires.k_lt_field_count c.requires.k_in_bounds c.if-k-eq-CONSTANT.true))
+bounds-part-0 c = omega (arith, four_there (goal.at.bounds-part-0 c).Then-k-eq-CONSTANT)
 
 pub bounds-part-1 : goal.bounds-part-1
-bounds-part-1 c = omega (arith, room c.args.k c.args.m c.args.part.now c.requires.k_lt_field_count c.requires.k_in_bounds 4 (size_four c.args.k c.args.m c.args.part.now c.requires.k_lt_field_count c.requires.k_in_bounds c.if-k-eq-CONSTANT.true))
+bounds-part-1 c = omega (arith, four_there (goal.at.bounds-part-1 c).Then-k-eq-CONSTANT)
 
 pub bounds-part-2 : goal.bounds-part-2
-bounds-part-2 c = omega (arith, room c.args.k c.args.m c.args.part.now c.requires.k_lt_field_count c.requires.k_in_bounds 4 (size_four c.args.k c.args.m c.args.part.now c.requires.k_lt_field_count c.requires.k_in_bounds c.if-k-eq-CONSTANT.true))
+bounds-part-2 c = omega (arith, four_there (goal.at.bounds-part-2 c).Then-k-eq-CONSTANT)
 
 pub bounds-part-3 : goal.bounds-part-3
-bounds-part-3 c = omega (arith, room c.args.k c.args.m c.args.part.now c.requires.k_lt_field_count c.requires.k_in_bounds 4 (size_four c.args.k c.args.m c.args.part.now c.requires.k_lt_field_count c.requires.k_in_bounds c.if-k-eq-CONSTANT.true))
+bounds-part-3 c = omega (arith, four_there (goal.at.bounds-part-3 c).Then-k-eq-CONSTANT)
 
 pub returns-then-k-eq-CONSTANT : goal.returns-then-k-eq-CONSTANT
-returns-then-k-eq-CONSTANT c = of_size c.args.k c.args.m c.args.part.now c.requires.k_lt_field_count c.requires.k_in_bounds 4 _ (size_four c.args.k c.args.m c.args.part.now c.requires.k_lt_field_count c.requires.k_in_bounds c.if-k-eq-CONSTANT.true) (c.low_first.ensures ∙ four c.args.part.now)
+returns-then-k-eq-CONSTANT c = let r = c.requires in
+    of_size _ _ _ r.k_lt_field_count r.k_in_bounds 4 _ (size_four _ _ _ r.k_lt_field_count r.k_in_bounds c.if-k-eq-CONSTANT.true) (c.low_first.ensures ∙ four c.args.part.now)
 
 pub bounds-part-0-2 : goal.bounds-part-0-2
-bounds-part-0-2 c = omega (arith, room c.args.k c.args.m c.args.part.now c.requires.k_lt_field_count c.requires.k_in_bounds 1 (size-one c.args.m c.args.k c.requires.k_lt_field_count.0 c.requires.k_lt_field_count.1 c.if-k-eq-CONSTANT.false))
-
-pub overflow_cast-result : goal.overflow_cast-result
-overflow_cast-result c = omega (arith, c.shared_slice_known-1.given 0)
+bounds-part-0-2 c = let r = c.requires in
+    omega (arith, room _ _ _ r.k_lt_field_count r.k_in_bounds 1 (size-one c.args.m c.args.k r.k_lt_field_count.0 r.k_lt_field_count.1 c.if-k-eq-CONSTANT.false))
 
 pub returns : goal.returns
-returns c = of_size c.args.k c.args.m c.args.part.now c.requires.k_lt_field_count c.requires.k_in_bounds 1 _ (size-one c.args.m c.args.k c.requires.k_lt_field_count.0 c.requires.k_lt_field_count.1 c.if-k-eq-CONSTANT.false) (one c.args.part.now)
+returns c = let r = c.requires in
+    of_size _ _ _ r.k_lt_field_count r.k_in_bounds 1 _ (size-one c.args.m c.args.k r.k_lt_field_count.0 r.k_lt_field_count.1 c.if-k-eq-CONSTANT.false) (one c.args.part.now)

@@ -1,29 +1,28 @@
 use mathlib.Core.Path.{◌≡◌, sym}
-use mathlib.Core.Bool.{Bool, true}
+use mathlib.Core.Bool.{Bool, true, false}
 use mathlib.Core.List.{List}
-use Prim.Native.Nat.{ℕ, ◌-◌, ◌^◌, ◌<◌, ◌≤◌}
+use Prim.Native.Nat.{ℕ, ◌^◌, ◌<◌, ◌≤◌}
 use native.Mathlib.Omega.{arith}
-use borrow.Author.Tests.{lt-ltb, le-ltb, leb-true, leb-false}
+use borrow.Author.Tests.{tests, lt-ltb, le-ltb}
 use lib.Dec.{ltb}
 use lib.ListN.{length, get_or}
-use Rattle.cycle.proofs.Every.{every_not, every_of, extend}
-use Rattle.card_fields.proofs.width.all_fit.Invariants.{narrow}
+use Rattle.std.proofs.Common.{rules}
+use Rattle.std.specs.Bool.{MatchBool}
+use Rattle.std.specs.List.{AllWithin, HoldsAt}
+use Rattle.std.proofs.lemmas.Iterator.{cases_from_all, YieldsList-from_slice}
+use Rattle.cycle.specs.Notation.{every}
+use Rattle.cycle.proofs.Every.{every_of, every_not}
 use Rattle.card_fields.proofs.width.all_fit.Goals as goal
 
-pub loop-k-init : goal.loop-k-init
-loop-k-init c = (omega arith, λ j l. absurd (omega arith))
-
-pub returns-then-exceeds : goal.returns-then-exceeds
-returns-then-exceeds c = let a = c.args in
-    let words = a.words.now in
-    let wide = le-ltb (get_or words c.loop-k.k 0) _ (leb-true _ _ (rw c.exceeds.ensures at c.if-exceeds.true)) in
-    sym (every_not (length words) (narrow words a.n) c.loop-k.k (omega arith) wide)
-
-pub loop-k-preserved : goal.loop-k-preserved
-loop-k-preserved c = let a = c.args in
-    let fits = lt-ltb (get_or a.words.now c.loop-k.k 0) _ (leb-false _ _ (rw c.exceeds.ensures at c.if-exceeds.false)) in
-    (omega arith, extend (λ j. narrow a.words.now a.n j ≡ true) c.loop-k.k c.loop-k.invariant.1 fits)
+-- the answer of `all`, as a test of each place
+tested : (words : List ℕ) (n : ℕ) (b : Bool)
+    → MatchBool b (AllWithin (λ x. x < 2 ^ n) words 0 (length words)) ((k : ℕ) × (k < length words) × HoldsAt (λ x. 2 ^ n ≤ x) words k)
+    → b ≡ every (length words) (λ k. ltb (get_or words k 0) (2 ^ n))
+tested words n true h = sym (every_of (length words) _ (λ k l. lt-ltb (get_or words k 0) (2 ^ n) (h k 0 (omega arith) l)))
+tested words n false h = sym (every_not (length words) _ h.0 h.1 (le-ltb (get_or words h.0 0) (2 ^ n) (h.2 0)))
 
 pub returns : goal.returns
-returns c = let a = c.args in
-    sym (every_of (length a.words.now) (narrow a.words.now a.n) (λ j h. c.loop-k.invariant.1 j (omega arith)))
+returns c =
+    tested _ _ _
+    (cases_from_all _ _ _ (λ x. x < 2 ^ c.args.n) (λ x. 2 ^ c.args.n ≤ x) c.all.ensures.ran (YieldsList-from_slice c.args.words.now cc)
+    (λ x q k. search (rules, tests)) (λ x q k. search (rules, tests)))

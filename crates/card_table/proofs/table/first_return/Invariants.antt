@@ -1,12 +1,8 @@
-use native.Mathlib.Nat.{add-sub_cancel}
-use native.Mathlib.Numerals.{add-one}
-use mathlib.Core.Path.{◌≡◌, sym, ap, ◌∙◌}
-use Prim.Native.Nat.{ℕ, suc, ◌+◌, ◌-◌, ◌<◌, ◌≤◌, ◌^◌}
-use native.Mathlib.Omega.{arith}
+use mathlib.Core.Path.{◌≡◌}
+use Prim.Native.Nat.{◌+◌, ◌-◌, ◌<◌, ◌≤◌, ◌^◌}
 use lib.ListN.{get_or}
 use Rattle.tsc.specs.Constants.{most_words}
 use Rattle.cycle.specs.Cycle.{return_from, first_return}
-use Rattle.cycle.proofs.FirstReturn.{return_none, return_here, return_later}
 use Rattle.card_table.proofs.table.first_return.Given as goal
 
 abbrev pub invariant-loop-steps : goal.invariant-loop-steps

@@ -1,31 +1,22 @@
-use mathlib.Core.Path.{ap, sym, ◌∙◌}
-use native.Mathlib.Omega.{arith}
-use borrow.Author.Tests.{eq-eqb, ne_eqb}
-use Rattle.case_fields.specs.declared.list.Numbers.{Numbers}
-use Rattle.case_fields.specs.Lists.{pairs, pair_value, bytes_in}
-use Rattle.case_fields.proofs.Folds.{gathered, gather_next, gather_end, pairs_next, pairs_end}
+use Rattle.std.proofs.Common.{Some, sym, ap, ◌∙◌, refl, rules}
+use Rattle.std.proofs.lemmas.Iterator.Consumers.{fold_from_yields_List}
+use Rattle.case_fields.specs.Lists.{with_number, pairs, pair_value, bytes_in}
+use Rattle.case_fields.proofs.Pairs.{YieldsList-from_pairs}
+use Rattle.case_fields.proofs.Lists.{gathered}
 use Rattle.case_fields.proofs.list.bytes_of.Goals as goal
 
 pub returns-then-is_nothing : goal.returns-then-is_nothing
 unfolding bytes_in
-returns-then-is_nothing c = simp (sym c.is_nothing.ensures ∙ c.if-is_nothing.true) c.counted-list.ensures
+returns-then-is_nothing g c = simp (sym c.is_nothing.ensures ∙ c.if-is_nothing.true) (ap Some c.new.ensures)
 
-pub returns-then-field-eq0 : goal.returns-then-field-eq0
+pub returns-then-is_empty : goal.returns-then-is_empty
 unfolding bytes_in
-returns-then-field-eq0 c = simp (sym c.is_nothing.ensures ∙ c.if-is_nothing.false, eq-eqb _ 0 c.if-field-eq0.true) c.counted.ensures
-
-pub loop-at-init : goal.loop-at-init
-loop-at-init c = (omega arith, ap (λ (list : Numbers). gathered 255 pair_value list (pairs c.args.field.now)) c.counted-list.ensures)
-
-pub loop-at-preserved : goal.loop-at-preserved
-loop-at-preserved c = let field = c.args.field.now in
-    let l = c.loop-at in
-    let next = pairs_next field l.at (omega arith) in
-    (omega arith, gather_next 255 pair_value l.list c.with_number-list.result _ _ _ _ c.with_number-list.ensures c.pair_at.ensures next ∙ l.invariant.1)
+returns-then-is_empty g c = simp (sym c.is_nothing.ensures ∙ c.if-is_nothing.false, sym c.is_empty.ensures ∙ c.if-is_empty.true) refl
 
 pub returns : goal.returns
 unfolding bytes_in
-returns c = let field = c.args.field.now in
-    let l = c.loop-at in
-    simp (sym c.is_nothing.ensures ∙ c.if-is_nothing.false, ne_eqb _ 0 c.if-field-eq0.false)
-    (gather_end 255 pair_value l.list _ (pairs_end field l.at (omega arith)) ∙ l.invariant.1)
+returns g c =
+    simp (sym c.is_nothing.ensures ∙ c.if-is_nothing.false, sym c.is_empty.ensures ∙ c.if-is_empty.false)
+    (gathered 255 g.row.SIZE pair_value c.new.result _ _ c.fold.result c.new.ensures (ap pairs (sym c.chunks.ensures.rest))
+    (fold_from_yields_List _ (λ b p. with_number 255 b (pair_value p)) (Some c.new.result) c.fold.result c.fold.ensures.ran
+    (YieldsList-from_pairs c.chunks.ensures.size) (λ a x b q k. search rules)))

@@ -1,36 +1,23 @@
-use mathlib.Core.Path.{ap₂, sym, ◌∙◌}
-use native.Mathlib.Omega.{arith}
-use Rattle.case_fields.specs.Text.{comma}
-use Rattle.case_numbers.specs.Numbers.{base_of, numeral}
-use Rattle.case_fields.specs.Lists.{numbers_in}
-use Rattle.case_fields.proofs.Folds.{gathered, gather_next, gather_end}
-use Rattle.case_fields.proofs.Parts.{parts_find, parts_end, parts-start}
+use Rattle.std.proofs.Common.{Some, eqb, sym, ap, ◌∙◌, rules, tests}
+use Rattle.std.proofs.lemmas.Iterator.Splits.{YieldsList-from_slice_split}
+use Rattle.std.proofs.lemmas.Iterator.Consumers.{fold_from_yields_List}
+use Rattle.case_numbers.specs.Numbers.{numeral, base_of}
+use Rattle.case_fields.specs.Lists.{with_number, numbers_in}
+use Rattle.case_fields.proofs.Parts.{parts_split}
+use Rattle.case_fields.proofs.Lists.{gathered}
 use Rattle.case_fields.proofs.list.numbers_of.Goals as goal
 
 pub returns-then-is_nothing : goal.returns-then-is_nothing
 unfolding numbers_in
-returns-then-is_nothing c = simp (sym c.is_nothing.ensures ∙ c.if-is_nothing.true) c.counted-list.ensures
-
-pub loop-at-init : goal.loop-at-init
-loop-at-init c = let a = c.args in
-    let value = numeral (base_of a.hex) in
-    (omega arith, ap₂ (gathered a.most value) c.counted-list.ensures (parts-start comma a.field.now))
-
-pub find-end-requires : goal.find-end-requires
-find-end-requires c = (omega arith, omega arith)
-
-pub loop-at-preserved : goal.loop-at-preserved
-loop-at-preserved c = let a = c.args in
-    let l = c.loop-at in
-    let value = numeral (base_of a.hex) in
-    let f = c.find-end in
-    let next = parts_find comma a.field.now l.at f.result (omega arith) f.ensures.value in
-    (omega arith, gather_next a.most value l.list c.with_number-list.result _ _ _ _ c.with_number-list.ensures c.number_of.ensures next ∙ l.invariant.1)
+returns-then-is_nothing g c = simp (sym c.is_nothing.ensures ∙ c.if-is_nothing.true) (ap Some c.new.ensures)
 
 pub returns : goal.returns
 unfolding numbers_in
-returns c = let a = c.args in
-    let l = c.loop-at in
-    let value = numeral (base_of a.hex) in
+returns g c = let field = c.args.field.now in
+    let most = c.args.most in
+    let value = numeral (base_of c.args.hex) in
+    let s = c.split.ensures in
     simp (sym c.is_nothing.ensures ∙ c.if-is_nothing.false)
-    (gather_end a.most value l.list _ (parts_end comma a.field.now l.at (omega arith)) ∙ l.invariant.1)
+    (gathered most g.row.SIZE value c.new.result _ _ c.fold.result c.new.ensures (parts_split 44 field)
+    (fold_from_yields_List _ (λ b p. with_number most b (value p)) (Some c.new.result) c.fold.result c.fold.ensures.ran
+    (YieldsList-from_slice_split _ (λ b. eqb b 44) field s.rest s.done s.closure (λ x b q k. search (rules, tests))) (λ a x b q k. search rules)))

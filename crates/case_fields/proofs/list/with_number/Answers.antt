@@ -1,15 +1,11 @@
-use borrow.Author.Tests.{le-leb, lt-leb, lt-ltb, le-ltb}
+use Rattle.std.proofs.Common.{refl}
 use Rattle.case_fields.specs.Lists.{with_number}
 use Rattle.case_fields.proofs.list.with_number.Goals as goal
 
-pub returns-then-most-value : goal.returns-then-most-value
+pub returns-in_err-list : goal.returns-in_err-list
 unfolding with_number
-returns-then-most-value c = simp (lt-leb _ _ c.if-most-value.true) c.counted.ensures
+returns-in_err-list g c = rw (c.from_residual.ensures, c.in_err-list.was) refl
 
-pub returns-then-n-ge-ROOM : goal.returns-then-n-ge-ROOM
+pub returns-in_err-number : goal.returns-in_err-number
 unfolding with_number
-returns-then-n-ge-ROOM c = simp (le-leb _ _ c.if-most-value.false, le-ltb _ _ c.if-n-ge-ROOM.true) c.counted-then-n-ge-ROOM.ensures
-
-pub returns : goal.returns
-unfolding with_number
-returns c = simp (le-leb _ _ c.if-most-value.false, lt-ltb _ _ c.if-n-ge-ROOM.false)
+returns-in_err-number g c = rw (c.from_residual-in_err-number.ensures, c.in_ok-list.was, c.in_err-number.was) refl

@@ -1,23 +1,13 @@
-use mathlib.Core.Path.{ap, sym, ◌∙◌}
-use Prim.Native.Nat.{◌-◌}
-use lib.ListN.{length, drop, length-drop}
-use lib.Seq.{take_all}
-use native.Mathlib.Omega.{arith}
+use Rattle.std.proofs.Common.{ap, ◌∙◌}
 use Rattle.case_numbers.specs.Numbers.{numeral, constant_in}
+use Rattle.case_numbers.proofs.Digits.{same_prefix}
 use Rattle.case_numbers.proofs.number.constant_of.Goals as goal
 
-pub slice_bounds-number_of-count : goal.slice_bounds-number_of-count
-slice_bounds-number_of-count c = c.is_hex.ensures.in_bounds c.if-is_hex.true
-
-pub slice_bounds-number_of-start : goal.slice_bounds-number_of-start
-slice_bounds-number_of-start c = c.is_hex.ensures.in_bounds c.if-is_hex.true
-
-pub returns-then-is_hex : goal.returns-then-is_hex
+pub returns-in-Some : goal.returns-in-Some
 unfolding constant_in
-returns-then-is_hex c = let field = c.args.field.now in
-    simp (sym c.is_hex.ensures.value ∙ c.if-is_hex.true)
-    (c.number_of.ensures ∙ ap (numeral 16) (take_all (length field - 2) (drop 2 field) (omega (arith, length-drop 2 field))))
+returns-in-Some c = let h = c.in-Some.ensures.cases in
+    simp (same_prefix c.args.field.now ∙ h.0) (c.number_of.ensures ∙ ap (numeral 16) h.1)
 
-pub returns : goal.returns
+pub returns-in-None : goal.returns-in-None
 unfolding constant_in
-returns c = simp (sym c.is_hex.ensures.value ∙ c.if-is_hex.false) c.number_of-2.ensures
+returns-in-None c = simp (same_prefix c.args.field.now ∙ c.in-None.ensures.cases) c.number_of-in-None.ensures

@@ -1,37 +1,29 @@
-use mathlib.Core.Path.{refl, sym, ap, ◌∙◌}
-use Prim.Native.Nat.{ℕ, ◌+◌}
-use native.Mathlib.Omega.{arith}
-use borrow.Author.Tests.{eq-eqb, ne_eqb}
-use lib.ListN.{drop}
-use Rattle.case_numbers.specs.Numbers.{fold, with_digit, numeral}
-use Rattle.case_numbers.proofs.Fold.{fold_next, fold_end}
-use Rattle.case_numbers.proofs.number.number_of.Invariants.{put}
+use Rattle.std.proofs.Common.{ap, sym, ◌∙◌, ◌+◌, rules, arith, Some}
+use Rattle.std.proofs.lemmas.Bool.Decides.{nat_tests}
+use Rattle.case_numbers.specs.Numbers.{numeral, base_of}
+use Rattle.case_numbers.proofs.Digits.{from_next, from_stop, from_end, from_start, number_from}
 use Rattle.case_numbers.proofs.number.number_of.Goals as goal
 
-pub returns-then-field-eq0 : goal.returns-then-field-eq0
+pub returns-then-is_empty : goal.returns-then-is_empty
 unfolding numeral
-returns-then-field-eq0 c = simp (eq-eqb _ _ c.if-field-eq0.true)
+returns-then-is_empty c = grind (arith, nat_tests, c.is_empty.ensures, c.if-is_empty.true)
 
-pub loop-i-init : goal.loop-i-init
-loop-i-init c = (omega arith, omega arith, refl)
+pub returns-in_err-value : goal.returns-in_err-value
+returns-in_err-value c = let field = c.args.field.now in
+    let l = c.loop-byte in
+    let stop = from_stop c.if-hex.base (Some l.value) c.with_digit.result field l.byte-index (search rules) c.in_err-value.was c.with_digit.ensures in
+    c.from_residual.ensures ∙ sym (from_start (base_of c.args.hex) field (sym c.is_empty.ensures ∙ c.if-is_empty.false) ∙ ap (λ b. number_from b (Some 0) field 0) (sym l.invariant.base_is) ∙ sym l.invariant.left ∙ stop)
 
-pub with_digit-value-requires : goal.with_digit-value-requires
-with_digit-value-requires c = (omega (arith, c.loop-i.invariant.1), c.base-base.ensures.upper_bound, c.digit.ensures.upper_bound)
-
-pub loop-i-preserved : goal.loop-i-preserved
-loop-i-preserved c = let field = c.args.field.now in
-    let base = c.base-base.result in
-    let l = c.loop-i in
-    let made = c.with_digit-value.ensures.value ∙ ap (with_digit base l.value) c.digit.ensures.value in (
-      omega arith,
-      c.with_digit-value.ensures.upper_bound,
-      ap (λ (x : ℕ). fold (put base) x (drop (l.i + 1) field)) made ∙ fold_next (put base) l.value field l.i (omega arith) ∙ l.invariant.2,
-    )
+pub loop-byte-preserved : goal.loop-byte-preserved
+loop-byte-preserved c = let field = c.args.field.now in
+    let l = c.loop-byte in
+    record {
+      base_is = l.invariant.base_is;
+      left = ap (λ x. number_from c.if-hex.base x field (l.byte-index + 1)) (sym c.in_ok-value.was ∙ c.with_digit.ensures) ∙ from_next c.if-hex.base (Some l.value) field l.byte-index (search rules) ∙ l.invariant.left;
+    }
 
 pub returns : goal.returns
-unfolding numeral
-returns c = let a = c.args in
-    let base = c.base-base in
-    let l = c.loop-i in
-    let whole = sym (fold_end (put base.result) l.value a.field.now l.i (omega arith)) ∙ l.invariant.2 in
-    simp (ne_eqb _ _ c.if-field-eq0.false) (whole ∙ ap (λ (b : ℕ). fold (put b) 0 a.field.now) base.ensures.value)
+returns c = let field = c.args.field.now in
+    let l = c.loop-byte in
+    sym (from_end c.if-hex.base (Some l.value) field l.byte-index (search rules)) ∙ l.invariant.left ∙ ap (λ b. number_from b (Some 0) field 0) l.invariant.base_is
+    ∙ sym (from_start (base_of c.args.hex) field (sym c.is_empty.ensures ∙ c.if-is_empty.false))

@@ -1,23 +1,21 @@
-use native.Mathlib.Nat.{mul-le-mul}
-use native.Mathlib.Omega.{arith}
-use borrow.Author.Tests.{le-leb, lt-leb, lt-ltb, le-ltb}
-use Rattle.case_numbers.specs.Numbers.{with_digit}
+use Rattle.std.proofs.Common.{◌≡◌, ◌≤◌, Some, ap, sym, ◌∙◌, arith}
+use Rattle.std.specs.Char.{digit_value}
+use Rattle.case_numbers.specs.Numbers.{digit_of, with_digit}
+use Rattle.case_numbers.proofs.Digits.{same_digit, no_digit, put_if, put_other, put_large}
 use Rattle.case_numbers.proofs.number.with_digit.Goals as goal
 
-pub overflow_mul-longer : goal.overflow_mul-longer
-overflow_mul-longer c = omega (arith, mul-le-mul c.requires.0 c.requires.1)
+pub returns-in_err-digit : goal.returns-in_err-digit
+returns-in_err-digit c = let a = c.args in
+    let none : a.base ≤ digit_value a.byte = rw (← c.from.ensures) (omega (arith, c.in_err-digit.ensures.value)) in
+    c.from_residual.ensures ∙ sym (put_other a.base a.value _ (no_digit a.base a.byte c.requires.1 none))
 
-pub overflow_add-longer : goal.overflow_add-longer
-overflow_add-longer c = omega (arith, mul-le-mul c.requires.0 c.requires.1)
+pub returns-in_err-checked_mul : goal.returns-in_err-checked_mul
+returns-in_err-checked_mul c = let a = c.args in
+    c.from_residual-in_err-checked_mul.ensures ∙ sym (put_large a.base a.value _ (omega (arith, c.in_err-checked_mul.ensures)))
 
-pub returns-then-longer-le-MOST : goal.returns-then-longer-le-MOST
-unfolding with_digit
-returns-then-longer-le-MOST c = record { value = simp (lt-ltb _ _ c.if-digit-base.true, le-leb _ _ c.if-longer-le-MOST.true); upper_bound = omega arith }
-
-pub returns-else-longer-le-MOST : goal.returns-else-longer-le-MOST
-unfolding with_digit
-returns-else-longer-le-MOST c = record { value = simp (lt-ltb _ _ c.if-digit-base.true, lt-leb _ _ c.if-longer-le-MOST.false); upper_bound = omega arith }
-
-pub returns-else-digit-base : goal.returns-else-digit-base
-unfolding with_digit
-returns-else-digit-base c = record { value = simp (le-ltb _ _ c.if-digit-base.false); upper_bound = omega arith }
+pub returns : goal.returns
+returns c = let a = c.args in
+    let d = c.in_ok-digit.ensures.value in
+    let e : digit_of a.byte ≡ c.in_ok-digit.digit = same_digit a.base a.byte c.requires.1 (rw (← c.from.ensures) d.0) ∙ ap digit_value (sym c.from.ensures) ∙ sym d.1 in
+    let m = c.in_ok-checked_mul.ensures.1 in
+    put_if a.base a.value c.in_ok-digit.digit _ _ (omega (arith, d.0, d.1)) m c.checked_add.ensures ∙ sym (ap (with_digit a.base (Some a.value)) e)

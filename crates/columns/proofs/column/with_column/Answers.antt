@@ -1,7 +1,7 @@
-use mathlib.Core.Path.{◌≡◌, refl, sym, ap, ap₂, ◌∙◌}
+use mathlib.Core.Path.{◌≡◌, sym, ap, ap₂, ◌∙◌}
 use mathlib.Core.Bool.{cond}
 use mathlib.Core.List.{List}
-use Prim.Native.Nat.{ℕ, ◌+◌, ◌-◌, ◌*◌, ◌%◌, ◌^◌, ◌≤◌}
+use Prim.Native.Nat.{ℕ, ◌+◌, ◌*◌, ◌%◌, ◌^◌}
 use native.Mathlib.Omega.{arith}
 use borrow.Author.Rules.{rules}
 use lib.Dec.{eqb}
@@ -44,15 +44,6 @@ written c =
     let a = c.args in
     ap (λ (v : ℕ). get_or a.s.words (word c) 0 + v) (here c) ∙ sym (get_or-with_column a.count a.i (column c) a.s.words (word c) (omega arith) (omega arith))
 
-pub loop-k-init : goal.loop-k-init
-loop-k-init c = (omega arith, omega arith, search rules, refl)
-
-pub overflow_shl-odd_bit : goal.overflow_shl-odd_bit
-overflow_shl-odd_bit c = c.requires.i_lt_widest_width.0
-
-pub overflow_shl-even_bit : goal.overflow_shl-even_bit
-overflow_shl-even_bit c = c.requires.i_lt_widest_width.0
-
 pub overflow_add-out : goal.overflow_add-out
 overflow_add-out c = let a = c.args in
     let k = word c in
@@ -66,13 +57,10 @@ overflow_add-out c = let a = c.args in
 pub loop-k-preserved : goal.loop-k-preserved
 loop-k-preserved c = let a = c.args in
     let l = c.loop-k in
-    let w = with_column a.count a.i (column c) a.s.words in (
-      omega arith,
-      l.invariant.1,
-      l.invariant.2,
-      ap₂ (λ (t : List ℕ) (v : ℕ). set t l.k v) l.invariant.3 (written c)
-          ∙ over_suc w a.s.words l.k (omega (arith, length-with_column a.count a.i (column c) a.s.words)) (omega arith),
-    )
+    let w = with_column a.count a.i (column c) a.s.words in
+    let all : length a.s.words ≡ most_words = search rules in
+    ap₂ (λ (t : List ℕ) (v : ℕ). set t l.k v) l.invariant (written c)
+    ∙ over_suc w a.s.words l.k (omega (arith, length-with_column a.count a.i (column c) a.s.words)) (omega arith)
 
 pub returns : goal.returns
 returns c = let a = c.args in
@@ -80,4 +68,4 @@ returns c = let a = c.args in
     let d = picked a.i a.selector a.odd a.even in
     let w = with_column a.count a.i d a.s.words in
     let e : l.k ≡ a.count = omega arith in
-    l.invariant.3 ∙ ap (over w a.s.words) e ∙ with_column_rest a.count a.i d a.s.words l.invariant.1 l.invariant.2
+    l.invariant ∙ ap (over w a.s.words) e ∙ with_column_rest a.count a.i d a.s.words c.requires.i_lt_widest_width.1 (search rules)

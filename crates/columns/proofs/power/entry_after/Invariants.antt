@@ -1,13 +1,6 @@
-use mathlib.Core.Path.{◌≡◌, refl, ap, ◌∙◌}
-use Prim.Native.Nat.{◌-◌, ◌%◌, ◌^◌, ◌<◌, ◌≤◌}
-use native.Mathlib.Omega.{arith}
-use lib.ListN.{get_or}
-use Rattle.cycle.specs.Notation.{iterate}
-use Rattle.cycle.proofs.Iterate.{iterate_mod}
-use Rattle.tsc.specs.Constants.{most_words}
-use Rattle.words.specs.declared.arithmetic.Width.{Width}
-use Rattle.words.proofs.Reduced.{width_is}
-use Rattle.columns.proofs.Powers.{stands, stands-few, stands_next}
+use mathlib.Core.Path.{◌≡◌}
+use Prim.Native.Nat.{◌-◌, ◌%◌, ◌^◌, ◌≤◌}
+use Rattle.columns.proofs.Powers.{stands}
 use Rattle.columns.proofs.power.entry_after.Given as goal
 
 abbrev pub invariant-loop : goal.invariant-loop

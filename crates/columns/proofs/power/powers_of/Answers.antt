@@ -1,9 +1,9 @@
 use mathlib.Core.Path.{◌≡◌, refl}
-use Prim.Native.Nat.{ℕ, ◌-◌, ◌+◌, ◌^◌, ◌<◌, ◌≤◌}
+use Prim.Native.Nat.{ℕ, ◌+◌, ◌^◌, ◌<◌}
 use native.Mathlib.Omega.{arith}
 use Rattle.cycle.specs.Notation.{iterate}
 use Rattle.tsc.specs.Constants.{most_words}
-use Rattle.columns.proofs.Powers.{stands, stands-few, stands_next, Along, along_none, along_next, along_all}
+use Rattle.columns.proofs.Powers.{stands, stands-few, stands_next, along_none, along_next, along_all}
 use Rattle.columns.proofs.power.powers_of.Goals as goal
 use Rattle.columns.proofs.power.powers_of.Goals.{At-loop}
 

@@ -1,9 +1,6 @@
-use mathlib.Core.Path.{◌≡◌, refl}
-use Prim.Native.Nat.{ℕ, ◌-◌, ◌+◌, ◌^◌, ◌<◌, ◌≤◌}
-use native.Mathlib.Omega.{arith}
-use Rattle.cycle.specs.Notation.{iterate}
-use Rattle.tsc.specs.Constants.{most_words}
-use Rattle.columns.proofs.Powers.{stands, stands-few, stands_next, Along, along_none, along_next, along_all}
+use mathlib.Core.Path.{◌≡◌}
+use Prim.Native.Nat.{◌-◌, ◌^◌, ◌≤◌}
+use Rattle.columns.proofs.Powers.{stands, Along}
 use Rattle.columns.proofs.power.powers_of.Given as goal
 
 abbrev pub invariant-loop : goal.invariant-loop

@@ -1,82 +1,57 @@
-use Prim.Native.Nat.{◌≤◌}
-use native.Mathlib.Omega.{arith}
+use Rattle.std.proofs.Common.{◌≤◌, length, sym, ◌∙◌, arith}
 use Rattle.cycle.specs.Notation.{first}
-use Rattle.cycle.proofs.First.{first_le}
 use Rattle.completions.specs.Completion.{Injective}
-use Rattle.completions.specs.Finding.{is_fixed, clashes}
+use Rattle.completions.specs.Finding.{is_fixed}
 use Rattle.completions.proofs.Fewest.{FirstPair}
 use Rattle.completions.proofs.Clashes.{injective}
 use Rattle.completions.proofs.Least.{fixed_chosen, pair_of, pair_chosen, cycle-chosen}
 use Rattle.diagnosis.specs.Marks.{entry_of}
 use Rattle.diagnosis.proofs.Chosen.{alone, both, way}
+use Rattle.diagnosis.proofs.Found.{of_some, of_none, pair_found, no_pair}
 use Rattle.diagnosis.proofs.least.least_set.Goals as goal
-use Rattle.diagnosis.proofs.least.least_set.Goals.{After-partner, Else-i-size, Else-x-size}
+use Rattle.diagnosis.proofs.least.least_set.Goals.{In_default, In-Some-first_pair, In_default-first_pair}
 
--- ---- what is known at a place of the code
 -- no place is its own entry
-moves : (c : Else-x-size) → let a = c.args in a.size ≤ first a.size (is_fixed (entry_of a.table.now))
-moves c = omega (arith, c.fixed_point-x.ensures, c.if-x-size.false)
+moves : (c : In_default) → let t = c.args.table.now in length t ≤ first (length t) (is_fixed (entry_of t))
+moves c = omega (arith, of_none _ _ (sym c.fixed_point.ensures ∙ c.in_default.is))
 
 -- the pair
-pair : (c : After-partner) → let a = c.args in FirstPair a.size (entry_of a.table.now) c.first_clash-i.result c.partner.result
+pair : (c : In-Some-first_pair) → let t = c.args.table.now in FirstPair (length t) (entry_of t) c.in-Some-first_pair.x c.in-Some-first_pair.y
 pair c =
-    let a = c.args in
     let t = c.requires.0 in
-    pair_of a.size (entry_of a.table.now) t.large t.below ((omega (arith, c.fixed_point-x.ensures, c.if-x-size.false))) _ _ c.first_clash-i.ensures c.if-i-size.true c.partner.ensures
+    let p = c.in-Some-first_pair in
+    let (ex, l, ey) = pair_found _ (entry_of c.args.table.now) p.x p.y (sym c.first_pair.ensures ∙ p.is) in
+    pair_of _ (entry_of c.args.table.now) t.large t.below (moves (goal.at.bounds-marks-y c).In_default) p.x p.y ex l ey
 
 -- past the pairs no entry stands twice
-once : (c : Else-i-size) → let a = c.args in Injective a.size (entry_of a.table.now)
-once c =
-    let a = c.args in
-    let f = entry_of a.table.now in
-    injective a.size f (omega (arith, c.first_clash-i.ensures, c.if-i-size.false, first_le a.size (clashes a.size f)))
+once : (c : In_default-first_pair) → let t = c.args.table.now in Injective (length t) (entry_of t)
+once c = injective _ (entry_of c.args.table.now) (no_pair _ _ (sym c.first_pair.ensures ∙ c.in_default-first_pair.is))
 
--- ---- the needs
-pub no_marks-marks-requires : goal.no_marks-marks-requires
-no_marks-marks-requires c = tt
+pub returns-in-Some : goal.returns-in-Some
+returns-in-Some c = let t = c.requires.0 in
+    let x = c.in-Some.x in
+    let (e, l) = of_some _ _ x (sym c.fixed_point.ensures ∙ c.in-Some.is) in
+    (fixed_chosen _ (entry_of c.args.table.now) t.large t.below x e l _ (alone _ t.fits _ c.no_marks-marks.ensures x l)).0
 
-pub fixed_point-x-requires : goal.fixed_point-x-requires
-fixed_point-x-requires c = c.requires.0
+pub first_pair-requires : goal.first_pair-requires
+first_pair-requires c = (c.requires.0, of_none _ _ (sym c.fixed_point.ensures ∙ c.in_default.is))
 
-pub bounds-marks-x : goal.bounds-marks-x
-bounds-marks-x c = omega (arith, c.requires.0.fits)
+pub bounds-marks-y : goal.bounds-marks-y
+bounds-marks-y c = omega (arith, c.requires.0.fits, (pair c).below)
 
-pub returns-then-x-size : goal.returns-then-x-size
-returns-then-x-size c = let a = c.args in
-    let t = c.requires.0 in
-    let x = c.fixed_point-x in
-    let l = c.if-x-size.true in
-    (fixed_chosen a.size (entry_of a.table.now) t.large t.below x.result x.ensures l _ (alone a.size t.fits _ c.no_marks-marks.ensures x.result l)).0
-
-pub first_clash-i-requires : goal.first_clash-i-requires
-first_clash-i-requires c = c.requires.0
-
-pub bounds-marks-i : goal.bounds-marks-i
-bounds-marks-i c = omega (arith, c.requires.0.fits)
-
-pub partner-requires : goal.partner-requires
-partner-requires c = (c.requires.0, c.if-i-size.true)
-
-pub bounds-marks-partner : goal.bounds-marks-partner
-bounds-marks-partner c = omega (arith, c.requires.0.fits, (pair c).below)
-
-pub returns-then-i-size : goal.returns-then-i-size
-returns-then-i-size c = let a = c.args in
-    let t = c.requires.0 in
-    (pair_chosen a.size (entry_of a.table.now) t.large t.below (moves (goal.at.returns-then-i-size c).Else-x-size) _ _ (pair c) _
-    (both a.size t.fits _ c.no_marks-marks.ensures _ _ c.if-i-size.true (pair c).below)).0
+pub returns-in-Some-first_pair : goal.returns-in-Some-first_pair
+returns-in-Some-first_pair c = let t = c.requires.0 in
+    let p = pair c in
+    (pair_chosen _ (entry_of c.args.table.now) t.large t.below (moves (goal.at.returns-in-Some-first_pair c).In_default) _ _ p _
+    (both _ t.fits _ c.no_marks-marks.ensures _ _ (omega (arith, p.apart, p.below)) p.below)).0
 
 pub shortest-start-requires : goal.shortest-start-requires
 shortest-start-requires c = (c.requires.0, once c)
 
-pub mark_cycle-requires : goal.mark_cycle-requires
-mark_cycle-requires c = (c.requires.0, c.shortest-start.ensures.below)
-
 pub returns : goal.returns
-returns c = let a = c.args in
-    let f = entry_of a.table.now in
+returns c = let f = entry_of c.args.table.now in
     let t = c.requires.0 in
     let s = c.shortest-start in
     let m = c.mark_cycle in
-    (cycle-chosen a.size f t.large t.below (once (goal.at.returns c).Else-i-size) c.requires.1 s.result s.ensures _
-    (way a.size t.fits _ c.no_marks-marks.ensures f t.below s.result s.ensures.below m.result _ m.ensures.steps m.ensures.after)).0
+    (cycle-chosen _ f t.large t.below (once (goal.at.returns c).In_default-first_pair) c.requires.1 s.result s.ensures _
+    (way _ t.fits _ c.no_marks-marks.ensures f t.below s.result s.ensures.below m.result _ m.ensures.steps m.ensures.after)).0

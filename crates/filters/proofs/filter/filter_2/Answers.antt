@@ -1,5 +1,4 @@
 use native.Mathlib.Omega.{arith}
-use borrow.Author.Rules.{rules}
 use Rattle.tsc.specs.Word.{filter2}
 use Rattle.filters.specs.Rotations.{rotations2}
 use Rattle.filters.proofs.Rotated.{sum_lt, rotatable, rotated}

@@ -1,12 +1,12 @@
-use mathlib.Core.Path.{◌≡◌, refl, sym, ◌∙◌}
-use Prim.Native.Nat.{ℕ, ◌+◌, ◌-◌, ◌%◌, ◌≤◌, ◌<◌}
+use mathlib.Core.Path.{refl, sym, ◌∙◌}
+use Prim.Native.Nat.{◌-◌}
 use native.Mathlib.Omega.{arith}
 use borrow.Author.Tests.{lt-ltb, le-ltb}
 use lib.ListN.{length, length-set}
 use lib.Seq.{ext_get_or}
 use Rattle.cycle.proofs.Digits.{length-tabulate, get_d_tabulate}
 use Rattle.tsc.specs.Constants.{most_words, filter_words}
-use Rattle.words.proofs.Words.{Below, below_next}
+use Rattle.words.proofs.Words.{below_next}
 use Rattle.filters.proofs.filter.further_by.Invariants.{PlaceAt}
 use Rattle.filters.proofs.filter.further_by.Goals as goal
 

@@ -2,7 +2,6 @@ use mathlib.Core.Path.{◌≡◌}
 use mathlib.Core.List.{List}
 use Prim.Native.Nat.{ℕ}
 use borrow.Author.Tests.{eq-eqb, ne_eqb}
-use native.Mathlib.Omega.{arith}
 use Rattle.tsc.specs.declared.Card.{Card}
 use Rattle.words.specs.declared.arithmetic.Width.{Width}
 use Rattle.words.specs.Widths.{width_of}

@@ -1,4 +1,4 @@
-use Rattle.std.proofs.Common.{◌≡◌, ℕ, length, get_or, arith, w32, Fits, rules}
+use Rattle.std.proofs.Common.{◌≡◌, ℕ, length, get_or, w32, Fits, rules}
 use Rattle.tsc.specs.Constants.{most_words}
 use Rattle.gates.proofs.GateStep.{selector-words}
 use Rattle.gates.proofs.step.selector_of.Goals as goal

@@ -1,4 +1,4 @@
-use Rattle.std.proofs.Common.{length, sym, ap, true≢false, rules}
+use Rattle.std.proofs.Common.{length, sym, ap, true≢false}
 use Rattle.gates.proofs.GateStep.{one_zero}
 use Rattle.gates.proofs.tsc1.is_tsc1.Goals as goal
 

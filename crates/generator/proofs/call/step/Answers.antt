@@ -1,75 +1,62 @@
-use mathlib.Core.Path.{◌≡◌, sym, ◌∙◌}
-use mathlib.Core.List.{List}
-use Prim.Native.Nat.{ℕ}
-use native.Mathlib.Omega.{arith}
-use borrow.Author.Rules.{rules}
+use Rattle.std.proofs.Common.{sym}
+use Rattle.std.proofs.lemmas.Result.{err_from_is_err_and}
 use Rattle.tsc.specs.Step.{step}
 use Rattle.card_format.specs.Reading.{card_of}
-use Rattle.tsc.specs.declared.Card.{Card}
-use Rattle.draws.specs.Calls.{refusal_for, stepped}
-use Rattle.draws.proofs.Opening.{Clear, told, clear}
-use Rattle.draws.proofs.Called.{call_refused, few, accepted, ready, step_made}
+use Rattle.draws.specs.Calls.{stepped}
+use Rattle.draws.proofs.Opening.{Clear, told_by_card, told_by_state, clear}
+use Rattle.draws.proofs.Called.{left, few, accepted, ready, step_made}
 use Rattle.stepping.specs.State.{Steps}
 use Rattle.stepping.proofs.Columns.{sized, cycled, terms_width}
 use Rattle.generator.proofs.Found.{clear_tsc1}
 use Rattle.generator.proofs.call.step.Goals as goal
-use Rattle.generator.proofs.call.step.Goals.{After-call_refusal-told, After-powers_of-p, Else-told-ne0}
+use Rattle.generator.proofs.call.step.Goals.{After-forward-p, In_ok-state_refusal}
 
-abbrev bytes : After-call_refusal-told → List ℕ
-bytes o = o.args.card.now
-
-abbrev xs : After-call_refusal-told → List ℕ
-xs o = o.args.state.now
-
--- the card as it was accepted
-abbrev given : After-call_refusal-told → Card
-given o = o.accept-found.result.card
-
--- what is told
-refusal : (o : After-call_refusal-told) → o.call_refusal-told.result ≡ refusal_for (bytes o) (xs o)
-refusal o = told (bytes o) (xs o) o.accept-found.result o.accept-found.ensures o.call_refusal-told.ensures
-
--- past the first test nothing is refused
-passing : (c : Else-told-ne0) → Clear c.args.card.now c.args.state.now c.accept-found.result.card
-passing c = clear c.args.card.now c.args.state.now c.accept-found.result c.accept-found.ensures (sym ((told c.args.card.now c.args.state.now c.accept-found.result c.accept-found.ensures c.call_refusal-told.ensures)) ∙ c.if-told-ne0.false)
+-- past both tests nothing is refused, and the values are the card's
+passing : (c : In_ok-state_refusal) → Clear c.args.card.now c.args.state.now c.in_ok-values.values
+passing c = clear c.args.card.now c.args.state.now c.accept.ensures c.in_ok-values.was c.state_refusal.ensures c.in_ok-state_refusal.was
 
 -- what the step asks for
-steps : (c : After-powers_of-p) → Steps c.accept-found.result.card c.terms_of-terms.result c.powers_of-p.result.odd c.powers_of-p.result.even c.load-held.result
+steps : (c : After-forward-p) → Steps c.in_ok-values.values c.terms_of-terms.result c.forward-p.result.odd c.forward-p.result.even c.load-held.result
 steps c =
-    let k = (clear c.args.card.now c.args.state.now c.accept-found.result c.accept-found.ensures (sym ((told c.args.card.now c.args.state.now c.accept-found.result c.accept-found.ensures c.call_refusal-told.ensures)) ∙ c.if-told-ne0.false)) in
-    record { accepted = accepted k; holds = ready k c.load-held.ensures; selects = c.terms_of-terms.ensures; first = c.powers_of-p.ensures.0; second = c.powers_of-p.ensures.1 }
+    let k = clear c.args.card.now c.args.state.now c.accept.ensures c.in_ok-values.was c.state_refusal.ensures c.in_ok-state_refusal.was in
+    record { accepted = accepted k; holds = ready k c.load-held.ensures; selects = c.terms_of-terms.ensures; first = c.forward-p.ensures.0; second = c.forward-p.ensures.1 }
 
-pub returns-then-told-ne0 : goal.returns-then-told-ne0
+pub returns-in_err-values-clause-answer : goal.returns-in_err-values-clause-answer
+returns-in_err-values-clause-answer c = let p = err_from_is_err_and c.from_residual.result c.from_residual.ensures.1 in
+    rw (p.1, p.2) (sym (told_by_card c.args.card.now c.args.state.now c.accept.ensures c.in_err-values.was))
+
+pub returns-in_err-values-clause-after : goal.returns-in_err-values-clause-after
 unfolding stepped
-returns-then-told-ne0 c = let both = call_refused (bytes (goal.at.returns-then-told-ne0 c).After-call_refusal-told) (xs (goal.at.returns-then-told-ne0 c).After-call_refusal-told) (step (card_of (bytes (goal.at.returns-then-told-ne0 c).After-call_refusal-told)) (xs (goal.at.returns-then-told-ne0 c).After-call_refusal-told)) _ _ (refusal (goal.at.returns-then-told-ne0 c).After-call_refusal-told) c.if-told-ne0.true in record { answer = both.0; after = both.1.0; undone = both.1.1 }
+returns-in_err-values-clause-after c = left _ _ (step (card_of c.args.card.now) c.args.state.now) c.in_err-values.field-0.0 (told_by_card c.args.card.now c.args.state.now c.accept.ensures c.in_err-values.was)
+
+pub returns-in_err-state_refusal-clause-answer : goal.returns-in_err-state_refusal-clause-answer
+returns-in_err-state_refusal-clause-answer c = let p = err_from_is_err_and c.from_residual-in_err-state_refusal.result c.from_residual-in_err-state_refusal.ensures.1 in
+    rw (p.1, p.2) (sym (told_by_state c.args.card.now c.args.state.now c.accept.ensures c.in_ok-values.was c.state_refusal.ensures c.in_err-state_refusal.was))
+
+pub returns-in_err-state_refusal-clause-after : goal.returns-in_err-state_refusal-clause-after
+unfolding stepped
+returns-in_err-state_refusal-clause-after c = left _ _ (step (card_of c.args.card.now) c.args.state.now) c.in_err-state_refusal.field-0.0 (told_by_state c.args.card.now c.args.state.now c.accept.ensures c.in_ok-values.was c.state_refusal.ensures c.in_err-state_refusal.was)
 
 pub load-held-requires : goal.load-held-requires
 load-held-requires c = few (passing c)
 
-pub store-requires : goal.store-requires
-store-requires c = few (passing (goal.at.store-requires c).Else-told-ne0)
-
 -- TSC-1, by its gate formulas
 pub returns-then-is_tsc1 : goal.returns-then-is_tsc1
-returns-then-is_tsc1 c = let both = step_made (clear_tsc1 (passing (goal.at.returns-then-is_tsc1 c).Else-told-ne0) c.is_tsc1.ensures c.if-is_tsc1.true) c.load-held.ensures c.next_state.ensures c.store.ensures in record { answer = both.0; after = both.1.0; undone = both.1.1 }
+returns-then-is_tsc1 c = let k = passing (goal.at.returns-then-is_tsc1 c).In_ok-state_refusal in
+    let made = step_made (clear_tsc1 k c.is_tsc1.ensures c.if-is_tsc1.true) c.load-held.ensures c.next_state.ensures c.store.ensures in
+    record { answer = made.0; after = made.1.0; undone = made.1.1 }
 
 pub terms_of-terms-requires : goal.terms_of-terms-requires
-terms_of-terms-requires c = sized (given (goal.at.terms_of-terms-requires c).After-call_refusal-told) (accepted (passing (goal.at.terms_of-terms-requires c).Else-told-ne0))
+terms_of-terms-requires c = sized c.in_ok-values.values (accepted (passing (goal.at.terms_of-terms-requires c).In_ok-state_refusal))
 
-pub overflow_cast-found-2 : goal.overflow_cast-found-2
-overflow_cast-found-2 c = omega (arith, c.accept-found.type_inv)
-
-pub overflow_cast-found-3 : goal.overflow_cast-found-3
-overflow_cast-found-3 c = omega (arith, c.accept-found.type_inv)
-
-pub powers_of-p-requires : goal.powers_of-p-requires
-powers_of-p-requires c = cycled (given (goal.at.powers_of-p-requires c).After-call_refusal-told) (accepted (passing (goal.at.powers_of-p-requires c).Else-told-ne0))
+pub forward-p-requires : goal.forward-p-requires
+forward-p-requires c = cycled c.in_ok-values.values (accepted (passing (goal.at.forward-p-requires c).In_ok-state_refusal))
 
 pub next_state-next-requires : goal.next_state-next-requires
-next_state-next-requires c = let st = steps (goal.at.next_state-next-requires c).After-powers_of-p in terms_width (given (goal.at.next_state-next-requires c).After-call_refusal-told) _ st.accepted st.selects
-
-pub store-requires-2 : goal.store-requires-2
-store-requires-2 c = few (passing (goal.at.store-requires-2 c).Else-told-ne0)
+next_state-next-requires c = let st = steps (goal.at.next_state-next-requires c).After-forward-p in terms_width c.in_ok-values.values _ st.accepted st.selects
 
 pub returns : goal.returns
-returns c = let st = c.next_state-next.ensures (given (goal.at.returns c).After-call_refusal-told) (steps (goal.at.returns c).After-powers_of-p) in let both = step_made (passing (goal.at.returns c).Else-told-ne0) c.load-held.ensures st c.store-2.ensures in record { answer = both.0; after = both.1.0; undone = both.1.1 }
+returns c =
+    let st = c.next_state-next.ensures c.in_ok-values.values (steps (goal.at.returns c).After-forward-p) in
+    let made = step_made (passing (goal.at.returns c).In_ok-state_refusal) c.load-held.ensures st c.store-2.ensures in
+    record { answer = made.0; after = made.1.0; undone = made.1.1 }

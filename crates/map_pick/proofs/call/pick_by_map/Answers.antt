@@ -3,10 +3,9 @@ use mathlib.Core.Bool.{Bool, true}
 use mathlib.Core.List.{List, ◌++◌}
 use Prim.Native.Nat.{ℕ}
 use native.Mathlib.Omega.{arith}
-use borrow.Author.Rules.{rules}
-use borrow.Author.Tests.{not-true, not-false}
 use lib.ListN.{length, take, length-take}
 use Rattle.refusals.specs.Refusals.{first_of}
+use Rattle.refusals.proofs.Answers.{told_of_refusal}
 use Rattle.draws.specs.Calls.{call_checks}
 use Rattle.ties.specs.Least.{SameTies}
 use Rattle.places.specs.Places.{Places, placed, distances_of, on_map, place_checks}
@@ -14,7 +13,7 @@ use Rattle.places.proofs.Signed.{read_back}
 use Rattle.places.proofs.Distances.{length-distances}
 use Rattle.places.proofs.Places.{measured_read, distances_read}
 use Rattle.map_pick.specs.Measured.{can_measure}
-use Rattle.map_pick.proofs.Measured.{measurable, told_refused, told_picked}
+use Rattle.map_pick.proofs.Measured.{measurable, told_refused, refuses, told_picked}
 use Rattle.map_pick.proofs.call.pick_by_map.Goals as goal
 use Rattle.map_pick.proofs.call.pick_by_map.Goals.{After-can_measure, After-marks_of-marks, Else-not-can_measure}
 
@@ -42,13 +41,24 @@ ties-alike c =
 as_many : (c : After-marks_of-marks) → let n = length ((let a = c.args in placed a.x a.y a.shovels.now a.xs.now a.ys.now)).xs in length (take n c.marks_of-marks.result) ≡ n
 as_many c = let q = (let a = c.args in placed a.x a.y a.shovels.now a.xs.now a.ys.now) in sym (ties-alike c).size ∙ length-distances q.x q.y q.xs q.ys
 
+pub unwrap_err-requires : goal.unwrap_err-requires
+unwrap_err-requires c = let m = (goal.at.unwrap_err-requires c).After-can_measure in
+    let q = given m in
+    let a = c.args in
+    let h = c.first_refusal-told.ensures ∙ ap (λ (b : Bool). first_of (call_checks a.card.now a.state.now ++ place_checks q.shovels q.xs q.ys b)) (mapped m) in
+    refuses _ _ q (sym (found m) ∙ c.if-not-can_measure.true) _ h
+
 pub returns-then-not-can_measure : goal.returns-then-not-can_measure
-returns-then-not-can_measure c = let q = given (goal.at.returns-then-not-can_measure c).After-can_measure in
-    let a = c.args in let both = told_refused _ _ q (sym (found (goal.at.returns-then-not-can_measure c).After-can_measure) ∙ c.if-not-can_measure.true)
-    (c.first_refusal.ensures ∙ ap (λ (b : Bool). first_of (call_checks a.card.now a.state.now ++ place_checks q.shovels q.xs q.ys b)) (mapped (goal.at.returns-then-not-can_measure c).After-can_measure)) in record { answer = both.0; after = both.1 }
+returns-then-not-can_measure c = let m = (goal.at.returns-then-not-can_measure c).After-can_measure in
+    let q = given m in
+    let a = c.args in
+    let h = c.first_refusal-told.ensures ∙ ap (λ (b : Bool). first_of (call_checks a.card.now a.state.now ++ place_checks q.shovels q.xs q.ys b)) (mapped m) in
+    let both = told_refused _ _ q (sym (found m) ∙ c.if-not-can_measure.true) (sym (told_of_refusal h c.unwrap_err.ensures)) in
+    rw c.from.ensures (record { answer = both.0; after = both.1 })
 
 pub marks_of-marks-requires : goal.marks_of-marks-requires
-marks_of-marks-requires c = let h = measurable c.args.card.now c.args.state.now (given (goal.at.marks_of-marks-requires c).After-can_measure) (can c) in
+marks_of-marks-requires c = let at = goal.at.marks_of-marks-requires c in
+    let h = measurable c.args.card.now c.args.state.now (given at.After-can_measure) (can at.Else-not-can_measure) in
     (measured_read c.ranges.x c.ranges.y h.0, h.1, h.2)
 
 pub slice_bounds-marks-end : goal.slice_bounds-marks-end

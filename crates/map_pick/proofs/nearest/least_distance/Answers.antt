@@ -1,33 +1,22 @@
-use mathlib.Core.Path.{◌≡◌, subst}
-use mathlib.Core.List.{List}
-use Prim.Native.Nat.{ℕ, ◌-◌, ◌≤◌}
-use native.Mathlib.Omega.{arith}
-use lib.ListN.{length}
-use mir.Syntax.{w32}
-use mir.Val.{to_z}
+use Rattle.std.proofs.Common.{refl, sym, ap, subst, ◌∙◌, rules, tests, ℕ, length, get_or, min, arith}
+use Rattle.std.specs.List.{reduce}
+use Rattle.std.specs.Option.{option_map}
+use Rattle.std.proofs.lemmas.Iterator.{YieldsList-from_range, YieldsList-from_map}
+use Rattle.std.proofs.lemmas.Iterator.Consumers.{min_from_yields_List}
+use Rattle.std.proofs.lemmas.List.FromFn.{fill_by_all}
 use Rattle.ties.specs.Least.{LeastOf}
-use Rattle.ties.proofs.Least.{least_first, least_next}
-use Rattle.places.specs.Distances.{distances}
-use Rattle.places.proofs.Signed.{read}
-use Rattle.places.proofs.Places.{measured_read, distances_read}
+use Rattle.ties.proofs.Least.{least-reduced}
+use Rattle.places.specs.Around.{distances_around}
+use Rattle.places.proofs.Distances.{length-distances}
 use Rattle.map_pick.proofs.nearest.least_distance.Goals as goal
 
-pub distance_at-least-requires : goal.distance_at-least-requires
-distance_at-least-requires c = (measured_read c.ranges.x c.ranges.y c.requires.0, c.requires.1)
-
-pub loop-i-init : goal.loop-i-init
-loop-i-init c = (omega arith, rw c.distance_at-least.ensures (least_first _))
-
-pub distance_at-requires : goal.distance_at-requires
-distance_at-requires c = (measured_read c.ranges.x c.ranges.y c.requires.0, omega arith)
-
-pub loop-i-preserved : goal.loop-i-preserved
-loop-i-preserved c = let l = c.loop-i in
-    (omega arith, rw (c.lesser-least.ensures, c.distance_at.ensures) (least_next _ l.i l.least l.invariant.1))
-
 pub returns : goal.returns
-returns c = let l = c.loop-i in
-    let a = c.args in
-    let e : l.i ≡ length a.xs.now = omega arith in
-    subst (λ (ds : List ℕ). LeastOf ds (length a.xs.now) l.least) (distances_read a.x a.y a.xs.now a.ys.now c.ranges.x c.ranges.y)
-    (subst (λ (n : ℕ). LeastOf (distances (read a.x) (read a.y) a.xs.now a.ys.now) n l.least) e l.invariant.1)
+returns c =
+    let q = c.args.around.now in
+    let n : ℕ = length q.xs.now in
+    let ds = distances_around q in
+    let long = length-distances q.x q.y q.xs.now q.ys.now in
+    let all = fill_by_all (λ i. get_or ds i 0) ds n 0 long (λ k l. refl) in
+    let least = least-reduced ds c.unwrap.result (sym (ap (option_map (λ y. y)) c.unwrap.ensures) ∙ min_from_yields_List _ _ c.min.ensures.ran
+    (YieldsList-from_map _ (λ i. get_or ds i 0) (YieldsList-from_range 0 n n (cc) (omega arith)) c.map.ensures.closure (λ x r q k. search (rules, tests))) ∙ ap (reduce min) (sym all)) in
+    subst (λ (k : ℕ). LeastOf ds k c.unwrap.result) long least

@@ -1,22 +1,30 @@
-use mathlib.Core.Path.{◌≡◌, sym, ◌∙◌}
-use Rattle.refusals.specs.Refusals.{first_of}
+use Rattle.std.proofs.Common.{◌≡◌, List, ◌++◌, ℕ, sym, ◌∙◌}
+use Rattle.std.proofs.lemmas.Result.{err_from_is_err_and}
+use Rattle.refusals.specs.declared.Refusal.{Refusal}
+use Rattle.refusals.specs.Refusals.{Check, number, first_of}
+use Rattle.refusals.proofs.Answers.{number_nonzero}
 use Rattle.refusals.proofs.Refusals.{first-left, first_right}
 use Rattle.draws.specs.Calls.{call_checks, refusal_for}
-use Rattle.draws.proofs.Opening.{told}
+use Rattle.draws.proofs.Opening.{told_by_card, told_by_state, clear}
 use Rattle.map_pick.proofs.refusal.first_refusal.Goals as goal
-use Rattle.map_pick.proofs.refusal.first_refusal.Goals.{After-call_refusal-told}
 
--- what is told of the card and the state
-refusal : (c : After-call_refusal-told) → let a = c.args in
-    c.call_refusal-told.result ≡ first_of (call_checks a.card.now a.state.now)
+-- a refusal of the card or of the state is told before others
+told_first : (bytes xs : List ℕ) (later : List Check) (e : Refusal) → refusal_for bytes xs ≡ number e → number e ≡ first_of (call_checks bytes xs ++ later)
 unfolding refusal_for
-refusal c = told _ _ c.accept-accepted.result c.accept-accepted.ensures c.call_refusal-told.ensures
+told_first bytes xs later e q = sym (first-left (call_checks bytes xs) later (λ z. number_nonzero e (sym q ∙ z)) ∙ q)
 
-pub returns-then-told-ne0 : goal.returns-then-told-ne0
-returns-then-told-ne0 c = let a = c.args in
-    let e = refusal (goal.at.returns-then-told-ne0 c).After-call_refusal-told in
-    e ∙ sym (first-left (call_checks a.card.now a.state.now) _ (λ z. c.if-told-ne0.true (e ∙ z)))
+pub returns-in_err-values : goal.returns-in_err-values
+returns-in_err-values c = let a = c.args in
+    let p = err_from_is_err_and c.from_residual.result c.from_residual.ensures.1 in
+    rw (p.1, p.2) (told_first a.card.now a.state.now _ c.in_err-values.field-0.0 (told_by_card a.card.now a.state.now c.accept.ensures c.in_err-values.was))
+
+pub returns-in_err-state_refusal : goal.returns-in_err-state_refusal
+returns-in_err-state_refusal c = let a = c.args in
+    let p = err_from_is_err_and c.from_residual-in_err-state_refusal.result c.from_residual-in_err-state_refusal.ensures.1 in
+    rw (p.1, p.2) (told_first a.card.now a.state.now _ c.in_err-state_refusal.field-0.0 (told_by_state a.card.now a.state.now c.accept.ensures c.in_ok-values.was c.state_refusal.ensures c.in_err-state_refusal.was))
 
 pub returns : goal.returns
+unfolding refusal_for
 returns c = let a = c.args in
-    c.places_refusal.ensures ∙ sym (first_right (call_checks a.card.now a.state.now) _ (sym (refusal (goal.at.returns c).After-call_refusal-told) ∙ c.if-told-ne0.false))
+    let k = clear a.card.now a.state.now c.accept.ensures c.in_ok-values.was c.state_refusal.ensures c.in_ok-state_refusal.was in
+    c.places_refusal.ensures ∙ sym (first_right (call_checks a.card.now a.state.now) _ k.none)

@@ -1,96 +1,93 @@
-use mathlib.Core.Path.{◌≡◌, refl, sym, ap, ◌∙◌, subst}
-use mathlib.Core.Logic.{◌≢◌}
-use mathlib.Core.Bool.{true}
-use mathlib.Core.List.{List}
-use Prim.Native.Nat.{ℕ}
-use native.Mathlib.Omega.{arith}
-use borrow.Author.Rules.{rules}
-use lib.ListN.{length}
-use Rattle.tsc.specs.declared.Card.{Card}
-use Rattle.draws.specs.Calls.{refusal_for}
-use Rattle.draws.proofs.Opening.{Clear, told, clear}
+use Rattle.std.proofs.Common.{◌≡◌, true, List, ℕ, Option, length, sym, ap, subst, ◌∙◌}
+use Rattle.std.proofs.lemmas.Result.{err_from_is_err_and}
+use Rattle.std.specs.Prelude.{Err}
+use Rattle.refusals.specs.declared.Refusal.{Refusal}
+use Rattle.refusals.specs.Refusals.{number, numbered}
+use Rattle.refusals.proofs.Answers.{number_nonzero}
+use Rattle.draws.proofs.Opening.{Clear, told_by_card, told_by_state, clear}
 use Rattle.draws.proofs.Called.{few, accepted, ready}
 use Rattle.gates.proofs.GateStep.{only-p1}
-use Rattle.change_order.specs.declared.Best.{Best}
+use Rattle.changes.specs.declared.Change.{Change}
 use Rattle.outcomes.specs.Elsewhere.{elsewhere}
 use Rattle.candidates.specs.Best.{BestOf}
 use Rattle.picks.specs.Picks.{pick_refusal}
-use Rattle.picks.proofs.Picking.{told_call, told_later}
-use Rattle.pick.proofs.Passed.{Free, free}
-use Rattle.margins.specs.declared.Margin.TheVariants.{Refused}
+use Rattle.picks.proofs.Picking.{told_call}
+use Rattle.pick.proofs.Passed.{Free, told_by_list, free}
 use Rattle.margins.specs.Margins.{IsMargin}
 use Rattle.margins.proofs.Answers.{margin_refused}
 use Rattle.margin.proofs.Found.{Draws, listed, found_nothing, found_counts, found_least}
 use Rattle.margin.proofs.call.margin.Goals as goal
-use Rattle.margin.proofs.call.margin.Goals.{After-call_refusal-told, After-known_of-known, After-least_change-best, After-list_ties-found, Else-found-ne0, Else-told-ne0}
+use Rattle.margin.proofs.call.margin.Goals.{After-known_of-known, After-least_change, In_ok-state_refusal, In_ok-found}
 
--- the card as it was accepted
-abbrev given : After-call_refusal-told → Card
-given o = o.accept-accepted.result.card
+-- past the first two tests the card and the state are not refused
+passing : (c : In_ok-state_refusal) → Clear c.args.card.now c.args.state.now c.in_ok-values.values
+passing c = clear c.args.card.now c.args.state.now c.accept.ensures c.in_ok-values.was c.state_refusal.ensures c.in_ok-state_refusal.was
 
--- what is told of the card and the state
-told-first : (o : After-call_refusal-told) → let a = o.args in o.call_refusal-told.result ≡ refusal_for a.card.now a.state.now
-told-first o = told _ _ o.accept-accepted.result o.accept-accepted.ensures o.call_refusal-told.ensures
+-- past the third nothing is
+going : (c : In_ok-found) → let a = c.args in Free a.card.now a.state.now a.shovels.now a.times.now c.in_ok-values.values c.in_ok-found.found
+going c = let a = c.args in
+    let k = clear a.card.now a.state.now c.accept.ensures c.in_ok-values.was c.state_refusal.ensures c.in_ok-state_refusal.was in
+    free _ _ _ _ k c.list_ties.ensures.refusal c.in_ok-found.was c.in_ok-found.ensures.found
 
--- past the first test they are not refused
-passing : (c : Else-told-ne0) → let a = c.args in Clear a.card.now a.state.now c.accept-accepted.result.card
-passing c = clear _ _ c.accept-accepted.result c.accept-accepted.ensures (sym ((told _ _ c.accept-accepted.result c.accept-accepted.ensures c.call_refusal-told.ensures)) ∙ c.if-told-ne0.false)
-
--- the second tells of the list, or of nothing
-told-list : (c : After-list_ties-found) → let a = c.args in
-    c.list_ties-found.result.refusal ≡ pick_refusal a.card.now a.state.now a.shovels.now a.times.now
-told-list c = told_later _ _ _ _ ((clear _ _ c.accept-accepted.result c.accept-accepted.ensures (sym ((told _ _ c.accept-accepted.result c.accept-accepted.ensures c.call_refusal-told.ensures)) ∙ c.if-told-ne0.false))) refl c.list_ties-found.ensures.refusal
-
--- past it nothing is refused
-going : (c : Else-found-ne0) → let a = c.args in
-    Free a.card.now a.state.now a.shovels.now a.times.now c.accept-accepted.result.card c.list_ties-found.result
-going c = free _ _ _ _ _ _ ((clear _ _ c.accept-accepted.result c.accept-accepted.ensures (sym ((told _ _ c.accept-accepted.result c.accept-accepted.ensures c.call_refusal-told.ensures)) ∙ c.if-told-ne0.false))) ((told_later _ _ _ _ ((clear _ _ c.accept-accepted.result c.accept-accepted.ensures (sym ((told _ _ c.accept-accepted.result c.accept-accepted.ensures c.call_refusal-told.ensures)) ∙ c.if-told-ne0.false))) refl c.list_ties-found.ensures.refusal)) c.list_ties-found.ensures.found c.if-found-ne0.false
-
-refusal : (bytes xs shovels times : List ℕ) (r : ℕ) → r ≢ 0 → r ≡ pick_refusal bytes xs shovels times → IsMargin bytes xs shovels times (Refused r)
-refusal bytes xs shovels times r ne e = (margin_refused bytes xs shovels times (λ z. ne (e ∙ z)) _).1 (ap Refused e)
+refusal : (bytes xs shovels times : List ℕ) (e : Refusal) → pick_refusal bytes xs shovels times ≡ number e → IsMargin bytes xs shovels times (numbered (Err e))
+refusal bytes xs shovels times e q = (margin_refused bytes xs shovels times (λ z. number_nonzero e (sym q ∙ z)) _).1 (ap Err (sym q))
 
 -- what the search is given
 draws : (c : After-known_of-known) → let a = c.args in
-    Draws a.state.now a.shovels.now a.times.now c.accept-accepted.result.card c.list_ties-found.result c.known_of-known.result
+    Draws a.state.now a.shovels.now a.times.now c.in_ok-values.values c.in_ok-found.found c.known_of-known.result
 draws c =
     let e = c.known_of-known.ensures in
     record { width = e.width; state = c.load-held.result; lent = c.load-held.ensures; words = e.words; chosen = e.chosen }
 
 -- what it finds
-best-is : (c : After-least_change-best) {r : Best} → c.least_change-best.result ≡ r → let a = c.args in
+best-is : (c : After-least_change) {r : Option Change} → c.least_change.result ≡ r → let a = c.args in
     BestOf a.shovels.now a.times.now (λ ys. elsewhere c.known_of-known.result a.shovels.now ys ≡ true) (length a.times.now) r
 best-is c e =
     let a = c.args in
-    subst (BestOf a.shovels.now a.times.now (λ ys. elsewhere c.known_of-known.result a.shovels.now ys ≡ true) (length a.times.now)) e c.least_change-best.ensures
+    subst (BestOf a.shovels.now a.times.now (λ ys. elsewhere c.known_of-known.result a.shovels.now ys ≡ true) (length a.times.now)) e c.least_change.ensures
 
-pub returns-then-told-ne0 : goal.returns-then-told-ne0
-returns-then-told-ne0 c = let ne = c.if-told-ne0.true in refusal _ _ _ _ _ ne (told_call _ _ _ _ _ (told-first (goal.at.returns-then-told-ne0 c).After-call_refusal-told) ne)
+pub returns-in_err-values : goal.returns-in_err-values
+returns-in_err-values c = let a = c.args in
+    let p = err_from_is_err_and c.from_residual.result c.from_residual.ensures.1 in
+    let e = c.in_err-values.field-0.0 in
+    rw (p.1, p.2) (refusal _ _ _ _ e (told_call _ _ _ _ e (told_by_card a.card.now a.state.now c.accept.ensures c.in_err-values.was)))
 
-pub list_ties-found-requires : goal.list_ties-found-requires
-list_ties-found-requires c = (accepted (passing (goal.at.list_ties-found-requires c).Else-told-ne0)).narrow
+pub returns-in_err-state_refusal : goal.returns-in_err-state_refusal
+returns-in_err-state_refusal c = let a = c.args in
+    let p = err_from_is_err_and c.from_residual-in_err-state_refusal.result c.from_residual-in_err-state_refusal.ensures.1 in
+    let e = c.in_err-state_refusal.field-0.0 in
+    rw (p.1, p.2) (refusal _ _ _ _ e (told_call _ _ _ _ e (told_by_state a.card.now a.state.now c.accept.ensures c.in_ok-values.was c.state_refusal.ensures c.in_err-state_refusal.was)))
 
-pub returns-then-found-ne0 : goal.returns-then-found-ne0
-returns-then-found-ne0 c = refusal _ _ _ _ _ c.if-found-ne0.true (told-list (goal.at.returns-then-found-ne0 c).After-list_ties-found)
+pub list_ties-requires : goal.list_ties-requires
+list_ties-requires c = (accepted (passing (goal.at.list_ties-requires c).In_ok-state_refusal)).narrow
+
+pub returns-in_err-found : goal.returns-in_err-found
+returns-in_err-found c = let a = c.args in
+    let p = err_from_is_err_and c.from_residual-in_err-found.result c.from_residual-in_err-found.ensures.1 in
+    let told = told_by_list _ _ _ _ (passing (goal.at.returns-in_err-found c).In_ok-state_refusal) c.list_ties.ensures.refusal c.in_err-found.was in
+    rw (p.1, p.2) (refusal a.card.now a.state.now a.shovels.now a.times.now c.in_err-found.field-0.0 told)
 
 pub load-held-requires : goal.load-held-requires
-load-held-requires c = few (going c).clear
+load-held-requires c = few (going (goal.at.load-held-requires c).In_ok-found).clear
 
 pub known_of-known-requires : goal.known_of-known-requires
-known_of-known-requires c = let f = going (goal.at.known_of-known-requires c).Else-found-ne0 in
+known_of-known-requires c = let f = going (goal.at.known_of-known-requires c).In_ok-found in
     (accepted f.clear, only-p1 _ _ _ f.clear.card_is c.is_tsc1-is_tsc1.ensures, ready f.clear c.load-held.ensures, f.some, f.few, f.listed)
 
-pub least_change-best-requires : goal.least_change-best-requires
-least_change-best-requires c = listed _ _ _ _ _ _ (going (goal.at.least_change-best-requires c).Else-found-ne0) _ (draws c)
+pub least_change-requires : goal.least_change-requires
+least_change-requires c = listed _ _ _ _ _ _ (going (goal.at.least_change-requires c).In_ok-found) _ (draws (goal.at.least_change-requires c).After-known_of-known)
 
 pub told-requires : goal.told-requires
-told-requires c = let f = going (goal.at.told-requires c).Else-found-ne0 in
-    let l = listed _ _ _ _ _ _ f _ (draws (goal.at.told-requires c).After-known_of-known) in
-    let k = found_counts _ _ _ _ _ _ f _ (draws (goal.at.told-requires c).After-known_of-known) _ (best-is (goal.at.told-requires c).After-least_change-best c.in-Least.is) in record { width_le_widest_width = (l.width, l.paired, l.few); place_in_bounds = (k.listed, k.within) }
+told-requires c = let f = going (goal.at.told-requires c).In_ok-found in
+    let d = draws (goal.at.told-requires c).After-known_of-known in
+    let l = listed _ _ _ _ _ _ f _ d in
+    let k = found_counts _ _ _ _ _ _ f _ d _ (best-is (goal.at.told-requires c).After-least_change c.in-Some.is) in
+    record { width_le_widest_width = (l.width, l.paired, l.few); place_in_bounds = (k.listed, k.within) }
 
-pub returns-in-Nothing : goal.returns-in-Nothing
-returns-in-Nothing c = found_nothing _ _ _ _ _ _ (going (goal.at.returns-in-Nothing c).Else-found-ne0) _ (draws (goal.at.returns-in-Nothing c).After-known_of-known) (best-is (goal.at.returns-in-Nothing c).After-least_change-best c.in-Nothing.is)
+pub returns-in-None : goal.returns-in-None
+returns-in-None c = found_nothing _ _ _ _ _ _ (going (goal.at.returns-in-None c).In_ok-found) _ (draws (goal.at.returns-in-None c).After-known_of-known) (best-is (goal.at.returns-in-None c).After-least_change c.in-None.is)
 
-pub returns-in-Least : goal.returns-in-Least
-returns-in-Least c = let t = c.told.ensures in
-    found_least _ _ _ _ _ _ (going (goal.at.returns-in-Least c).Else-found-ne0) _ (draws (goal.at.returns-in-Least c).After-known_of-known) _ (best-is (goal.at.returns-in-Least c).After-least_change-best c.in-Least.is) c.told.result
+pub returns-in-Some : goal.returns-in-Some
+returns-in-Some c = let t = c.told.ensures in
+    found_least _ _ _ _ _ _ (going (goal.at.returns-in-Some c).In_ok-found) _ (draws (goal.at.returns-in-Some c).After-known_of-known) _ (best-is (goal.at.returns-in-Some c).After-least_change c.in-Some.is) c.told.result
     t.change t.shovel t.ties t.taken

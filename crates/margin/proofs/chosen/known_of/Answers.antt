@@ -4,7 +4,6 @@ use lib.ListN.{length}
 use Rattle.cycle.specs.Notation.{first}
 use Rattle.ties.specs.Ties.{has_rank}
 use Rattle.tries.specs.declared.row.Ranked.{Ranked}
-use borrow.Author.Rules.{rules}
 use Rattle.margin.proofs.chosen.known_of.Goals as goal
 
 pub returns : goal.returns

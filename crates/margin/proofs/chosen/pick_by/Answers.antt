@@ -4,7 +4,6 @@ use Rattle.ties.specs.Ties.{chosen}
 use Rattle.ties.proofs.Least.{ties-some, ties_le}
 use Rattle.tries.specs.declared.row.Ranked.{Ranked}
 use Rattle.tries.specs.Tries.{ranked}
-use borrow.Author.Rules.{rules}
 use Rattle.margin.proofs.chosen.pick_by.Goals as goal
 
 pub overflow_cast-k : goal.overflow_cast-k

@@ -1,12 +1,11 @@
 use mathlib.Core.Path.{◌≡◌, ap, ◌∙◌}
-use Prim.Native.Nat.{ℕ, ◌/◌, ◌^◌, ◌≤◌}
+use Prim.Native.Nat.{ℕ, ◌/◌, ◌^◌}
 use native.Mathlib.Nat.{div-one}
 use native.Mathlib.Omega.{arith}
 use borrow.Author.Rules.{rules}
 use lib.ListN.{length, take}
 use Rattle.tsc.specs.Constants.{most_words}
 use Rattle.words.proofs.Words.{words_from, words-none}
-use Rattle.words.specs.Masks.{HasBits}
 use Rattle.columns.specs.Few.{few_words}
 use Rattle.minterms.proofs.Parted.{holds, holds-none, holds_next}
 use Rattle.minterms.proofs.minterm.minterm_of.Goals as goal

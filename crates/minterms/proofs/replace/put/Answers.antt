@@ -1,16 +1,12 @@
 use mathlib.Core.Path.{◌≡◌, refl, ap₂, ◌∙◌, subst}
 use mathlib.Core.Bool.{cond}
-use Prim.Native.Nat.{ℕ, ◌-◌, ◌*◌, ◌≤◌}
+use Prim.Native.Nat.{ℕ}
 use native.Mathlib.Omega.{arith}
 use borrow.Author.Rules.{rules}
-use lib.Bits.{bit_or}
 use lib.Dec.{eqb}
-use lib.ListN.{length, get_or, length-set}
+use lib.ListN.{length-set}
 use lib.Seq.{get_or-set_other}
 use Rattle.cycle.specs.Notation.{bit}
-use Rattle.tsc.specs.declared.State.{State}
-use Rattle.tsc.specs.Constants.{most_words}
-use Rattle.tsc.specs.Columns.{column}
 use Rattle.words.specs.Masks.{HasBits}
 use Rattle.columns.specs.Few.{few_words}
 use Rattle.columns.specs.Replace.{HasColumns}

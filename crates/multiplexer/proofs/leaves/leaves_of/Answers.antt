@@ -1,9 +1,7 @@
-use mathlib.Core.Path.{◌≡◌, refl}
-use Prim.Native.Nat.{◌-◌, ◌≤◌}
+use mathlib.Core.Path.{refl}
 use native.Mathlib.Omega.{arith}
-use lib.ListN.{length, length-set}
-use Rattle.words.proofs.Words.{Below, below_next}
-use Rattle.multiplexer.specs.Leaves.{leaf_count}
+use lib.ListN.{length-set}
+use Rattle.words.proofs.Words.{below_next}
 use Rattle.multiplexer.proofs.Picked.{LeafAt, leaves_all}
 use Rattle.multiplexer.proofs.leaves.leaves_of.Goals as goal
 
@@ -17,4 +15,4 @@ loop-j-preserved c = let l = c.loop-j in
 
 pub returns : goal.returns
 returns c = let l = c.loop-j in
-    leaves_all c.args.odd.now c.args.even.now c.images_of-images.result l.out c.images_of-images.ensures (λ j h. l.invariant.2 j (omega arith))
+    leaves_all c.args.powers.now.odd c.args.powers.now.even c.images_of-images.result l.out c.images_of-images.ensures (λ j h. l.invariant.2 j (omega arith))

@@ -1,11 +1,9 @@
-use mathlib.Core.Path.{◌≡◌}
-use Prim.Native.Nat.{◌-◌, ◌*◌, ◌≤◌}
 use native.Mathlib.Omega.{arith}
 use borrow.Author.Rules.{rules}
-use lib.ListN.{length, length-set}
+use lib.ListN.{length-set}
 use Rattle.cycle.specs.Notation.{bit}
-use Rattle.multiplexer.specs.Leaves.{leaf_count, PickedAt}
-use Rattle.words.proofs.Words.{Below, below_next}
+use Rattle.multiplexer.specs.Leaves.{PickedAt}
+use Rattle.words.proofs.Words.{below_next}
 use Rattle.multiplexer.proofs.Picked.{picked-chosen}
 use Rattle.multiplexer.proofs.tree.chosen.Goals as goal
 

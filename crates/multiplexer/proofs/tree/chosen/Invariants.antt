@@ -1,16 +1,10 @@
 use mathlib.Core.Path.{◌≡◌}
-use Prim.Native.Nat.{◌-◌, ◌*◌, ◌≤◌}
-use native.Mathlib.Omega.{arith}
-use borrow.Author.Rules.{rules}
-use lib.ListN.{length, length-set}
+use Prim.Native.Nat.{◌*◌, ◌≤◌}
+use lib.ListN.{length}
 use Rattle.cycle.specs.Notation.{bit}
 use Rattle.multiplexer.specs.Leaves.{leaf_count, PickedAt}
-use Rattle.words.proofs.Words.{Below, below_next}
-use Rattle.multiplexer.proofs.Picked.{picked-chosen}
+use Rattle.words.proofs.Words.{Below}
 use Rattle.multiplexer.proofs.tree.chosen.Given as goal
 
 abbrev pub invariant-loop-j : goal.invariant-loop-j
 invariant-loop-j l = (l.j ≤ l.size) × (2 * l.size ≤ leaf_count) × (length l.g ≡ leaf_count) × Below (PickedAt l.size l.f (λ i. bit i l.x)) l.j l.g
-
-abbrev pub decreases-loop-j : goal.decreases-loop-j
-decreases-loop-j l = l.size - l.j

@@ -1,5 +1,5 @@
 use mathlib.Core.Path.{◌≡◌, refl, ◌∙◌}
-use Prim.Native.Nat.{ℕ, ◌-◌, ◌≤◌}
+use Prim.Native.Nat.{ℕ}
 use native.Mathlib.Omega.{arith}
 use borrow.Author.Rules.{rules}
 use lib.ListN.{length, get_or, length-set}
@@ -8,7 +8,7 @@ use Rattle.cycle.specs.Notation.{bit}
 use Rattle.cycle.proofs.Lists.{get_or_filler}
 use Rattle.tsc.specs.Constants.{most_words}
 use Rattle.columns.specs.Few.{few_words}
-use Rattle.words.proofs.Words.{Below, below_next}
+use Rattle.words.proofs.Words.{below_next}
 use Rattle.multiplexer.proofs.Picked.{picked-chosen, KeptAt, kept_and, kept_all}
 use Rattle.multiplexer.proofs.tree.replace_columns.Goals as goal
 

@@ -1,5 +1,4 @@
 use mathlib.Core.Path.{refl}
-use borrow.Author.Rules.{rules}
 use Rattle.outcomes.proofs.outcome.tie_at.Goals as goal
 
 pub returns : goal.returns

@@ -1,5 +1,4 @@
 use mathlib.Core.Path.{subst}
-use borrow.Author.Rules.{rules}
 use Rattle.tsc.specs.declared.Card.{Card}
 use Rattle.stepping.specs.State.{Holds}
 use Rattle.outputs.proofs.row.fill_words.Goals as goal

@@ -1,6 +1,5 @@
 use mathlib.Core.Path.{sym, subst}
 use native.Mathlib.Omega.{arith}
-use borrow.Author.Rules.{rules}
 use Rattle.gates.specs.Tsc1.{tsc1_card}
 use Rattle.stepping.specs.State.{Holds}
 use Rattle.stepping.proofs.Holding.{holds}

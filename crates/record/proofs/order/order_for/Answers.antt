@@ -2,8 +2,7 @@ use mathlib.Core.Path.{◌≡◌, sym, ap, ◌∙◌}
 use mathlib.Core.List.{List}
 use Prim.Native.Nat.{ℕ}
 use native.Mathlib.Omega.{arith}
-use Rattle.records.specs.declared.Order.{Order}
-use Rattle.records.specs.declared.Order.TheVariants.{Shovel}
+use Rattle.std.specs.Prelude.{Result, Ok}
 use Rattle.records.specs.Reading.{Whole, record_of}
 use Rattle.records.specs.Orders.{order_for, SameOrder}
 use Rattle.records.proofs.Orders.{order_torn, order_other, order_own, cabs_alike}
@@ -12,7 +11,7 @@ use Rattle.record.proofs.order.order_for.Goals as goal
 use Rattle.record.proofs.order.order_for.Goals.{After-half_at, Else-not-is_whole}
 
 -- an answer is what every record with the same truck and shovel gets
-alike : {r : Order} (truck : ℕ) (bytes : List ℕ) → order_for truck bytes ≡ r
+alike : {r : Result ℕ ℕ} (truck : ℕ) (bytes : List ℕ) → order_for truck bytes ≡ r
     → (r ≡ order_for truck bytes) × ((other : List ℕ) → SameOrder bytes other → r ≡ order_for truck other)
 alike truck bytes e = (sym e, λ other h. sym e ∙ cabs_alike bytes other h truck)
 
@@ -42,4 +41,4 @@ pub returns : goal.returns
 unfolding record_of
 returns c = let both = alike _ _
     (order_own _ _ (whole (goal.at.returns c).Else-not-is_whole) (c.if-truck-half_at.false ∙ truck-is (goal.at.returns c).After-half_at)
-    ∙ ap Shovel (shovel-bytes _ (facts (goal.at.returns c).Else-not-is_whole).low ∙ sym c.half_at-2.ensures)) in record { answer = both.0; alone = both.1 }
+    ∙ ap Ok (shovel-bytes _ (facts (goal.at.returns c).Else-not-is_whole).low ∙ sym c.half_at-2.ensures)) in record { answer = both.0; alone = both.1 }

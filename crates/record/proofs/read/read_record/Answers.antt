@@ -30,13 +30,13 @@ within bytes at k e l = rw e (go (bit 4 (get_or bytes 0 0)) refl (bit_lt 4 (get_
     go (suc (suc d)) x h = absurd (omega arith)
 
 pub returns-then-not-is_whole : goal.returns-then-not-is_whole
-returns-then-not-is_whole c = c.torn.ensures ∙ sym (reading_torn _ (sym c.is_whole.ensures ∙ c.if-not-is_whole.true))
+returns-then-not-is_whole c = sym (reading_torn _ (sym c.is_whole.ensures ∙ c.if-not-is_whole.true))
 
 pub bounds-bytes-0 : goal.bounds-bytes-0
 bounds-bytes-0 c = omega (arith, (facts (goal.at.bounds-bytes-0 c).Else-not-is_whole).long)
 
-pub state_of-state-requires : goal.state_of-state-requires
-state_of-state-requires c = let k = facts (goal.at.state_of-state-requires c).Else-not-is_whole in
+pub state_of-requires : goal.state_of-requires
+state_of-requires c = let k = facts (goal.at.state_of-requires c).Else-not-is_whole in
     let b = c.args.bytes.now in
     let e = c.state_at-at.ensures in
     (rw e k.few, within b _ k e)
@@ -58,4 +58,4 @@ optional_at-requires-3 c = (lit< tt, λ o. omega (arith, (facts (goal.at.optiona
 
 pub returns : goal.returns
 returns c = assembled c.args.bytes.now (whole (goal.at.returns c).Else-not-is_whole) c.half_at.ensures c.half_at-2.ensures c.optional_at.ensures
-    c.taken_at.ensures c.optional_at-2.ensures c.state_at-at.ensures c.optional_at-3.ensures c.state_of-state.ensures
+    c.taken_at.ensures c.optional_at-2.ensures c.state_at-at.ensures c.optional_at-3.ensures c.state_of.ensures

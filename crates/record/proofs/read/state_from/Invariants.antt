@@ -1,5 +1,5 @@
 use mathlib.Core.Path.{◌≡◌}
-use Prim.Native.Nat.{◌-◌, ◌*◌, ◌≤◌}
+use Prim.Native.Nat.{◌*◌, ◌≤◌}
 use lib.ListN.{length, replicate}
 use Rattle.tsc.specs.Constants.{most_words}
 use Rattle.card_format.specs.Fields.{numbers}
@@ -8,7 +8,4 @@ use Rattle.records.specs.Fields.{word_field}
 use Rattle.record.proofs.read.state_from.Given as goal
 
 abbrev pub invariant-loop-k : goal.invariant-loop-k
-invariant-loop-k l = (l.k ≤ l.m) × (l.m ≤ most_words) × (4 * l.m ≤ length l.part) × (l.s.words ≡ over (numbers (word_field l.m) l.part) (replicate most_words 0) l.k)
-
-abbrev pub decreases-loop-k : goal.decreases-loop-k
-decreases-loop-k l = l.m - l.k
+invariant-loop-k l = (l.m ≤ most_words) × (4 * l.m ≤ length l.part) × (l.words ≡ over (numbers (word_field l.m) l.part) (replicate most_words 0) l.k)

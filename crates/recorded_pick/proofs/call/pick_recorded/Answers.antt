@@ -1,7 +1,6 @@
-use mathlib.Core.Path.{refl, ap, ◌∙◌}
+use mathlib.Core.Path.{refl, sym, ap, ◌∙◌}
 use mathlib.Core.List.{List}
 use Prim.Native.Nat.{ℕ, ◌≤◌}
-use native.Mathlib.Omega.{arith}
 use lib.ListN.{length, take}
 use Rattle.tsc.specs.declared.State.{State}
 use Rattle.tsc.specs.Constants.{most_words}
@@ -17,12 +16,15 @@ use Rattle.recorded_pick.proofs.call.pick_recorded.Goals.{Else-lacks_room}
 roomy : (c : Else-lacks_room) → let a = c.args in (length a.state.now ≤ most_words) × (record_bytes (length a.state.now) ≤ length a.page.now)
 roomy c = let a = c.args in has_room (length a.state.now) (length a.page.now) c.lacks_room.ensures c.if-lacks_room.false
 
-pub returns-then-told-ne0 : goal.returns-then-told-ne0
-returns-then-told-ne0 c = let a = c.args in let both = call_told a.card.now a.state.now a.shovels.now a.times.now a.truck a.page.now c.pick_refusal-told.ensures c.if-told-ne0.true in record { answer = both.0; after = both.1.0; page = both.1.1 }
+pub returns-in-Ok : goal.returns-in-Ok
+returns-in-Ok c = let a = c.args in
+    let both = call_small a.card.now a.state.now a.shovels.now a.times.now a.truck a.page.now (sym c.in-Ok.ensures) (sym c.lacks_room.ensures ∙ c.if-lacks_room.true) in
+    rw c.from.ensures (record { answer = both.0; after = both.1.0; page = both.1.1 })
 
-pub returns-then-lacks_room : goal.returns-then-lacks_room
-returns-then-lacks_room c = let a = c.args in let both = call_small a.card.now a.state.now a.shovels.now a.times.now a.truck a.page.now c.pick_refusal-told.ensures c.if-told-ne0.false
-    c.lacks_room.ensures c.if-lacks_room.true in record { answer = both.0; after = both.1.0; page = both.1.1 }
+pub returns-in-Err : goal.returns-in-Err
+returns-in-Err c = let a = c.args in
+    let both = call_told a.card.now a.state.now a.shovels.now a.times.now a.truck a.page.now c.in-Err.told (sym c.in-Err.ensures) in
+    rw c.from-in-Err.ensures (record { answer = both.0; after = both.1.0; page = both.1.1 })
 
 pub load-held-requires : goal.load-held-requires
 load-held-requires c = (roomy c).0

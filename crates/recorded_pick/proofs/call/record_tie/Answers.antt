@@ -15,9 +15,6 @@ sized s = search rules
 counted : (s : Start) → length (take s.args.m s.args.held.words) ≡ s.args.m
 counted s = length-take-le s.args.m s.args.held.words (omega (arith, sized s, s.requires.0))
 
-pub slice_bounds-words-end : goal.slice_bounds-words-end
-slice_bounds-words-end c = omega (arith, sized (goal.at.slice_bounds-words-end c).Start, c.requires.0)
-
 pub slice_bounds-put_record-end : goal.slice_bounds-put_record-end
 slice_bounds-put_record-end c = sym (counted (goal.at.slice_bounds-put_record-end c).Start)
 

@@ -1,24 +1,34 @@
-use mathlib.Core.Path.{◌≡◌, refl, sym, ◌∙◌}
-use borrow.Author.Rules.{rules}
-use Rattle.draws.specs.Calls.{refusal_for}
-use Rattle.draws.proofs.Opening.{Clear, told, clear}
+use Rattle.std.proofs.Common.{refl, sym}
+use Rattle.std.proofs.lemmas.Result.{err_from_is_err_and}
+use Rattle.draws.proofs.Opening.{Clear, told_by_card, told_by_state, clear}
 use Rattle.draws.proofs.Called.{accepted}
+use Rattle.refusals.proofs.Answers.{told_of_value}
 use Rattle.picks.proofs.Picking.{told_call, told_later}
+use Rattle.pick.proofs.Passed.{told_by_list}
 use Rattle.recorded_pick.proofs.refusal.pick_refusal.Goals as goal
-use Rattle.recorded_pick.proofs.refusal.pick_refusal.Goals.{After-call_refusal-told, Else-told-ne0}
+use Rattle.recorded_pick.proofs.refusal.pick_refusal.Goals.{In_ok-state_refusal}
 
--- what is told of the card and the state; past the test they are not refused
-refusal : (c : After-call_refusal-told) → let a = c.args in c.call_refusal-told.result ≡ refusal_for a.card.now a.state.now
-refusal c = told _ _ c.accept-accepted.result c.accept-accepted.ensures c.call_refusal-told.ensures
+-- past the first two tests the card and the state are not refused
+passing : (c : In_ok-state_refusal) → Clear c.args.card.now c.args.state.now c.in_ok-values.values
+passing c = clear c.args.card.now c.args.state.now c.accept.ensures c.in_ok-values.was c.state_refusal.ensures c.in_ok-state_refusal.was
 
-passing : (c : Else-told-ne0) → let a = c.args in Clear a.card.now a.state.now c.accept-accepted.result.card
-passing c = clear _ _ c.accept-accepted.result c.accept-accepted.ensures (sym ((told _ _ c.accept-accepted.result c.accept-accepted.ensures c.call_refusal-told.ensures)) ∙ c.if-told-ne0.false)
+pub returns-in_err-values : goal.returns-in_err-values
+returns-in_err-values c = let a = c.args in
+    let p = err_from_is_err_and c.from_residual.result c.from_residual.ensures.1 in
+    rw (p.1, p.2) (sym (told_call _ _ _ _ c.in_err-values.field-0.0 (told_by_card a.card.now a.state.now c.accept.ensures c.in_err-values.was)))
 
-pub returns-then-told-ne0 : goal.returns-then-told-ne0
-returns-then-told-ne0 c = told_call _ _ _ _ _ (refusal (goal.at.returns-then-told-ne0 c).After-call_refusal-told) c.if-told-ne0.true
+pub returns-in_err-state_refusal : goal.returns-in_err-state_refusal
+returns-in_err-state_refusal c = let a = c.args in
+    let p = err_from_is_err_and c.from_residual-in_err-state_refusal.result c.from_residual-in_err-state_refusal.ensures.1 in
+    rw (p.1, p.2) (sym (told_call _ _ _ _ c.in_err-state_refusal.field-0.0 (told_by_state a.card.now a.state.now c.accept.ensures c.in_ok-values.was c.state_refusal.ensures c.in_err-state_refusal.was)))
 
-pub list_ties-found-requires : goal.list_ties-found-requires
-list_ties-found-requires c = (accepted (passing (goal.at.list_ties-found-requires c).Else-told-ne0)).narrow
+pub list_ties-requires : goal.list_ties-requires
+list_ties-requires c = (accepted (passing (goal.at.list_ties-requires c).In_ok-state_refusal)).narrow
+
+pub returns-in_err-list_ties : goal.returns-in_err-list_ties
+returns-in_err-list_ties c =
+    let p = err_from_is_err_and c.from_residual-in_err-list_ties.result c.from_residual-in_err-list_ties.ensures.1 in
+    rw (p.1, p.2) (sym (told_by_list _ _ _ _ (passing (goal.at.returns-in_err-list_ties c).In_ok-state_refusal) c.list_ties.ensures.refusal c.in_err-list_ties.was))
 
 pub returns : goal.returns
-returns c = told_later _ _ _ _ (passing (goal.at.returns c).Else-told-ne0) refl c.list_ties-found.ensures.refusal
+returns c = sym (told_of_value (told_later _ _ _ _ (passing (goal.at.returns c).In_ok-state_refusal) refl c.list_ties.ensures.refusal) c.in_ok-list_ties.was)

@@ -1,7 +1,6 @@
 use mathlib.Core.Path.{ap, ◌∙◌}
 use Prim.Native.Nat.{◌+◌, ◌^◌}
 use native.Mathlib.Nat.{mod-le}
-use native.Mathlib.Omega.{arith}
 use lib.Dec.{leb}
 use Rattle.cycle.specs.Fair.{largest_multiple}
 use Rattle.cycle.proofs.Remainder.{kept_test}

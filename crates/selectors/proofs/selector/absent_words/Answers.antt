@@ -1,7 +1,7 @@
 use Rattle.std.proofs.Common.{◌≡◌, ◌-◌, ◌*◌, ◌%◌, ◌^◌, ◌≤◌, length, ap, ◌∙◌, arith, length-set, pow_pos, pow_mono}
 use Rattle.cycle.specs.Notation.{bit}
 use Rattle.tsc.specs.Constants.{most_words}
-use Rattle.words.proofs.Words.{Below, below_next}
+use Rattle.words.proofs.Words.{below_next}
 use Rattle.selectors.proofs.Masked.{AbsentAt, absent_mask}
 use Rattle.selectors.proofs.selector.absent_words.Goals as goal
 use Rattle.selectors.proofs.selector.absent_words.Goals.{Start}

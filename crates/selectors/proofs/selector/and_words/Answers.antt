@@ -1,10 +1,9 @@
-use Rattle.std.proofs.Common.{◌≡◌, ℕ, ◌-◌, ◌≤◌, length, get_or, sym, ap, ◌∙◌, arith, w32, Fits, rules}
+use Rattle.std.proofs.Common.{◌≡◌, ℕ, ◌-◌, length, get_or, sym, ap, ◌∙◌, arith, w32, Fits, rules}
 use lib.Bits.{bit_and, bit_or}
 use Rattle.tsc.specs.Constants.{most_words}
 use Rattle.tsc.specs.Selector.{and_words}
 use Rattle.words.specs.declared.arithmetic.Width.{Width}
 use Rattle.words.proofs.Words.{words_from, words-past}
-use Rattle.selectors.specs.Terms.{Absent}
 use Rattle.selectors.proofs.Masked.{and_next}
 use Rattle.selectors.proofs.selector.and_words.Goals as goal
 

@@ -1,4 +1,4 @@
-use Rattle.std.proofs.Common.{ℕ, ◌+◌, ◌%◌, ◌^◌, ◌≤◌, eqb, take, ap, ◌∙◌, ap₂, arith, rules}
+use Rattle.std.proofs.Common.{ℕ, ◌+◌, ◌%◌, ◌^◌, ◌≤◌, eqb, take, ap, ◌∙◌, ap₂, arith}
 use lib.Bits.{bit_and, bit_xor}
 use Rattle.tsc.specs.Constants.{widest_width}
 use Rattle.tsc.specs.Selector.{and_words, sum_words, selector}

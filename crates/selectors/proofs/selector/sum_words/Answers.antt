@@ -1,9 +1,8 @@
-use Rattle.std.proofs.Common.{◌≡◌, ℕ, ◌+◌, ◌-◌, ◌%◌, ◌^◌, ◌≤◌, List, length, get_or, sym, ap, ◌∙◌, arith, w32, Fits, rules}
+use Rattle.std.proofs.Common.{◌≡◌, ℕ, ◌+◌, ◌-◌, ◌%◌, ◌^◌, List, length, get_or, sym, ap, ◌∙◌, arith, w32, Fits, rules}
 use lib.Bits.{bit_and}
 use Rattle.tsc.specs.Constants.{most_words, widest_width}
 use Rattle.tsc.specs.Selector.{sum_words}
 use Rattle.words.proofs.Words.{words_from, words-past}
-use Rattle.selectors.specs.Terms.{Absent}
 use Rattle.selectors.proofs.Masked.{sum_next}
 use Rattle.selectors.proofs.selector.sum_words.Goals as goal
 

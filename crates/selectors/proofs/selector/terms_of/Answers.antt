@@ -1,4 +1,4 @@
-use Rattle.std.proofs.Common.{refl, ap, ◌∙◌, arith, eq-eqb, ne_eqb}
+use Rattle.std.proofs.Common.{refl, ap, ◌∙◌, eq-eqb, ne_eqb}
 use Rattle.words.specs.declared.arithmetic.Width.{Width}
 use Rattle.selectors.proofs.selector.terms_of.Goals as goal
 

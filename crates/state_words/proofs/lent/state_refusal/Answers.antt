@@ -1,5 +1,5 @@
 use mathlib.Core.Path.{sym, ◌∙◌}
-use borrow.Author.Tests.{eq-eqb, ne_eqb, not-true, not-false}
+use borrow.Author.Tests.{eq-eqb, ne_eqb}
 use Rattle.refusals.specs.Refusals.{first_of}
 use Rattle.state_words.specs.Checks.{state_checks}
 use Rattle.state_words.proofs.lent.state_refusal.Goals as goal

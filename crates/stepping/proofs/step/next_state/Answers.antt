@@ -20,7 +20,7 @@ returns-then-terms-le-FEW_WORDS c card st = let a = c.args in
     let few : card.words ≤ few_words = omega (arith, st.selects.words) in
     let all : length after.words ≡ most_words = search rules in
     let fits : (k : ℕ) → Fits w32 (get_or after.words k 0) = search rules in
-    step_made card a.terms a.odd.now a.even.now a.s st few_words _ _ after few (c.selector_by-select.ensures card st.selects few)
+    step_made card a.terms a.powers.now.odd a.powers.now.even a.s st few_words _ _ after few (c.selector_by-select.ensures card st.selects few)
     (ap (λ (w : Width). w.low) st.selects.width) all (λ k. (fits k).fits) c.replace_columns.ensures
 
 pub selector_by-select-requires-2 : goal.selector_by-select-requires-2
@@ -32,5 +32,5 @@ returns c card st = let a = c.args in
     let few : card.words ≤ most_words = st.accepted.few in
     let all : length after.words ≡ most_words = search rules in
     let fits : (k : ℕ) → Fits w32 (get_or after.words k 0) = search rules in
-    step_made card a.terms a.odd.now a.even.now a.s st most_words _ _ after few (c.selector_by-select-2.ensures card st.selects few)
+    step_made card a.terms a.powers.now.odd a.powers.now.even a.s st most_words _ _ after few (c.selector_by-select-2.ensures card st.selects few)
     (ap (λ (w : Width). w.low) st.selects.width) all (λ k. (fits k).fits) c.replace_columns-2.ensures

@@ -1,20 +1,19 @@
-use mathlib.Core.Path.{◌≡◌, subst}
-use Prim.Native.Nat.{ℕ, ◌-◌, ◌≤◌}
-use native.Mathlib.Omega.{arith}
-use lib.ListN.{length}
-use Rattle.ties.specs.Least.{LeastOf}
-use Rattle.ties.proofs.Least.{least_first, least_next}
+use Rattle.std.proofs.Common.{rules, ◌≡◌, sym, ap, ◌∙◌, Option, Some, None, List, [], ◌∷◌, ℕ, ◌<◌, length, min, arith}
+use Rattle.std.specs.List.{reduce}
+use Rattle.std.specs.Option.{option_map, IsSome}
+use Rattle.std.proofs.lemmas.Iterator.{YieldsList-from_slice}
+use Rattle.std.proofs.lemmas.Iterator.Consumers.{min_from_yields_List}
+use Rattle.ties.proofs.Least.{least-reduced}
 use Rattle.tie_time.proofs.time.least_time.Goals as goal
 
-pub loop-i-init : goal.loop-i-init
-loop-i-init c = (omega arith, least_first c.args.times.now)
+some : {A : Type 0} (f : A → ℕ) (o : Option A) (times : List ℕ) → 0 < length times → option_map f o ≡ reduce min times → IsSome o
+some f (Some y) times l e = search rules
+some f None [] l e = absurd (omega arith)
+some f None (x ∷ xs) l e = absurd (grind (arith, e))
 
-pub loop-i-preserved : goal.loop-i-preserved
-loop-i-preserved c = let l = c.loop-i in
-    (omega arith, rw c.lesser-least.ensures (least_next c.args.times.now l.i l.least l.invariant.1))
+pub unwrap-requires : goal.unwrap-requires
+unwrap-requires c = let times = c.args.times.now in some (λ y. y.now) c.min.result times c.requires (min_from_yields_List _ _ c.min.ensures.ran (YieldsList-from_slice times (cc)))
 
 pub returns : goal.returns
-returns c = let l = c.loop-i in
-    let times = c.args.times.now in
-    let e : l.i ≡ length times = omega arith in
-    subst (λ (n : ℕ). LeastOf times n l.least) e l.invariant.1
+returns c = let times = c.args.times.now in
+    least-reduced times _ (sym (ap (option_map (λ y. y.now)) c.unwrap.ensures) ∙ min_from_yields_List _ _ c.min.ensures.ran (YieldsList-from_slice times (cc)))

@@ -1,7 +1,5 @@
 use mathlib.Core.Path.{ap}
 use Prim.Native.Nat.{ℕ, ◌/◌, ◌%◌}
-use native.Mathlib.Omega.{arith}
-use borrow.Author.Rules.{rules}
 use Rattle.cycle.proofs.Digits.{pow_mul}
 use Rattle.transposition.proofs.bytes.byte_of.Goals as goal
 

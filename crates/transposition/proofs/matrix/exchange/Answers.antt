@@ -1,7 +1,6 @@
 use mathlib.Core.Path.{ap, ◌∙◌}
 use Prim.Native.Nat.{ℕ, ◌*◌, ◌/◌, ◌^◌, ◌<◌}
 use native.Mathlib.Nat.{lt_of_le_of_lt, mul-le-mul_right, mod-eq_of_lt}
-use borrow.Author.Rules.{rules}
 use lib.Bits.{bit_xor, and_le_r}
 use Rattle.cycle.specs.Notation.{bit}
 use Rattle.transposition.proofs.Exchange.{differing, bit_exchange}

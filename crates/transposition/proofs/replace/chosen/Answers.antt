@@ -1,5 +1,4 @@
 use mathlib.Core.Path.{◌∙◌}
-use native.Mathlib.Omega.{arith}
 use Rattle.transposition.proofs.Groups.{chosen-rows}
 use Rattle.transposition.proofs.replace.chosen.Goals as goal
 

@@ -1,13 +1,11 @@
 use mathlib.Core.Path.{◌≡◌}
 use Prim.Native.Nat.{ℕ, ◌-◌, ◌<◌, ◌≤◌}
-use native.Mathlib.Omega.{arith}
-use borrow.Author.Rules.{rules}
 use lib.ListN.{length, get_or}
 use Rattle.tsc.specs.declared.State.{State}
 use Rattle.tsc.specs.Constants.{most_words}
 use Rattle.transposition.specs.Matrix.{byte}
 use Rattle.transposition.specs.Groups.{group_count}
-use Rattle.transposition.proofs.Filled.{Filled, filled_none, filled_next}
+use Rattle.transposition.proofs.Filled.{Filled}
 use Rattle.transposition.proofs.replace.gathered.Given as goal
 
 -- byte g of each word

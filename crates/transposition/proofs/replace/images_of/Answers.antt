@@ -1,10 +1,9 @@
 use mathlib.Core.Path.{ap}
-use Prim.Native.Nat.{ℕ, ◌-◌, ◌≤◌}
+use Prim.Native.Nat.{ℕ, ◌-◌}
 use native.Mathlib.Omega.{arith}
-use borrow.Author.Rules.{rules}
 use lib.ListN.{get_or}
 use Rattle.transposition.specs.Matrix.{byte}
-use Rattle.transposition.proofs.Filled.{Filled, filled_none, filled_next}
+use Rattle.transposition.proofs.Filled.{filled_none, filled_next}
 use Rattle.transposition.proofs.replace.images_of.Goals as goal
 
 pub loop-i-init : goal.loop-i-init

@@ -1,10 +1,7 @@
-use mathlib.Core.Path.{ap}
-use Prim.Native.Nat.{ℕ, ◌-◌, ◌≤◌}
-use native.Mathlib.Omega.{arith}
-use borrow.Author.Rules.{rules}
+use Prim.Native.Nat.{◌-◌, ◌≤◌}
 use lib.ListN.{get_or}
 use Rattle.transposition.specs.Matrix.{byte}
-use Rattle.transposition.proofs.Filled.{Filled, filled_none, filled_next}
+use Rattle.transposition.proofs.Filled.{Filled}
 use Rattle.transposition.proofs.replace.images_of.Given as goal
 
 abbrev pub invariant-loop-i : goal.invariant-loop-i

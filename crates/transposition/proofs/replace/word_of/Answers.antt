@@ -1,11 +1,7 @@
 use mathlib.Core.Path.{◌≡◌, subst}
-use mathlib.Core.List.{List}
-use Prim.Native.Nat.{ℕ, ◌-◌, ◌<◌, ◌≤◌}
+use Prim.Native.Nat.{ℕ, ◌-◌}
 use native.Mathlib.Omega.{arith}
 use borrow.Author.Rules.{rules}
-use lib.ListN.{length, get_or}
-use Rattle.tsc.specs.Constants.{most_words}
-use Rattle.transposition.specs.Matrix.{byte}
 use Rattle.transposition.specs.Groups.{group_count}
 use Rattle.transposition.proofs.Filled.{Filled, filled_none, filled_next, filled_bits}
 use Rattle.transposition.proofs.replace.word_of.Invariants.{rows}

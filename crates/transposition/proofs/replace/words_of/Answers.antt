@@ -1,9 +1,8 @@
-use mathlib.Core.Path.{◌≡◌, refl}
-use Prim.Native.Nat.{◌-◌, ◌≤◌}
+use mathlib.Core.Path.{refl}
+use Prim.Native.Nat.{◌-◌}
 use native.Mathlib.Omega.{arith}
 use lib.ListN.{length, length-set}
-use Rattle.tsc.specs.Constants.{most_words}
-use Rattle.words.proofs.Words.{Below, below_next}
+use Rattle.words.proofs.Words.{below_next}
 use Rattle.transposition.specs.Groups.{IsWord}
 use Rattle.transposition.proofs.replace.words_of.Goals as goal
 

@@ -1,9 +1,8 @@
-use mathlib.Core.Path.{◌≡◌, refl}
+use mathlib.Core.Path.{◌≡◌}
 use Prim.Native.Nat.{◌-◌, ◌≤◌}
-use native.Mathlib.Omega.{arith}
-use lib.ListN.{length, length-set}
+use lib.ListN.{length}
 use Rattle.tsc.specs.Constants.{most_words}
-use Rattle.words.proofs.Words.{Below, below_next}
+use Rattle.words.proofs.Words.{Below}
 use Rattle.transposition.specs.Groups.{IsWord}
 use Rattle.transposition.proofs.replace.words_of.Given as goal
 

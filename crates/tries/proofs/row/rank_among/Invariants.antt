@@ -1,9 +1,7 @@
-use mathlib.Core.Path.{sym, ◌∙◌}
 use Prim.Native.Nat.{◌-◌}
-use native.Mathlib.Omega.{arith}
 use Rattle.samples.specs.Samples.{most_taken}
-use Rattle.samples.proofs.Tried.{Over, over_none, over_next}
-use Rattle.tries.proofs.Ranks.{kept_at, ranked-alone, ranked_next}
+use Rattle.samples.proofs.Tried.{Over}
+use Rattle.tries.proofs.Ranks.{kept_at}
 use Rattle.tries.proofs.row.rank_among.Given as goal
 
 abbrev pub invariant-loop-words : goal.invariant-loop-words

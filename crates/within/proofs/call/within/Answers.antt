@@ -1,4 +1,5 @@
-use mathlib.Core.Path.{◌≡◌, sym, ap, ap₂, ◌∙◌}
+use mathlib.Core.Path.{◌≡◌, refl, sym, ap, ap₂, ◌∙◌}
+use lib.IntN.{ℤ}
 use mathlib.Core.Bool.{Bool, ◌&&◌}
 use native.Mathlib.Omega.{arith}
 use lib.ListN.{length, take, length-take}
@@ -9,31 +10,32 @@ use Rattle.places.specs.Places.{Places, placed, distances_of, on_map, is_radius,
 use Rattle.places.proofs.Signed.{read_back}
 use Rattle.places.proofs.Distances.{length-distances}
 use Rattle.places.proofs.Places.{measured_read, distances_read}
+use Rattle.refusals.proofs.Answers.{number_nonzero}
 use Rattle.nearby.specs.Calls.{within_checks}
 use Rattle.nearby.proofs.Answers.{within-refused}
 use Rattle.within.specs.Sorting.{keys_of, is_listed}
 use Rattle.within.proofs.Sorting.{length_keys}
 use Rattle.within.proofs.Passed.{Free, free, listed_by}
 use Rattle.within.proofs.call.within.Goals as goal
-use Rattle.within.proofs.call.within.Goals.{After-keys_of-found, After-places_refusal-told, Else-told-ne0}
+use Rattle.within.proofs.call.within.Goals.{After-keys_of-found, After-places_refusal, In_default}
 
--- the places handed over, and the radius
-abbrev given : After-places_refusal-told → Places
+-- the places handed over
+abbrev given : After-places_refusal → Places
 given c = let a = c.args in placed a.x a.y a.shovels.now a.xs.now a.ys.now
 
--- what is told of them
-told : (c : After-places_refusal-told) → c.places_refusal-told.result ≡ first_of (within_checks (given c) c.args.radius)
-told c =
-    let q = given c in
-    let allowed : c.is_allowed-allowed.result ≡ (on_map q.x q.y q.xs q.ys && is_radius c.args.radius) =
-    c.is_allowed-allowed.ensures ∙ rw (read_back c.ranges.x, read_back c.ranges.y, read_back c.ranges.radius) in
-    c.places_refusal-told.ensures ∙ ap (λ (b : Bool). first_of (place_checks q.shovels q.xs q.ys b)) allowed
+-- what is asked of them, once it is found whether they are allowed
+asked : (q : Places) (radius : ℤ) {allowed : Bool} → allowed ≡ (on_map q.x q.y q.xs q.ys && is_radius radius)
+    → first_of (place_checks q.shovels q.xs q.ys allowed) ≡ first_of (within_checks q radius)
+asked q radius e = ap (λ (b : Bool). first_of (place_checks q.shovels q.xs q.ys b)) e
 
 -- past the test nothing is refused
-passed : (c : Else-told-ne0) → first_of (within_checks ((let a = c.args in placed a.x a.y a.shovels.now a.xs.now a.ys.now)) c.args.radius) ≡ 0
-passed c = sym ((let q = (let a = c.args in placed a.x a.y a.shovels.now a.xs.now a.ys.now) in let allowed : c.is_allowed-allowed.result ≡ (on_map q.x q.y q.xs q.ys && is_radius c.args.radius) = c.is_allowed-allowed.ensures ∙ rw (read_back c.ranges.x, read_back c.ranges.y, read_back c.ranges.radius) in c.places_refusal-told.ensures ∙ ap (λ (b : Bool). first_of (place_checks q.shovels q.xs q.ys b)) allowed)) ∙ c.if-told-ne0.false
+passed : (c : In_default) → first_of (within_checks (let a = c.args in placed a.x a.y a.shovels.now a.xs.now a.ys.now) c.args.radius) ≡ 0
+passed c =
+    let a = c.args in
+    let allowed = c.is_allowed-allowed.ensures ∙ rw (read_back c.ranges.x, read_back c.ranges.y, read_back c.ranges.radius) refl in
+    sym (c.in_default.ensures ∙ asked (placed a.x a.y a.shovels.now a.xs.now a.ys.now) a.radius allowed)
 
-going : (c : Else-told-ne0) → Free ((let a = c.args in placed a.x a.y a.shovels.now a.xs.now a.ys.now)) c.args.radius
+going : (c : In_default) → Free ((let a = c.args in placed a.x a.y a.shovels.now a.xs.now a.ys.now)) c.args.radius
 going c = free _ _ (passed c)
 
 -- the keys
@@ -49,30 +51,34 @@ as_many c =
     let q = (let a = c.args in placed a.x a.y a.shovels.now a.xs.now a.ys.now) in
     ap length (keys c) ∙ length_keys q.shovels (distances_of q) (square c.args.radius) ∙ length-distances q.x q.y q.xs q.ys
 
-pub returns-then-told-ne0 : goal.returns-then-told-ne0
-returns-then-told-ne0 c = c.refused.ensures ∙ within-refused (given (goal.at.returns-then-told-ne0 c).After-places_refusal-told) c.args.radius _ c.if-told-ne0.true (told (goal.at.returns-then-told-ne0 c).After-places_refusal-told)
+pub returns-in-Err : goal.returns-in-Err
+returns-in-Err c =
+    let q = given (goal.at.returns-in-Err c).After-places_refusal in
+    let allowed = c.is_allowed-allowed.ensures ∙ rw (read_back c.ranges.x, read_back c.ranges.y, read_back c.ranges.radius) refl in
+    c.refused.ensures
+    ∙ within-refused q c.args.radius _ (λ z. number_nonzero c.in-Err.refusal (sym c.number.ensures ∙ z)) (c.number.ensures ∙ c.in-Err.ensures ∙ asked q c.args.radius allowed)
 
 pub squared-requires : goal.squared-requires
-squared-requires c = rw (read_back c.ranges.radius) (going c).is_radius_lem
+squared-requires c = rw (read_back c.ranges.radius) (going (goal.at.squared-requires c).In_default).is_radius_lem
 
 pub keys_of-found-requires : goal.keys_of-found-requires
-keys_of-found-requires c = let f = going (goal.at.keys_of-found-requires c).Else-told-ne0 in
+keys_of-found-requires c = let f = going (goal.at.keys_of-found-requires c).In_default in
     (measured_read c.ranges.x c.ranges.y f.measurable, f.paired, f.few)
 
 pub slice_bounds-found-end : goal.slice_bounds-found-end
-slice_bounds-found-end c = omega (arith, as_many c, length-take (length (given (goal.at.slice_bounds-found-end c).After-places_refusal-told).xs) c.keys_of-found.result)
+slice_bounds-found-end c = omega (arith, as_many c, length-take (length (given (goal.at.slice_bounds-found-end c).After-places_refusal).xs) c.keys_of-found.result)
 
 pub slice_bounds-list_by-end : goal.slice_bounds-list_by-end
 slice_bounds-list_by-end c = sym (as_many (goal.at.slice_bounds-list_by-end c).After-keys_of-found)
 
 pub list_by-count-requires : goal.list_by-count-requires
-list_by-count-requires c = let f = going (goal.at.list_by-count-requires c).Else-told-ne0 in
+list_by-count-requires c = let f = going (goal.at.list_by-count-requires c).In_default in
     (as_many (goal.at.list_by-count-requires c).After-keys_of-found ∙ sym f.paired, omega (arith, as_many (goal.at.list_by-count-requires c).After-keys_of-found, f.few))
 
 pub overflow_cast-result : goal.overflow_cast-result
-overflow_cast-result c = let ks = take (length (given (goal.at.overflow_cast-result c).After-places_refusal-told).xs) c.keys_of-found.result in
-    omega (arith, c.list_by-count.ensures.counted, count_le (length ks) (is_listed ks), as_many (goal.at.overflow_cast-result c).After-keys_of-found, (going (goal.at.overflow_cast-result c).Else-told-ne0).few)
+overflow_cast-result c = let ks = take (length (given (goal.at.overflow_cast-result c).After-places_refusal).xs) c.keys_of-found.result in
+    omega (arith, c.list_by-count.ensures.counted, count_le (length ks) (is_listed ks), as_many (goal.at.overflow_cast-result c).After-keys_of-found, (going (goal.at.overflow_cast-result c).In_default).few)
 
 pub returns : goal.returns
 returns c = let l = c.list_by-count.ensures in
-    listed_by (given (goal.at.returns c).After-places_refusal-told) c.args.radius (passed (goal.at.returns c).Else-told-ne0) (λ i. (c.shared_slice_known-1.given i).fits) (keys (goal.at.returns c).After-keys_of-found) l.counted l.after
+    listed_by (given (goal.at.returns c).After-places_refusal) c.args.radius (passed (goal.at.returns c).In_default) (λ i. (c.shared_slice_known-1.given i).fits) (keys (goal.at.returns c).After-keys_of-found) l.counted l.after

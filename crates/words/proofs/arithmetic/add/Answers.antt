@@ -1,4 +1,4 @@
-use Rattle.std.proofs.Common.{ℕ, ◌+◌, ◌%◌, ◌^◌, ap, ◌∙◌, arith}
+use Rattle.std.proofs.Common.{ℕ, ◌+◌, ◌%◌, ◌^◌, ap, ◌∙◌}
 use Rattle.tsc.specs.Word.{◌⊞◌}
 use Rattle.cycle.proofs.Bits.{mod_pow_mod}
 use Rattle.words.proofs.arithmetic.add.Goals as goal

@@ -1,4 +1,4 @@
-use Rattle.std.proofs.Common.{ℕ, ap, arith}
+use Rattle.std.proofs.Common.{ℕ, ap}
 use Rattle.words.specs.declared.arithmetic.Width.{Width}
 use Rattle.words.proofs.Reduced.{ones_shifted}
 use Rattle.words.proofs.arithmetic.width_of.Goals as goal

@@ -1,2 +1,0 @@
--- What inner functions answer.
-pub mod Period

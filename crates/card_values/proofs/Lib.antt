@@ -1,2 +1,0 @@
--- Laws for a field's reader.
-pub mod FieldRead

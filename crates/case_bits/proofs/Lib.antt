@@ -1,2 +1,0 @@
--- Laws for the reader of a strip.
-mod Words

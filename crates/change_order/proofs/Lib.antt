@@ -1,2 +1,0 @@
--- Laws of the test of two changes.
-pub mod Before
