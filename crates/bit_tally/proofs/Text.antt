@@ -31,6 +31,9 @@ strip_bits_lem n (w ∷ ws) = all_append (word_bits n w) (bits_of n ws) (word_bi
 
 -- ---- a word
 
+pub length-word_text : (n w : ℕ) → length (text (word_bits n w)) ≡ n
+length-word_text n w = length-text (word_bits n w) ∙ length-word_bits n w
+
 -- place i has bit n - 1 - i, and the bits from it on begin with that bit
 pub digit_at : (n w i : ℕ) → i < n → digit (bit (n - 1 - i) w) ≡ get_or (text (word_bits n w)) i 0
 digit_at n w i l = sym (text_at (word_bits n w) i (omega (arith, length-word_bits n w)) ∙ ap digit (word_bits_at n w i l))

@@ -39,9 +39,9 @@ fn put_words(n: u32, strip: &[u32], page: &mut [u8]) -> Tally
     ensures page { page.new ≡ with_text n strip.now page.old }
 {
     let mut tally = Tally::none();
-    for k in 0..strip.len() {
+    for (k, word) in strip.iter().enumerate() {
         let at = n as usize * k;
-        tally = put_word(tally, strip[k], n, &mut page[at..]);
+        tally = put_word(tally, *word, n, &mut page[at..]);
     }
     tally
 }

@@ -3,13 +3,14 @@ ghost use Rattle.std.specs.Prelude.{◌≡◌};
 ghost use Rattle.card_format.specs.Fields.{same};
 ghost use Rattle.case_answers.specs.Page.{untouched_page};
 
+use case_fields::line;
 use std::io::Write;
 use std::{fmt, io};
 
 // The most bytes of a page.
 pub const PAGE: usize = 600;
 
-// A page as it is lent.
+// A page as it is lent for a card or a record.
 pub fn untouched() -> [u8; PAGE]
     ensures { result ≡ untouched_page }
 {
@@ -96,7 +97,23 @@ pub fn print_refused<W: Write, R: fmt::Display + Drop>(
     writeln!(out, "refused {refusal}{changed}")
 }
 
-// Whether words are the same as those that were lent.
+// A line of two fields, its word and the bytes that are all the call takes.
+pub fn replay_alone<W: Write, F: FnOnce(&mut W, &[u8]) -> io::Result<()> + Drop>(
+    out: &mut W,
+    line: &[u8],
+    bytes: &[u8],
+    call: F,
+) -> io::Result<()>
+    requires { F.IsAlwaysCallable call }
+{
+    match line::fields(line) {
+        2 => call(out, bytes),
+        _ => print_syntax(out),
+    }
+}
+
+// Whether words are the same as those that were lent. No contract speaks of what is printed, so a clause can hold this only here, where the edit
+// changed_state_told_as_kept tries it.
 pub fn same_words(a: &[u32], b: &[u32]) -> bool
     ensures { result ≡ same a.now b.now }
 {

@@ -1,2 +1,1 @@
 pub mod Strip
-pub mod Page

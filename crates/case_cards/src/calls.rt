@@ -54,6 +54,7 @@ pub fn print_read<W: Write>(out: &mut W, card: &[u8]) -> io::Result<()> {
 // The bad places of a card's table: how many, and which.
 pub fn print_bad_places<W: Write>(out: &mut W, card: &[u8]) -> io::Result<()> {
     let found = diagnosis::call::bad_places(card);
+    // The answer is the struct for C, diagnoses::BadPlaces.
     if found.refusal != 0 {
         return answer::print_refused(out, found.refusal, true);
     }

@@ -12,26 +12,22 @@ use tsc::{Card, TABLE_SIZE};
 
 // check CARD
 pub fn replay_check<W: Write>(out: &mut W, line: &[u8], card: &[u8]) -> io::Result<()> {
-    match line::fields(line) {
-        2 => calls::print_check(out, card),
-        _ => answer::print_syntax(out),
-    }
+    answer::replay_alone(out, line, card, |out, card| calls::print_check(out, card))
 }
 
 // read CARD
 pub fn replay_read<W: Write>(out: &mut W, line: &[u8], card: &[u8]) -> io::Result<()> {
-    match line::fields(line) {
-        2 => calls::print_read(out, card),
-        _ => answer::print_syntax(out),
-    }
+    answer::replay_alone(out, line, card, |out, card| calls::print_read(out, card))
 }
 
 // badbit CARD
 pub fn replay_bad_places<W: Write>(out: &mut W, line: &[u8], card: &[u8]) -> io::Result<()> {
-    match line::fields(line) {
-        2 => calls::print_bad_places(out, card),
-        _ => answer::print_syntax(out),
-    }
+    answer::replay_alone(
+        out,
+        line,
+        card,
+        |out, card| calls::print_bad_places(out, card),
+    )
 }
 
 // The values but table and constant, by their places, and the entries of the table.

@@ -16,7 +16,7 @@ abbrev pub held : List ℕ → ℕ → Held
 held words count = record { words = words; count = count }
 
 -- an empty list, with room for so many numbers
-unfoldable pub empty : ℕ → Held
+abbrev pub empty : ℕ → Held
 empty n = held (replicate n 0) 0
 
 -- a list with a number put to it; none where the number is none or above the most or the list is full, and none stays none
@@ -40,7 +40,7 @@ pairs (x ∷ []) = (x ∷ []) ∷ []
 pairs (x ∷ y ∷ zs) = (x ∷ y ∷ []) ∷ pairs zs
 
 -- the byte of two hex digits
-unfoldable pub pair_value : List ℕ → Option ℕ
+abbrev pub pair_value : List ℕ → Option ℕ
 pair_value xs = cond (eqb (length xs) 2) (numeral 16 xs) None
 
 -- bytes as pairs of hex digits

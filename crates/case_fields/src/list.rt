@@ -9,14 +9,15 @@ use std::marker::Model;
 // The most numbers of a list. 600 bytes have room for the longest card of document 02, and for cards that are too long.
 pub const ROOM: usize = 600;
 
-// The largest numbers of 8, of 16 and of 32 bits.
-pub const BYTE: u32 = 0xff;
+// The largest numbers of 8, of 16 and of 32 bits, all as what a list is read with.
+pub const BYTE: u32 = u8::MAX as u32;
 
-pub const HALF: u32 = 0xffff;
+pub const HALF: u32 = u16::MAX as u32;
 
-pub const WORD: u32 = 0xffff_ffff;
+pub const WORD: u32 = u32::MAX;
 
 // A list of numbers: as many of the words as count, and zeros past them. A program has fixed memory, and what reads a list can't fail for want of more.
+// Not the kit's ArrayVec, which is not Copy and whose clone can fail: a state is lent as a copy, and compared with what was handed over.
 #[derive(Clone, Copy)]
 pub struct Numbers<const SIZE: usize> {
     words: [u32; SIZE],
@@ -124,7 +125,7 @@ pub fn is_nothing(field: &[u8]) -> bool
     field == b"-".as_slice()
 }
 
-// Numbers up to the most, commas between.
+// Numbers up to the most, commas between. Whether they are in hex is a bool, as the definition numbers_in takes it.
 pub fn numbers_of<const SIZE: usize>(field: &[u8], hex: bool, most: u32) -> Option<Numbers<SIZE>>
     ensures { result ≡ numbers_in hex most SIZE field.now }
 {

@@ -33,6 +33,7 @@ pub fn print_within<W: Write>(
     ys: &[i32],
 ) -> io::Result<()> {
     let found = within::call::within(x, y, radius, shovels, xs, ys);
+    // The answer is the struct for C, nearby::WithinAnswer.
     if found.refusal != 0 {
         return answer::print_refused(out, found.refusal, true);
     }

@@ -19,7 +19,7 @@ pub fn biased_of(field: &[u8]) -> Option<u32>
     }
 }
 
-// x or y of a place, with its bias.
+// x or y of a place, with its bias. Which of them is a bool, as the definition half_in takes it.
 pub fn half_of(place: &[u8], second: bool) -> Option<u32>
     ensures { result ≡ half_in second place.now }
 {
@@ -31,7 +31,7 @@ pub fn half_of(place: &[u8], second: bool) -> Option<u32>
     }
 }
 
-// All x or all y of places, with their bias.
+// All x or all y of places, with their bias. Which of them is a bool, as the definition coordinates_in takes it.
 pub fn coordinates_of(field: &[u8], second: bool) -> Option<Numbers<ROOM>>
     ensures { result ≡ coordinates_in second field.now }
 {

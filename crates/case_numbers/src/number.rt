@@ -11,7 +11,7 @@ fn with_digit(value: u32, base: u32, byte: u8) -> Option<u32>
     value.checked_mul(base)?.checked_add(digit)
 }
 
-// The number that a field's digits say.
+// The number that a field's digits say. Whether they are hex is a bool, as the definition base_of takes it.
 pub fn number_of(field: &[u8], hex: bool) -> Option<u32>
     ensures { result ≡ numeral (base_of hex) field.now }
 {

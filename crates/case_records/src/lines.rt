@@ -9,10 +9,7 @@ use std::io::Write;
 
 // desk RECORD
 pub fn replay_desk<W: Write>(out: &mut W, line: &[u8], bytes: &[u8]) -> io::Result<()> {
-    match line::fields(line) {
-        2 => calls::print_desk(out, bytes),
-        _ => answer::print_syntax(out),
-    }
+    answer::replay_alone(out, line, bytes, |out, bytes| calls::print_desk(out, bytes))
 }
 
 // cab TRUCK RECORD

@@ -1,11 +1,8 @@
 // The calls on a card and a state, each with its answer printed. A state is handed over as a list of words, lent to the call as a copy, and compared with it
 // after a refusal. Which numbers are printed is in the contracts of the calls; no contract can speak of what is printed, so the stored output of the program
 // holds that.
-ghost use Rattle.std.specs.Prelude.{◌≡◌};
-ghost use Rattle.refusals.specs.Refusals.{told};
-ghost use Rattle.draws.specs.Calls.{refusal_for};
 
-use card::check;
+use call_check::check;
 use case_answers::answer;
 use case_answers::answer::{Choice, Words};
 use case_fields::list::{Numbers, ROOM};
@@ -13,7 +10,6 @@ use case_words::row;
 use generator::call;
 use picks::Pick;
 use refusals::Refusal;
-use state_words::lent;
 use std::io::Write;
 use std::{fmt, io};
 
@@ -59,14 +55,6 @@ pub fn print_draw<W: Write>(out: &mut W, card: &[u8], state: Numbers<ROOM>) -> i
     }
 }
 
-// Whether a card and a state are refused, as a draw refuses them.
-fn draw_refusal(card: &[u8], state: &[u32]) -> Result<(), Refusal>
-    ensures { told result ≡ refusal_for card.now state.now }
-{
-    let values = check::accept(card)?;
-    lent::state_refusal(values.words, values.width, state)
-}
-
 // So many words drawn. No draw at all is refused as a draw is.
 pub fn print_run<W: Write>(
     out: &mut W,
@@ -74,7 +62,7 @@ pub fn print_run<W: Write>(
     state: Numbers<ROOM>,
     count: usize,
 ) -> io::Result<()> {
-    if let Err(refusal) = draw_refusal(card, state.as_slice()) {
+    if let Err(refusal) = check::card_for(card, state.as_slice()) {
         return answer::print_refused(out, refusal, true);
     }
     let mut moved = state;

@@ -1,5 +1,5 @@
 // The bad bit of a table on lent bytes: any bytes.
-ghost use Rattle.std.specs.Prelude.{◌≡◌, ◌^◌, ◌≤◌, IfOk, length, replicate};
+ghost use Rattle.std.specs.Prelude.{◌≡◌, ◌^◌, ◌≤◌, IfOk, length};
 ghost use Rattle.cycle.specs.Notation.{count};
 ghost use Rattle.tsc.specs.Constants.{most_words};
 ghost use Rattle.refusals.specs.Refusals.{first_of, number, told};
@@ -12,19 +12,12 @@ use card_table::table;
 use diagnoses::{BadPlaces, MOST_PLACES};
 use refusals::Refusal;
 
-// No places. An array with a count beside it, as C has it.
-fn no_places() -> [u8; MOST_PLACES]
-    ensures { result ≡ replicate most_places 0 }
-{
-    [0u8; MOST_PLACES]
-}
-
-// A refusal, with no places.
+// A refusal, with no places. The struct for C has an array with its count.
 fn refused(refusal: Refusal) -> BadPlaces
     ensures { result ≡ no_places (number refusal) }
 {
     BadPlaces {
-        places: no_places(),
+        places: [0; MOST_PLACES],
         count: 0,
         refusal: refusal.number(),
     }
@@ -35,7 +28,7 @@ fn listed(marks: &[bool]) -> BadPlaces
     requires { (length marks.now ≤ 2 ^ most_words) × (count (length marks.now) (marked marks.now) ≤ most_places) }
     ensures { result ≡ showing (length marks.now) (marked marks.now) }
 {
-    let mut places = no_places();
+    let mut places = [0; MOST_PLACES];
     let mut count = 0;
     for (x, marked) in marks.iter().enumerate() {
         if *marked {

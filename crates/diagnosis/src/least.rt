@@ -13,7 +13,7 @@ pub fn least_set(table: &[u8]) -> [bool; TABLE_SIZE]
     requires { IsTable table.now × (SingleCycle (length table.now) (entry_of table.now) 0 → ⊥) }
     ensures { LeastSet (length table.now) (Excludes (length table.now) (entry_of table.now)) (marked result) }
 {
-    let mut marks = shortest::no_marks();
+    let mut marks = [false; TABLE_SIZE];
     if let Some(x) = pair::fixed_point(table) {
         marks[x] = true;
         return marks;

@@ -1,6 +1,5 @@
 // Places that are enough alone or by twos: one that is its own entry, and the first two that have the same entry or each other as entry.
-ghost use Rattle.std.specs.Prelude.{◌≡◌, ℕ, ◌^◌, ◌<◌, get_or, length, replicate};
-ghost use Rattle.tsc.specs.Constants.{most_words};
+ghost use Rattle.std.specs.Prelude.{◌≡◌, ℕ, ◌<◌, get_or, length};
 ghost use Rattle.completions.specs.Finding.{is_fixed, uses, clashes, clash, clashes_with};
 ghost use Rattle.cycle.specs.Notation.{first};
 ghost use Rattle.diagnosis.specs.Marks.{entry_of, first_below, first_pair, IsTable};
@@ -17,19 +16,12 @@ pub fn fixed_point(table: &[u8]) -> Option<usize>
         .position(|(x, v)| usize::from(*v) == x)
 }
 
-// No entry counted yet. An array, and no map: memory is fixed.
-fn no_uses() -> [u16; TABLE_SIZE]
-    ensures { result ≡ replicate (2 ^ most_words) 0 }
-{
-    [0u16; TABLE_SIZE]
-}
-
-// How many places have each entry.
+// How many places have each entry. An array, and no map: memory is fixed.
 fn uses_of(table: &[u8]) -> [u16; TABLE_SIZE]
     requires { IsTable table.now }
     ensures { (v : ℕ) → get_or result v 0 ≡ uses (length table.now) (entry_of table.now) v }
 {
-    let mut counts = no_uses();
+    let mut counts = [0; TABLE_SIZE];
     for v in table {
         counts[usize::from(*v)] += 1;
     }
@@ -42,13 +34,10 @@ fn first_clash(table: &[u8]) -> Option<usize>
     ensures { result ≡ first_below (length table.now) (clashes (length table.now) (entry_of table.now)) }
 {
     let counts = uses_of(table);
-    for (x, v) in table.iter().enumerate() {
-        let y = usize::from(*v);
-        if 1 < counts[y] || usize::from(table[y]) == x {
-            return Some(x);
-        }
-    }
-    None
+    (0..table.len()).find(|x| {
+        let y = usize::from(table[*x]);
+        1 < counts[y] || usize::from(table[y]) == *x
+    })
 }
 
 // Whether x with entry v and y with entry w have the same entry, or each other as entry.

@@ -1,6 +1,5 @@
 // The shortest cycle of a table that repeats no entry. Each place is passed once: those on the way of an earlier one are marked.
-ghost use Rattle.std.specs.Prelude.{◌≡◌, ◌+◌, ◌^◌, ◌<◌, false, length, replicate};
-ghost use Rattle.tsc.specs.Constants.{most_words};
+ghost use Rattle.std.specs.Prelude.{◌≡◌, ◌+◌, ◌<◌, length};
 ghost use Rattle.completions.specs.Completion.{Injective};
 ghost use Rattle.completions.specs.Finding.{cycle_length, Shortest};
 ghost use Rattle.diagnosis.specs.Marks.{entry_of, IsTable, marks_along, Tried};
@@ -12,13 +11,6 @@ use tsc::TABLE_SIZE;
 pub struct Found {
     pub start: usize,
     pub steps: usize,
-}
-
-// No place marked.
-pub fn no_marks() -> [bool; TABLE_SIZE]
-    ensures { result ≡ replicate (2 ^ most_words) false }
-{
-    [false; TABLE_SIZE]
 }
 
 // The table followed from x until it returns, as often as it has entries at most: how often, with a mark at each place on the way. Callers hand over a place of the table.
@@ -61,7 +53,7 @@ pub fn shortest(table: &[u8]) -> usize
     requires { IsTable table.now × Injective (length table.now) (entry_of table.now) }
     ensures { Shortest (length table.now) (entry_of table.now) result }
 {
-    let mut marks = no_marks();
+    let mut marks = [false; TABLE_SIZE];
     let steps = mark_cycle(table, 0, &mut marks);
     let mut found = Found { start: 0, steps };
     for x in 1..table.len() {

@@ -3,7 +3,7 @@ ghost use Rattle.std.specs.Prelude.{◌≡◌};
 ghost use Rattle.refusals.specs.Refusals.{told};
 ghost use Rattle.fills.specs.Fills.{fill_refusal, filled, filled_state};
 
-use card::check as accepted;
+use call_check::check as handed;
 use gates::tsc1;
 use outputs::row;
 use refusals::Refusal;
@@ -23,8 +23,7 @@ pub fn fill(
     ensures words { strip.new ≡ filled card.now state.old strip.old place count }
     ensures after { state.new ≡ filled_state card.now state.old strip.old place count }
 {
-    let values = accepted::accept(card)?;
-    lent::state_refusal(values.words, values.width, state)?;
+    let values = handed::card_for(card, state)?;
     check::span_refusal(strip.len(), place, count)?;
     let is_tsc1 = tsc1::is_tsc1(card);
     let held = lent::load(state);

@@ -5,7 +5,7 @@ ghost use Rattle.card_format.specs.Reading.{card_of};
 ghost use Rattle.refusals.specs.Refusals.{numbered, told};
 ghost use Rattle.draws.specs.Calls.{refusal_for, stepped, stepped_back, drawing, OnlyBefore};
 
-use card::check;
+use call_check::check;
 use filters::filter;
 use gates::{step as gate_step, tsc1};
 use outputs::next;
@@ -20,8 +20,7 @@ pub fn step(card: &[u8], state: &mut [u32]) -> Result<(), Refusal>
     ensures after { state.new ≡ stepped card.now state.old }
     ensures undone { told result ≡ 0 → IsState (card_of card.now) state.new × (step_back (card_of card.now) state.new ≡ state.old) }
 {
-    let values = check::accept(card)?;
-    lent::state_refusal(values.words, values.width, state)?;
+    let values = check::card_for(card, state)?;
     let held = lent::load(state);
     if tsc1::is_tsc1(card) {
         lent::store(gate_step::next_state(held), state);
@@ -40,8 +39,7 @@ pub fn step_back(card: &[u8], state: &mut [u32]) -> Result<(), Refusal>
     ensures after { state.new ≡ stepped_back card.now state.old }
     ensures only { told result ≡ 0 → OnlyBefore (card_of card.now) state.new state.old }
 {
-    let values = check::accept(card)?;
-    lent::state_refusal(values.words, values.width, state)?;
+    let values = check::card_for(card, state)?;
     let held = lent::load(state);
     let terms = selector::terms_of(values);
     let p = back::backward(
@@ -61,8 +59,7 @@ pub fn draw(card: &[u8], state: &mut [u32]) -> Result<u32, Refusal>
     ensures after { state.new ≡ stepped card.now state.old }
     ensures narrow { (w : ℕ) → result ≡ Ok w → w < 2 ^ (card_of card.now).width }
 {
-    let values = check::accept(card)?;
-    lent::state_refusal(values.words, values.width, state)?;
+    let values = check::card_for(card, state)?;
     let held = lent::load(state);
     if tsc1::is_tsc1(card) {
         let made = outputs::tsc1::next_output(held);

@@ -5,10 +5,9 @@ ghost use Rattle.draws.specs.Calls.{call_checks};
 ghost use Rattle.places.specs.Places.{place_checks};
 ghost use Rattle.map_pick.specs.Measured.{can_measure};
 
-use card::check;
+use call_check::check;
 use places::map;
 use refusals::Refusal;
-use state_words::lent;
 use tie_list::check::MOST_SHOVELS;
 
 // Whether the distances of all shovels can be worked out, once it is known whether all is on the map.
@@ -32,7 +31,6 @@ pub fn first_refusal(
 ) -> Result<(), Refusal>
     ensures { told result ≡ first_of (call_checks card.now state.now ++ place_checks shovels.now xs.now ys.now mapped) }
 {
-    let values = check::accept(card)?;
-    lent::state_refusal(values.words, values.width, state)?;
+    check::card_for(card, state)?;
     map::places_refusal(shovels, xs, ys, mapped)
 }

@@ -3,8 +3,8 @@ ghost use Rattle.refusals.specs.Refusals.{numbered};
 ghost use Rattle.margins.specs.Margins.{IsMargin};
 
 use super::{changed, chosen};
+use call_check::check;
 use candidates::search;
-use card::check;
 use gates::tsc1;
 use margins::Nearest;
 use pick::listing;
@@ -21,8 +21,7 @@ pub fn margin(
 ) -> Result<Nearest, Refusal>
     ensures { IsMargin card.now state.now shovels.now times.now (numbered result) }
 {
-    let values = check::accept(card)?;
-    lent::state_refusal(values.words, values.width, state)?;
+    let values = check::card_for(card, state)?;
     let found = listing::list_ties(values.width as u32, shovels, times)?;
     let is_tsc1 = tsc1::is_tsc1(card);
     let held = lent::load(state);

@@ -8,6 +8,7 @@ ghost use Rattle.outcomes.specs.Elsewhere.{IsOutcome, elsewhere, Several};
 
 use super::Known;
 use sample::many;
+use std::cmp::Ordering;
 use tie_others::others::Others;
 use tries::row;
 
@@ -36,10 +37,7 @@ pub struct Varied<'a> {
 fn tie_at(own: bool, tie: bool, t: u32, x: u32) -> bool
     ensures { result ≡ cond own tie (eqb t x) }
 {
-    if own {
-        return tie;
-    }
-    t == x
+    (own && tie) || (!own && t == x)
 }
 
 // Whether a pick with such ties is not refused and goes elsewhere: the chosen shovel is no tie, or has another rank than the one drawn. A list has a tie at least,
@@ -68,24 +66,22 @@ impl Varied<'_> {
         let p = self.known.chosen;
         let o = self.others;
         let lower = usize::from(self.shovels[i] < self.shovels[p]);
-        if v < o.time {
-            return Outcome {
+        match v.cmp(&o.time) {
+            Ordering::Less => Outcome {
                 ties: 1,
                 tie: p == i,
                 rank: lower,
-            };
-        }
-        if v == o.time {
-            return Outcome {
+            },
+            Ordering::Equal => Outcome {
                 ties: o.ties + 1,
                 tie: tie_at(p == i, true, self.times[p], o.time),
                 rank: o.lower + lower,
-            };
-        }
-        Outcome {
-            ties: o.ties,
-            tie: tie_at(p == i, false, self.times[p], o.time),
-            rank: o.lower,
+            },
+            Ordering::Greater => Outcome {
+                ties: o.ties,
+                tie: tie_at(p == i, false, self.times[p], o.time),
+                rank: o.lower,
+            },
         }
     }
 

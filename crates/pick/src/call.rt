@@ -3,11 +3,10 @@ ghost use Rattle.std.specs.Prelude.{◌≡◌};
 ghost use Rattle.picks.specs.Picks.{picking, picked, answering};
 
 use super::{listing, ranks};
-use card::check;
+use call_check::check;
 use gates::tsc1;
 use picks::Pick;
 use refusals::Refusal;
-use state_words::lent;
 use tie_rank::rank;
 
 // A pick as `pick` answers it, its refusals handed on.
@@ -15,8 +14,7 @@ fn choose(card: &[u8], state: &mut [u32], shovels: &[u16], times: &[u32]) -> Res
     ensures answer { answering result ≡ picking card.now state.old shovels.now times.now }
     ensures after { state.new ≡ picked card.now state.old shovels.now times.now }
 {
-    let values = check::accept(card)?;
-    lent::state_refusal(values.words, values.width, state)?;
+    let values = check::card_for(card, state)?;
     let found = listing::list_ties(values.width as u32, shovels, times)?;
     let ties = found.ties as u8;
     if found.ties == 1 {

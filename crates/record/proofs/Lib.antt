@@ -1,3 +1,4 @@
 -- Laws for reading records.
+pub mod Tested
 pub mod Words
 pub mod Assembled

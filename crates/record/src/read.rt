@@ -24,15 +24,22 @@ fn optional_at(bytes: &[u8], map: u8, k: u32, at: usize) -> Option<u8>
     None
 }
 
+// The four bytes at a place as a number, low byte first.
+fn word_at(bytes: &[u8], at: usize) -> u32
+    requires { at + 3 < length bytes.now }
+    ensures { result ≡ get_or bytes.now at 0 + get_or bytes.now (at + 1) 0 * 256 + get_or bytes.now (at + 2) 0 * 65536 + get_or bytes.now (at + 3) 0 * 16777216 }
+{
+    u32::from_le_bytes([bytes[at], bytes[at + 1], bytes[at + 2], bytes[at + 3]])
+}
+
 // A state of m words of four bytes, at the start of the part. The record is whole, and so has them, here and below.
 fn state_from(part: &[u8], m: usize) -> State
     requires { (m ≤ most_words) × (4 * m ≤ length part.now) }
     ensures { result ≡ held_state (numbers (word_field m) part.now) }
 {
     let mut words = [0; MOST_WORDS];
-    for k in 0..m {
-        let at = 4 * k;
-        words[k] = u32::from_le_bytes([part[at], part[at + 1], part[at + 2], part[at + 3]]);
+    for (k, word) in words[..m].iter_mut().enumerate() {
+        *word = word_at(part, 4 * k);
     }
     State { words }
 }

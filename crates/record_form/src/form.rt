@@ -6,7 +6,7 @@ ghost use Rattle.records.specs.Reading.{is_whole};
 use tsc::{FEWEST_WORDS, MOST_WORDS};
 use words::mask::bit_of;
 
-// The bits of the fields that may lack.
+// The bits of the fields that may lack. Numbers and no enum: a field's number is its bit in the map.
 pub const TIES: u32 = 2;
 
 pub const TAKEN: u32 = 3;

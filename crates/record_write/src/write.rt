@@ -13,8 +13,8 @@ fn put_words(words: &[u32], part: &mut [u8])
     requires { 4 * length words.now ≤ length part.old }
     ensures { part.new ≡ bytes_of (word_field (length words.now)) words.now ++ drop (4 * length words.now) part.old }
 {
-    for k in 0..words.len() {
-        part[4 * k..4 * k + 4].copy_from_slice(&words[k].to_le_bytes());
+    for (k, word) in words.iter().enumerate() {
+        part[4 * k..4 * k + 4].copy_from_slice(&word.to_le_bytes());
     }
 }
 

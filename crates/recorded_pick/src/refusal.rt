@@ -3,10 +3,9 @@ ghost use Rattle.std.specs.Prelude.{◌≡◌};
 ghost use Rattle.refusals.specs.Refusals.{told};
 ghost use Rattle.picks.specs.Picks.{pick_refusal};
 
-use card::check;
+use call_check::check;
 use pick::listing;
 use refusals::Refusal;
-use state_words::lent;
 
 // The refusal that a pick tells, 1 to 15 or 18: nothing is drawn.
 pub fn pick_refusal(
@@ -17,8 +16,7 @@ pub fn pick_refusal(
 ) -> Result<(), Refusal>
     ensures { told result ≡ pick_refusal card.now state.now shovels.now times.now }
 {
-    let values = check::accept(card)?;
-    lent::state_refusal(values.words, values.width, state)?;
+    let values = check::card_for(card, state)?;
     listing::list_ties(values.width as u32, shovels, times)?;
     Ok(())
 }

@@ -11,7 +11,7 @@ pub struct Record {
     pub shovel: u16,
     pub ties: Option<u8>,
     pub taken: Option<u8>,
-    // how many words the state has, where the record has it
+    // how many words the state has, where the record has it: a field of its own, as definition record_of and theorem read_absent speak of it, and the struct for C
     pub words: Option<u8>,
     // the state before the pick: zeros past its words
     pub state: State,

@@ -41,7 +41,7 @@ pub fn rank_among(n: u32, words: [u32; MOST_TRIED], k: u32) -> Ranked
         return Ranked { rank: 0, taken: 0 };
     }
     let mut taken: usize = 0;
-    // No for: it ends by the word that decides, which the last one does, and what is drawn is what it yields then.
+    // No for: it ends by the word that decides, which the last one does, and what is drawn is what it yields then. The proof by position was not closed.
     loop {
         let word = words[taken];
         taken += 1;

@@ -1,5 +1,6 @@
 // The shovels within a radius on lent slices: any place, any radius, any numbers and places.
 ghost use Rattle.std.specs.Prelude.{◌≡◌, ◌&&◌, true};
+ghost use Rattle.refusals.specs.Refusals.{number};
 ghost use Rattle.places.specs.Distances.{square};
 ghost use Rattle.places.specs.Places.{placed, on_map, is_radius};
 ghost use Rattle.nearby.specs.Calls.{no_list, within_radius};
@@ -8,6 +9,7 @@ use super::{keys, list};
 use nearby::WithinAnswer;
 use places::around::Around;
 use places::map;
+use refusals::Refusal;
 use tie_list::check::MOST_SHOVELS;
 
 // Whether places and radius are allowed.
@@ -17,14 +19,14 @@ fn is_allowed(around: &Around<'_>, radius: i32) -> bool
     around.on_map() && map::is_radius(radius)
 }
 
-// A refusal, with no list.
-fn refused(number: u8) -> WithinAnswer
-    ensures { result ≡ no_list number }
+// A refusal, with no list. The struct for C has the number beside the list.
+fn refused(refusal: Refusal) -> WithinAnswer
+    ensures { result ≡ no_list (number refusal) }
 {
     WithinAnswer {
         shovels: [0; MOST_SHOVELS],
         count: 0,
-        refusal: number,
+        refusal: refusal.number(),
     }
 }
 
@@ -38,14 +40,14 @@ fn squared(radius: i32) -> u64
 }
 
 // The shovels within the radius around (x, y), by distance and then by number; or the first refusal of 12 to 15 and 25 that applies. No distance is worked out
-// before that is known. The struct is C's, so a refusal is its number in there.
+// before that is known.
 pub fn within(x: i32, y: i32, radius: i32, shovels: &[u16], xs: &[i32], ys: &[i32]) -> WithinAnswer
     ensures { result ≡ within_radius (placed x y shovels.now xs.now ys.now) radius }
 {
     let around = Around { x, y, xs, ys };
     let allowed = is_allowed(&around, radius);
     if let Err(refusal) = map::places_refusal(shovels, xs, ys, allowed) {
-        return refused(refusal.number());
+        return refused(refusal);
     }
     let found = keys::keys_of(&around, squared(radius), shovels);
     let n = xs.len();

@@ -7,11 +7,10 @@ use lib.Seq.{take_all}
 use Rattle.cycle.proofs.Bits.{bit_lt}
 use Rattle.cycle.proofs.Lists.{over, over_suc}
 use Rattle.bit_counts.specs.Bits.{word_bits, digit, text}
-use Rattle.bit_counts.proofs.Bits.{length-word_bits, length-text}
 use Rattle.bit_tally.specs.declared.tally.Tally.{Tally}
 use Rattle.bit_tally.specs.Tally.{with_bit, tallied, HasRoom}
 use Rattle.bit_tally.proofs.Room.{room-bit}
-use Rattle.bit_tally.proofs.Text.{digit_at, bit_next, no_bits}
+use Rattle.bit_tally.proofs.Text.{length-word_text, digit_at, bit_next, no_bits}
 use Rattle.bit_tally.proofs.count.put_word.Goals as goal
 
 pub loop-i-preserved : goal.loop-i-preserved
@@ -21,7 +20,7 @@ loop-i-preserved c = let l = c.loop-i in
     let b = c.bit_of-bit.ensures in
     let h = c.loop-i-test.true in
     let s = text (word_bits a.n a.word) in
-    let size = length-text (word_bits a.n a.word) ∙ length-word_bits a.n a.word in
+    let size = length-word_text a.n a.word in
     let t = c.with_bit-tally.ensures ∙ ap (with_bit l.tally) b in
     let less : a.n - l.i ≡ suc (a.n - (l.i + 1)) = omega arith in
     record {
@@ -40,7 +39,7 @@ returns c = let l = c.loop-i in
     let a = c.args in
     let p = l.invariant in
     let s = text (word_bits a.n a.word) in
-    let size = length-text (word_bits a.n a.word) ∙ length-word_bits a.n a.word in
+    let size = length-word_text a.n a.word in
     let all : l.i ≡ a.n = omega arith in
     record {
       counted = sym (no_bits l.tally (a.n - l.i) a.word (omega arith)) ∙ p.counted;

@@ -1,15 +1,15 @@
-use mathlib.Core.Path.{◌≡◌, sym, ap, ap₂, ◌∙◌, subst}
+use mathlib.Core.Path.{sym, ap, ap₂, ◌∙◌, subst}
 use mathlib.Core.List.{List, ◌++◌}
 use Prim.Native.Nat.{ℕ, ◌+◌, ◌-◌, ◌*◌}
 use native.Mathlib.Omega.{arith}
 use lib.ListN.{length, get_or, take, drop}
 use Rattle.cycle.proofs.Lists.{put_next}
 use Rattle.bit_counts.specs.Bits.{word_bits, bits_of, text}
-use Rattle.bit_counts.proofs.Bits.{length-word_bits, length-text}
+use Rattle.bit_counts.proofs.Bits.{length-word_bits}
 use Rattle.bit_tally.specs.declared.tally.Tally.{Tally}
 use Rattle.bit_tally.specs.Tally.{tallied, HasRoom}
 use Rattle.bit_tally.proofs.Room.{few_bits, room_bits, room-first}
-use Rattle.bit_tally.proofs.Text.{word_bits_lem, word_next, text_next, length-words, no_words, all_counted, place_next, places_left}
+use Rattle.bit_tally.proofs.Text.{word_bits_lem, length-word_text, word_next, text_next, length-words, no_words, all_counted, place_next, places_left}
 use Rattle.bit_tally.proofs.count.put_words.Goals as goal
 
 pub loop-k-init : goal.loop-k-init
@@ -36,7 +36,7 @@ loop-k-preserved c = let l = c.loop-k in
     let xs = a.strip.now in
     let b = word_bits n (get_or xs l.k 0) in
     let f = text b in
-    let size : length f ≡ n = length-text b ∙ length-word_bits n (get_or xs l.k 0) in
+    let size = length-word_text n (get_or xs l.k 0) in
     let put = c.put_word-tally.ensures in
     let at = n * l.k in
     let before = text (bits_of n (take l.k xs)) in

@@ -1,4 +1,4 @@
-use Rattle.std.proofs.Common.{sym, ap, ◌∙◌, arith}
+use Rattle.std.proofs.Common.{refl, sym, ap, ◌∙◌, arith}
 use Rattle.cycle.specs.Notation.{one}
 use Rattle.cycle.proofs.Count.{count_none, counted_next}
 use Rattle.completions.specs.Sets.{members_from}
@@ -10,7 +10,7 @@ use Rattle.diagnosis.proofs.call.listed.Goals.{then-marked, else-marked}
 
 pub loop-x-init : goal.loop-x-init
 unfolding members_from
-loop-x-init c = (sym (count_none _), c.no_places-places.ensures)
+loop-x-init c = (sym (count_none _), refl)
 
 pub bounds-places-count : goal.bounds-places-count
 bounds-places-count c = omega (arith, c.loop-x.invariant.0, room most_places (marked c.args.marks.now) c.loop-x.x _ c.loop-x-test.true c.requires.1 c.if-marked.true)

@@ -1,4 +1,4 @@
-use Rattle.std.proofs.Common.{◌≤◌, length, sym, ◌∙◌, arith}
+use Rattle.std.proofs.Common.{◌≤◌, length, refl, sym, ◌∙◌, arith}
 use Rattle.cycle.specs.Notation.{first}
 use Rattle.completions.specs.Completion.{Injective}
 use Rattle.completions.specs.Finding.{is_fixed}
@@ -31,7 +31,7 @@ pub returns-in-Some : goal.returns-in-Some
 returns-in-Some c = let t = c.requires.0 in
     let x = c.in-Some.x in
     let (e, l) = of_some _ _ x (sym c.fixed_point.ensures ∙ c.in-Some.is) in
-    (fixed_chosen _ (entry_of c.args.table.now) t.large t.below x e l _ (alone _ t.fits _ c.no_marks-marks.ensures x l)).0
+    (fixed_chosen _ (entry_of c.args.table.now) t.large t.below x e l _ (alone _ t.fits _ refl x l)).0
 
 pub first_pair-requires : goal.first_pair-requires
 first_pair-requires c = (c.requires.0, of_none _ _ (sym c.fixed_point.ensures ∙ c.in_default.is))
@@ -43,7 +43,7 @@ pub returns-in-Some-first_pair : goal.returns-in-Some-first_pair
 returns-in-Some-first_pair c = let t = c.requires.0 in
     let p = pair c in
     (pair_chosen _ (entry_of c.args.table.now) t.large t.below (moves (goal.at.returns-in-Some-first_pair c).In_default) _ _ p _
-    (both _ t.fits _ c.no_marks-marks.ensures _ _ (omega (arith, p.apart, p.below)) p.below)).0
+    (both _ t.fits _ refl _ _ (omega (arith, p.apart, p.below)) p.below)).0
 
 pub shortest-start-requires : goal.shortest-start-requires
 shortest-start-requires c = (c.requires.0, once c)
@@ -54,4 +54,4 @@ returns c = let f = entry_of c.args.table.now in
     let s = c.shortest-start in
     let m = c.mark_cycle in
     (cycle-chosen _ f t.large t.below (once (goal.at.returns c).In_default-first_pair) c.requires.1 s.result s.ensures _
-    (way _ t.fits _ c.no_marks-marks.ensures f t.below s.result s.ensures.below m.result _ m.ensures.steps m.ensures.after)).0
+    (way _ t.fits _ refl f t.below s.result s.ensures.below m.result _ m.ensures.steps m.ensures.after)).0

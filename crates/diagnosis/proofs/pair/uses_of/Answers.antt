@@ -1,4 +1,4 @@
-use Rattle.std.proofs.Common.{ℕ, ◌+◌, ◌^◌, eqb, length, get_or, ap, sym, ◌∙◌, arith}
+use Rattle.std.proofs.Common.{ℕ, ◌+◌, ◌^◌, eqb, get_or, sym, ◌∙◌, arith}
 use Rattle.std.proofs.Math.ListN.{length-replicate, length-set}
 use Rattle.cycle.proofs.Count.{count_le}
 use Rattle.cycle.proofs.Lists.{get_or_filler}
@@ -9,9 +9,9 @@ use Rattle.diagnosis.proofs.Marking.{uses-none, uses_next}
 use Rattle.diagnosis.proofs.pair.uses_of.Goals as goal
 
 pub loop-v-init : goal.loop-v-init
-loop-v-init c = let e = c.no_uses-counts.ensures in (
-  ap length e ∙ length-replicate {A = ℕ} (2 ^ most_words) 0,
-  λ v. ap (λ l. get_or l v 0) e ∙ get_or_filler (2 ^ most_words) v 0 ∙ sym (uses-none (entry_of c.args.table.now) v),
+loop-v-init c = (
+  length-replicate {A = ℕ} (2 ^ most_words) 0,
+  λ v. get_or_filler (2 ^ most_words) v 0 ∙ sym (uses-none (entry_of c.args.table.now) v),
 )
 
 -- the entry has its count

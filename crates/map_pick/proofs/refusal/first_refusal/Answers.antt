@@ -5,7 +5,7 @@ use Rattle.refusals.specs.Refusals.{Check, number, first_of}
 use Rattle.refusals.proofs.Answers.{number_nonzero}
 use Rattle.refusals.proofs.Refusals.{first-left, first_right}
 use Rattle.draws.specs.Calls.{call_checks, refusal_for}
-use Rattle.draws.proofs.Opening.{told_by_card, told_by_state, clear}
+use Rattle.call_check.proofs.Checked.{refused, clear}
 use Rattle.map_pick.proofs.refusal.first_refusal.Goals as goal
 
 -- a refusal of the card or of the state is told before others
@@ -13,18 +13,13 @@ told_first : (bytes xs : List ℕ) (later : List Check) (e : Refusal) → refusa
 unfolding refusal_for
 told_first bytes xs later e q = sym (first-left (call_checks bytes xs) later (λ z. number_nonzero e (sym q ∙ z)) ∙ q)
 
-pub returns-in_err-values : goal.returns-in_err-values
-returns-in_err-values c = let a = c.args in
+pub returns-in_err-card_for : goal.returns-in_err-card_for
+returns-in_err-card_for c = let a = c.args in
     let p = err_from_is_err_and c.from_residual.result c.from_residual.ensures.1 in
-    rw (p.1, p.2) (told_first a.card.now a.state.now _ c.in_err-values.field-0.0 (told_by_card a.card.now a.state.now c.accept.ensures c.in_err-values.was))
-
-pub returns-in_err-state_refusal : goal.returns-in_err-state_refusal
-returns-in_err-state_refusal c = let a = c.args in
-    let p = err_from_is_err_and c.from_residual-in_err-state_refusal.result c.from_residual-in_err-state_refusal.ensures.1 in
-    rw (p.1, p.2) (told_first a.card.now a.state.now _ c.in_err-state_refusal.field-0.0 (told_by_state a.card.now a.state.now c.accept.ensures c.in_ok-values.was c.state_refusal.ensures c.in_err-state_refusal.was))
+    rw (p.1, p.2) (told_first a.card.now a.state.now _ c.in_err-card_for.field-0.0 (refused a.card.now a.state.now c.card_for.ensures c.in_err-card_for.was))
 
 pub returns : goal.returns
 unfolding refusal_for
 returns c = let a = c.args in
-    let k = clear a.card.now a.state.now c.accept.ensures c.in_ok-values.was c.state_refusal.ensures c.in_ok-state_refusal.was in
+    let k = clear a.card.now a.state.now c.card_for.ensures c.in_ok-card_for.was in
     c.places_refusal.ensures ∙ sym (first_right (call_checks a.card.now a.state.now) _ k.none)

@@ -4,7 +4,8 @@ use Rattle.std.specs.Prelude.{Err}
 use Rattle.refusals.specs.declared.Refusal.{Refusal}
 use Rattle.refusals.specs.Refusals.{number, numbered}
 use Rattle.refusals.proofs.Answers.{number_nonzero}
-use Rattle.draws.proofs.Opening.{Clear, told_by_card, told_by_state, clear}
+use Rattle.draws.proofs.Opening.{Clear}
+use Rattle.call_check.proofs.Checked.{refused, clear}
 use Rattle.draws.proofs.Called.{few, accepted, ready}
 use Rattle.gates.proofs.GateStep.{only-p1}
 use Rattle.changes.specs.declared.Change.{Change}
@@ -17,16 +18,16 @@ use Rattle.margins.specs.Margins.{IsMargin}
 use Rattle.margins.proofs.Answers.{margin_refused}
 use Rattle.margin.proofs.Found.{Draws, listed, found_nothing, found_counts, found_least}
 use Rattle.margin.proofs.call.margin.Goals as goal
-use Rattle.margin.proofs.call.margin.Goals.{After-known_of-known, After-least_change, In_ok-state_refusal, In_ok-found}
+use Rattle.margin.proofs.call.margin.Goals.{After-known_of-known, After-least_change, In_ok-values, In_ok-found}
 
--- past the first two tests the card and the state are not refused
-passing : (c : In_ok-state_refusal) → Clear c.args.card.now c.args.state.now c.in_ok-values.values
-passing c = clear c.args.card.now c.args.state.now c.accept.ensures c.in_ok-values.was c.state_refusal.ensures c.in_ok-state_refusal.was
+-- past the first test the card and the state are not refused
+passing : (c : In_ok-values) → Clear c.args.card.now c.args.state.now c.in_ok-values.values
+passing c = clear c.args.card.now c.args.state.now c.card_for.ensures c.in_ok-values.was
 
--- past the third nothing is
+-- past the second nothing is
 going : (c : In_ok-found) → let a = c.args in Free a.card.now a.state.now a.shovels.now a.times.now c.in_ok-values.values c.in_ok-found.found
 going c = let a = c.args in
-    let k = clear a.card.now a.state.now c.accept.ensures c.in_ok-values.was c.state_refusal.ensures c.in_ok-state_refusal.was in
+    let k = clear a.card.now a.state.now c.card_for.ensures c.in_ok-values.was in
     free _ _ _ _ k c.list_ties.ensures.refusal c.in_ok-found.was c.in_ok-found.ensures.found
 
 refusal : (bytes xs shovels times : List ℕ) (e : Refusal) → pick_refusal bytes xs shovels times ≡ number e → IsMargin bytes xs shovels times (numbered (Err e))
@@ -50,21 +51,15 @@ pub returns-in_err-values : goal.returns-in_err-values
 returns-in_err-values c = let a = c.args in
     let p = err_from_is_err_and c.from_residual.result c.from_residual.ensures.1 in
     let e = c.in_err-values.field-0.0 in
-    rw (p.1, p.2) (refusal _ _ _ _ e (told_call _ _ _ _ e (told_by_card a.card.now a.state.now c.accept.ensures c.in_err-values.was)))
-
-pub returns-in_err-state_refusal : goal.returns-in_err-state_refusal
-returns-in_err-state_refusal c = let a = c.args in
-    let p = err_from_is_err_and c.from_residual-in_err-state_refusal.result c.from_residual-in_err-state_refusal.ensures.1 in
-    let e = c.in_err-state_refusal.field-0.0 in
-    rw (p.1, p.2) (refusal _ _ _ _ e (told_call _ _ _ _ e (told_by_state a.card.now a.state.now c.accept.ensures c.in_ok-values.was c.state_refusal.ensures c.in_err-state_refusal.was)))
+    rw (p.1, p.2) (refusal _ _ _ _ e (told_call _ _ _ _ e (refused a.card.now a.state.now c.card_for.ensures c.in_err-values.was)))
 
 pub list_ties-requires : goal.list_ties-requires
-list_ties-requires c = (accepted (passing (goal.at.list_ties-requires c).In_ok-state_refusal)).narrow
+list_ties-requires c = (accepted (passing (goal.at.list_ties-requires c).In_ok-values)).narrow
 
 pub returns-in_err-found : goal.returns-in_err-found
 returns-in_err-found c = let a = c.args in
     let p = err_from_is_err_and c.from_residual-in_err-found.result c.from_residual-in_err-found.ensures.1 in
-    let told = told_by_list _ _ _ _ (passing (goal.at.returns-in_err-found c).In_ok-state_refusal) c.list_ties.ensures.refusal c.in_err-found.was in
+    let told = told_by_list _ _ _ _ (passing (goal.at.returns-in_err-found c).In_ok-values) c.list_ties.ensures.refusal c.in_err-found.was in
     rw (p.1, p.2) (refusal a.card.now a.state.now a.shovels.now a.times.now c.in_err-found.field-0.0 told)
 
 pub load-held-requires : goal.load-held-requires

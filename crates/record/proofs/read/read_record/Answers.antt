@@ -7,18 +7,11 @@ use lib.Dec.{lit<}
 use lib.ListN.{length, get_or}
 use Rattle.cycle.specs.Notation.{bit}
 use Rattle.cycle.proofs.Bits.{bit_lt}
-use Rattle.records.specs.Reading.{Whole}
 use Rattle.records.proofs.Reading.{reading_torn}
-use Rattle.record_form.proofs.Places.{state_at, Known, known}
+use Rattle.record_form.proofs.Places.{state_at, Known}
 use Rattle.record.proofs.Assembled.{assembled}
+use Rattle.record.proofs.Tested.{whole, facts}
 use Rattle.record.proofs.read.read_record.Goals as goal
-use Rattle.record.proofs.read.read_record.Goals.{Else-not-is_whole}
-
-whole : (c : Else-not-is_whole) → Whole c.args.bytes.now
-whole c = sym c.is_whole.ensures ∙ c.if-not-is_whole.false
-
-facts : (c : Else-not-is_whole) → Known c.args.bytes.now
-facts c = known _ (whole c)
 
 -- the state's field ends within the record
 within : (bytes : List ℕ) (at : ℕ) → Known bytes → at ≡ state_at bytes → at < length bytes → at + 1 + 4 * get_or bytes at 0 ≤ length bytes
@@ -33,29 +26,29 @@ pub returns-then-not-is_whole : goal.returns-then-not-is_whole
 returns-then-not-is_whole c = sym (reading_torn _ (sym c.is_whole.ensures ∙ c.if-not-is_whole.true))
 
 pub bounds-bytes-0 : goal.bounds-bytes-0
-bounds-bytes-0 c = omega (arith, (facts (goal.at.bounds-bytes-0 c).Else-not-is_whole).long)
+bounds-bytes-0 c = omega (arith, (facts _ c.is_whole.ensures c.if-not-is_whole.false).long)
 
 pub state_of-requires : goal.state_of-requires
-state_of-requires c = let k = facts (goal.at.state_of-requires c).Else-not-is_whole in
+state_of-requires c = let k = facts _ c.is_whole.ensures c.if-not-is_whole.false in
     let b = c.args.bytes.now in
     let e = c.state_at-at.ensures in
     (rw e k.few, within b _ k e)
 
 pub half_at-requires : goal.half_at-requires
-half_at-requires c = omega (arith, (facts (goal.at.half_at-requires c).Else-not-is_whole).long)
+half_at-requires c = omega (arith, (facts _ c.is_whole.ensures c.if-not-is_whole.false).long)
 
 pub half_at-requires-2 : goal.half_at-requires-2
-half_at-requires-2 c = omega (arith, (facts (goal.at.half_at-requires-2 c).Else-not-is_whole).long)
+half_at-requires-2 c = omega (arith, (facts _ c.is_whole.ensures c.if-not-is_whole.false).long)
 
 pub optional_at-requires : goal.optional_at-requires
-optional_at-requires c = (lit< tt, λ o. omega (arith, (facts (goal.at.optional_at-requires c).Else-not-is_whole).long))
+optional_at-requires c = (lit< tt, λ o. omega (arith, (facts _ c.is_whole.ensures c.if-not-is_whole.false).long))
 
 pub optional_at-requires-2 : goal.optional_at-requires-2
-optional_at-requires-2 c = (lit< tt, λ o. omega (arith, (facts (goal.at.optional_at-requires-2 c).Else-not-is_whole).long, c.taken_at.ensures))
+optional_at-requires-2 c = (lit< tt, λ o. omega (arith, (facts _ c.is_whole.ensures c.if-not-is_whole.false).long, c.taken_at.ensures))
 
 pub optional_at-requires-3 : goal.optional_at-requires-3
-optional_at-requires-3 c = (lit< tt, λ o. omega (arith, (facts (goal.at.optional_at-requires-3 c).Else-not-is_whole).ends o, c.state_at-at.ensures))
+optional_at-requires-3 c = (lit< tt, λ o. omega (arith, (facts _ c.is_whole.ensures c.if-not-is_whole.false).ends o, c.state_at-at.ensures))
 
 pub returns : goal.returns
-returns c = assembled c.args.bytes.now (whole (goal.at.returns c).Else-not-is_whole) c.half_at.ensures c.half_at-2.ensures c.optional_at.ensures
+returns c = assembled c.args.bytes.now (whole _ c.is_whole.ensures c.if-not-is_whole.false) c.half_at.ensures c.half_at-2.ensures c.optional_at.ensures
     c.taken_at.ensures c.optional_at-2.ensures c.state_at-at.ensures c.optional_at-3.ensures c.state_of.ensures

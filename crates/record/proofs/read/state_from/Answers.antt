@@ -1,15 +1,13 @@
-use mathlib.Core.Path.{◌≡◌, refl, ap, ap₂, ◌∙◌}
-use mathlib.Core.List.{List}
-use Prim.Native.Nat.{ℕ}
-use native.Mathlib.Nat.{le_of_eq}
+use mathlib.Core.Path.{◌≡◌, sym, ap, ap₂, ◌∙◌}
+use mathlib.Core.List.{List, ◌++◌}
+use Prim.Native.Nat.{ℕ, ◌-◌, ◌<◌}
 use native.Mathlib.Omega.{arith}
-use lib.ListN.{length, get_or, set, replicate}
-use lib.Seq.{take_all}
-use Rattle.cycle.specs.Notation.{zero_filled}
+use lib.ListN.{set, replicate, take, drop}
+use lib.Seq.{length-take-le}
 use Rattle.tsc.specs.declared.State.{State}
 use Rattle.tsc.specs.Constants.{most_words}
 use Rattle.card_format.specs.Fields.{numbers}
-use Rattle.cycle.proofs.Lists.{over, over_suc, over_zeros}
+use Rattle.cycle.proofs.Lists.{over, over_suc, over_all, drop-replicate}
 use Rattle.records.specs.Fields.{word_field}
 use Rattle.record.proofs.Words.{length-words, word_bytes}
 use Rattle.record.proofs.read.state_from.Goals as goal
@@ -19,19 +17,23 @@ loop-k-preserved c = let l = c.loop-k in
     let a = c.args in
     let part = a.part.now in
     let xs = numbers (word_field a.m) part in
-    let n = length-words a.m part in
-    let word : c.from_le_bytes.result ≡ get_or xs l.k 0 = omega (arith, c.from_le_bytes.ensures, word_bytes a.m part l.k (omega arith)) in (
+    let size = length-take-le {A = ℕ} a.m (replicate most_words 0) (omega arith) in
+    let in_size : l.k < a.m = omega (arith, size) in
+    let word = c.word_at.ensures ∙ word_bytes a.m part l.k in_size in (
       omega arith,
       omega arith,
       ap₂ (λ (ws : List ℕ) (x : ℕ). set ws l.k x) l.invariant.2 word
-          ∙ over_suc xs (replicate most_words 0) l.k (omega (arith, n)) (omega arith),
+          ∙ over_suc xs (take a.m (replicate most_words 0)) l.k (omega (arith, length-words a.m part)) (omega (arith, size)),
     )
 
 pub returns : goal.returns
 returns c = let l = c.loop-k in
     let a = c.args in
+    let zeros = replicate most_words 0 in
     let xs = numbers (word_field a.m) a.part.now in
     let n = length-words a.m a.part.now in
-    let e : l.k ≡ length xs = omega (arith, n) in
+    let size = length-take-le {A = ℕ} a.m zeros (omega arith) in
+    let all : l.k ≡ a.m = omega (arith, size) in
     ap {B = State} (λ (w : List ℕ). record { words = w })
-    (l.invariant.2 ∙ ap (over xs (replicate most_words 0)) e ∙ over_zeros xs most_words (length xs) (le_of_eq refl) ∙ ap (zero_filled most_words) (take_all (length xs) xs (le_of_eq refl)))
+    (ap (λ (front : List ℕ). front ++ drop a.m zeros) (l.invariant.2 ∙ ap (over xs (take a.m zeros)) all ∙ over_all xs (take a.m zeros) a.m n size)
+    ∙ ap (λ (r : List ℕ). xs ++ r) (drop-replicate most_words a.m 0 ∙ ap (λ (m : ℕ). replicate (most_words - m) 0) (sym n)))

@@ -56,7 +56,7 @@ returns-in-Err c =
     let q = given (goal.at.returns-in-Err c).After-places_refusal in
     let allowed = c.is_allowed-allowed.ensures ∙ rw (read_back c.ranges.x, read_back c.ranges.y, read_back c.ranges.radius) refl in
     c.refused.ensures
-    ∙ within-refused q c.args.radius _ (λ z. number_nonzero c.in-Err.refusal (sym c.number.ensures ∙ z)) (c.number.ensures ∙ c.in-Err.ensures ∙ asked q c.args.radius allowed)
+    ∙ within-refused q c.args.radius _ (number_nonzero c.in-Err.refusal) (c.in-Err.ensures ∙ asked q c.args.radius allowed)
 
 pub squared-requires : goal.squared-requires
 squared-requires c = rw (read_back c.ranges.radius) (going (goal.at.squared-requires c).In_default).is_radius_lem

@@ -1,0 +1,17 @@
+-- What a call knows of its card and state once they are looked at: their refusal, or that there is none.
+use Rattle.std.proofs.Common.{◌≡◌, List, ℕ}
+use Rattle.std.specs.Prelude.{Result, Ok, Err}
+use Rattle.tsc.specs.declared.Card.{Card}
+use Rattle.refusals.specs.declared.Refusal.{Refusal}
+use Rattle.refusals.specs.Refusals.{number, answered, numbered}
+use Rattle.refusals.proofs.Answers.{of_value, of_refusal}
+use Rattle.card_format.specs.Reading.{card_of}
+use Rattle.draws.specs.Calls.{refusal_for}
+use Rattle.draws.proofs.Opening.{Clear}
+
+module _ (bytes xs : List ℕ) {a : Result Card Refusal} (looked : numbered a ≡ answered (refusal_for bytes xs) (card_of bytes)) where
+  pub refused : {e : Refusal} → a ≡ Err e → refusal_for bytes xs ≡ number e
+  refused q = of_refusal (refusal_for bytes xs) (card_of bytes) looked q
+
+  pub clear : {card : Card} → a ≡ Ok card → Clear bytes xs card
+  clear q = let p = of_value (refusal_for bytes xs) (card_of bytes) looked q in record { none = p.0; card_is = p.1 }

@@ -1,0 +1,2 @@
+-- What is proved of cards and states that a call is handed.
+pub mod Checked
