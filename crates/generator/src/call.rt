@@ -61,15 +61,15 @@ pub fn draw(card: &[u8], state: &mut [u32]) -> Result<u32, Refusal>
 {
     let values = check::card_for(card, state)?;
     let held = lent::load(state);
-    if tsc1::is_tsc1(card) {
-        let made = outputs::tsc1::next_output(held);
-        lent::store(made.state, state);
-        return Ok(made.word);
-    }
-    let terms = selector::terms_of(values);
-    let rotations = filter::rotations_of(values);
-    let p = step::forward(&values);
-    let drawn = next::next_output(terms, rotations, &p, held);
+    // One store for both ways: what stands between them is TSC-1's step and nothing else.
+    let drawn = if tsc1::is_tsc1(card) {
+        outputs::tsc1::next_output(held)
+    } else {
+        let terms = selector::terms_of(values);
+        let rotations = filter::rotations_of(values);
+        let p = step::forward(&values);
+        next::next_output(terms, rotations, &p, held)
+    };
     lent::store(drawn.state, state);
     Ok(drawn.word)
 }

@@ -1,4 +1,4 @@
-use Rattle.std.proofs.Common.{ap}
+use Rattle.std.proofs.Common.{ap, ◌∙◌}
 use Rattle.std.proofs.lemmas.Result.{err_from_is_err_and}
 use Rattle.tsc.specs.Step.{step}
 use Rattle.card_format.specs.Reading.{card_of}
@@ -11,7 +11,7 @@ use Rattle.stepping.specs.State.{Steps}
 use Rattle.stepping.proofs.Columns.{sized, cycled}
 use Rattle.generator.proofs.Found.{clear_tsc1}
 use Rattle.generator.proofs.call.draw.Goals as goal
-use Rattle.generator.proofs.call.draw.Goals.{After-forward-p, In_ok-values}
+use Rattle.generator.proofs.call.draw.Goals.{After-forward-p, In_ok-values, then-is_tsc1, else-is_tsc1}
 
 -- nothing is refused, and the values are the card's
 passing : (c : In_ok-values) → Clear c.args.card.now c.args.state.now c.in_ok-values.values
@@ -34,14 +34,6 @@ returns-in_err-values-clause-after c = left _ _ (step (card_of c.args.card.now) 
 pub load-held-requires : goal.load-held-requires
 load-held-requires c = few (passing c)
 
--- TSC-1, by its gate formulas
-pub returns-then-is_tsc1 : goal.returns-then-is_tsc1
-returns-then-is_tsc1 c =
-    let e = c.next_output-made.ensures in
-    let k = clear_tsc1 (passing (goal.at.returns-then-is_tsc1 c).In_ok-values) c.is_tsc1.ensures c.if-is_tsc1.true in
-    let made = draw_made k c.load-held.ensures (ap (λ (o : Output). o.word) e) (ap (λ (o : Output). o.state) e) c.store.ensures in
-    record { answer = made.0; after = made.1.0; narrow = made.1.1 }
-
 pub terms_of-terms-requires : goal.terms_of-terms-requires
 terms_of-terms-requires c = sized c.in_ok-values.values (accepted (passing (goal.at.terms_of-terms-requires c).In_ok-values))
 
@@ -51,11 +43,21 @@ rotations_of-rotations-requires c = let z = sized c.in_ok-values.values (accepte
 pub forward-p-requires : goal.forward-p-requires
 forward-p-requires c = cycled c.in_ok-values.values (accepted (passing (goal.at.forward-p-requires c).In_ok-values))
 
-pub next_output-drawn-requires : goal.next_output-drawn-requires
-next_output-drawn-requires c = (c.in_ok-values.values, steps (goal.at.next_output-drawn-requires c).After-forward-p, c.rotations_of-rotations.ensures)
+pub next_output-drawn-requires-else-is_tsc1 : goal.next_output-drawn-requires-else-is_tsc1
+next_output-drawn-requires-else-is_tsc1 c = (c.in_ok-values.values, steps (goal.at.next_output-drawn-requires-else-is_tsc1 c).After-forward-p, c.rotations_of-rotations.ensures)
 
 pub returns : goal.returns
-returns c =
-    let e = c.next_output-drawn.ensures c.in_ok-values.values (steps (goal.at.returns c).After-forward-p) c.rotations_of-rotations.ensures in
-    let made = draw_made (passing (goal.at.returns c).In_ok-values) c.load-held.ensures (ap (λ (o : Output). o.word) e) (ap (λ (o : Output). o.state) e) c.store-2.ensures in
-    record { answer = made.0; after = made.1.0; narrow = made.1.1 }
+returns c = let k = passing (goal.at.returns c).In_ok-values in
+    elim c.if-is_tsc1.branch [
+      -- TSC-1, by its gate formulas
+      | then-is_tsc1 w ↦
+          let e = w.drawn-is ∙ w.next_output-drawn.ensures in
+          let made = draw_made (clear_tsc1 k c.is_tsc1.ensures w.if-is_tsc1.true) c.load-held.ensures (ap (λ (o : Output). o.word) e) (ap (λ (o : Output). o.state) e) c.store.ensures in
+          record { answer = made.0; after = made.1.0; narrow = made.1.1 }
+      | else-is_tsc1 w ↦
+          let steps : Steps c.in_ok-values.values w.terms_of-terms.result w.forward-p.result.odd w.forward-p.result.even c.load-held.result =
+          record { accepted = accepted k; holds = ready k c.load-held.ensures; selects = w.terms_of-terms.ensures; first = w.forward-p.ensures.0; second = w.forward-p.ensures.1 } in
+          let e = w.drawn-is ∙ w.next_output-drawn-else-is_tsc1.ensures c.in_ok-values.values steps w.rotations_of-rotations.ensures in
+          let made = draw_made k c.load-held.ensures (ap (λ (o : Output). o.word) e) (ap (λ (o : Output). o.state) e) c.store.ensures in
+          record { answer = made.0; after = made.1.0; narrow = made.1.1 }
+    ]
