@@ -1,13 +1,13 @@
 -- One change tried, and those of a shovel: what the best change is then.
 use mathlib.Core.Path.{◌≡◌, refl, sym, ap, ◌∙◌, subst}
 use mathlib.Core.Logic.{◌≢◌, inl, inr}
-use mathlib.Core.Bool.{Bool, true, false, cond, not, ◌&&◌, and-eq-true_iff, and-false, true≢false}
+use mathlib.Core.Bool.{Bool, true, false, cond, not, ◌&&◌, ◌||◌, and-eq-true_iff, and-false, true≢false}
 use mathlib.Core.List.{List}
 use Prim.Native.Nat.{ℕ, ◌+◌, ◌-◌, ◌^◌, ◌≤◌, ◌<◌}
 use native.Mathlib.Decide.{ℕ_discrete, dec_lt}
 use native.Mathlib.Omega.{arith}
-use borrow.Author.Tests.{lt-ltb, le-ltb, ltb-true, ltb-false}
-use lib.Dec.{leb, ltb}
+use borrow.Author.Tests.{eq-eqb, ne_eqb, lt-ltb, le-ltb, ltb-true, ltb-false}
+use lib.Dec.{eqb, leb, ltb}
 use lib.ListN.{length, get_or}
 use Rattle.ties.specs.Ties.{ties, has_rank}
 use Rattle.changes.specs.declared.Change.{Change}
@@ -19,26 +19,20 @@ use Rattle.changes.proofs.Order.{no_later_refl, no_later_trans, Told, before_tol
 use Rattle.changes.proofs.Nearest.{Close, Beside, ByTies, nearest, several}
 use Rattle.outcomes.specs.declared.Known.{Known}
 use Rattle.std.proofs.Common.{Option, None, Some}
-use Rattle.std.specs.Option.{SomeIff}
 use Rattle.outcomes.specs.Elsewhere.{elsewhere, Listed}
 use Rattle.change_order.specs.First.{Placed, comes_first}
-use Rattle.candidates.specs.Best.{attempted, attempted_at, Sound, LeadsOver, BestOf}
+use Rattle.candidates.specs.Best.{attempted, Sound, LeadsOver, BestOf}
 
 -- ---- the places of changes
 
-placed_either : (n : ℕ) (b : Bool) (r s : Option Change) → Placed n r → Placed n s → Placed n (cond b r s)
+pub placed_either : (n : ℕ) (b : Bool) (r s : Option Change) → Placed n r → Placed n s → Placed n (cond b r s)
 placed_either n true r s p q = p
 placed_either n false r s p q = q
 
-placed_next : (known : Known) (shovels times : List ℕ) (n : ℕ) (c : Change) (best : Option Change) → c.place < n → Placed n best → Placed n (attempted known shovels times c best)
+pub placed_next : (known : Known) (shovels times : List ℕ) (n : ℕ) (c : Change) (best : Option Change) → c.place < n → Placed n best → Placed n (attempted known shovels times c best)
 unfolding attempted Placed
 placed_next known shovels times n c best l p =
     placed_either n (ltb 0 c.seconds && (comes_first shovels c best && elsewhere known shovels (changed times c))) (Some c) best l p
-
-pub placed_at : (known : Known) (shovels times : List ℕ) (n i : ℕ) (v : Option ℕ) (best : Option Change) → i < n → Placed n best → Placed n (attempted_at known shovels times i v best)
-unfolding attempted_at
-placed_at known shovels times n i None best l p = p
-placed_at known shovels times n i (Some v) best l p = placed_next known shovels times n (change_to times i v) best l p
 
 pub placed-sound : (shovels times : List ℕ) (Wanted : List ℕ → Type 0) (best : Option Change) → Sound shovels times Wanted best → Placed (length times) best
 unfolding Sound Placed
@@ -154,43 +148,55 @@ module _ (known : Known) (shovels times : List ℕ) where
     unfolding Sound LeadsOver
     best_alone l = record { sound = tt; leads = λ e le k. absurd (omega (arith, several shovels times Wanted by_ties not_yet e k)) }
 
-    module _ (i x : ℕ) (li : i < length times) (o : LeastOther times i x) (lx : x ≤ most_time) (best : Option Change) (b : BestOf shovels times Wanted i best)
-        (v w : Option ℕ) (less : SomeIff v (1 ≤ x) (x - 1)) (more : SomeIff w (x + 1 < 4294967296) (x + 1)) where
-      abbrev step : Option ℕ → Option Change → Option Change
-      step = attempted_at known shovels times i
+    module _ (i x : ℕ) (li : i < length times) (o : LeastOther times i x) (lx : x ≤ most_time) (best : Option Change) (b : BestOf shovels times Wanted i best) where
+      abbrev step : ℕ → Option Change → Option Change
+      step v = attempted known shovels times (change_to times i v)
+
+      abbrev t : ℕ
+      t = get_or times i 0
 
       abbrev below : Option Change
-      below = step v best
+      below = cond (eqb x 0 || ltb t x) best (step (x - 1) best)
 
       abbrev at : Option Change
-      at = step (Some x) below
+      at = step x below
 
       abbrev above : Option Change
-      above = step w at
+      above = cond (eqb x most_time || ltb x t) at (step (x + 1) at)
 
-      -- after a time that may be none
+      -- after a change that may be none
       record Next (r s : Option Change) : Type 0 where
         sound : Sound shovels times Wanted r → Sound shovels times Wanted s
         still : (e : Change) → LeadsOver shovels times Wanted r e → LeadsOver shovels times Wanted s e
 
-      -- a time y, if P
-      tried_if : (P : Type 0) (y : ℕ) (z : Option ℕ) (r : Option Change) → SomeIff z P y → (P → y ≤ most_time)
-          → Next r (step z r) × (P → LeadsOver shovels times Wanted (step z r) (change_to times i y))
-      unfolding attempted_at
-      tried_if P y None r h l = (record { sound = λ s. s; still = λ e k. k }, λ p. absurd (h p))
-      tried_if P y (Some z) r h l =
-          let t = tried_to i y li (l h.0) r in
-          rw h.1 (record { sound = t.sound; still = t.still }, λ p. t.leads)
+      tried-below : Next best below × (0 < x → x ≤ t → LeadsOver shovels times Wanted below (change_to times i (x - 1)))
+      tried-below = go (ℕ_discrete x 0) (dec_lt t x)
+        where
+          none : Next best best
+          none = record { sound = λ s. s; still = λ e l. l }
 
-      tried-below : Next best below × (1 ≤ x → LeadsOver shovels times Wanted below (change_to times i (x - 1)))
-      tried-below = tried_if (1 ≤ x) (x - 1) v best less (λ l. omega arith)
+          go : Dec (x ≡ 0) → Dec (t < x) → Next best below × (0 < x → x ≤ t → LeadsOver shovels times Wanted below (change_to times i (x - 1)))
+          go (yes e) d = rw (eq-eqb x 0 e) (none, λ l h. absurd (omega arith))
+          go (no n) (yes l) = rw (ne_eqb x 0 n, lt-ltb t x l) (none, λ z h. absurd (omega arith))
+          go (no n) (no d) =
+              let r = tried_to i (x - 1) li (omega arith) best in
+              rw (ne_eqb x 0 n, le-ltb t x (omega arith)) (record { sound = r.sound; still = r.still }, λ l h. r.leads)
 
       tried_at : Tried (change_to times i x) below at
-      unfolding attempted_at
       tried_at = tried_to i x li lx below
 
-      tried-above : Next at above × (x + 1 < 4294967296 → LeadsOver shovels times Wanted above (change_to times i (x + 1)))
-      tried-above = tried_if (x + 1 < 4294967296) (x + 1) w at more (λ l. omega arith)
+      tried-above : Next at above × (x < most_time → t ≤ x → LeadsOver shovels times Wanted above (change_to times i (x + 1)))
+      tried-above = go (ℕ_discrete x most_time) (dec_lt x t)
+        where
+          none : Next at at
+          none = record { sound = λ s. s; still = λ e l. l }
+
+          go : Dec (x ≡ most_time) → Dec (x < t) → Next at above × (x < most_time → t ≤ x → LeadsOver shovels times Wanted above (change_to times i (x + 1)))
+          go (yes e) d = rw (eq-eqb x most_time e) (none, λ l h. absurd (omega arith))
+          go (no n) (yes l) = rw (ne_eqb x most_time n, lt-ltb x t l) (none, λ z h. absurd (omega arith))
+          go (no n) (no d) =
+              let r = tried_to i (x + 1) li (omega arith) at in
+              rw (ne_eqb x most_time n, le-ltb x t (omega arith)) (record { sound = r.sound; still = r.still }, λ l h. r.leads)
 
       own : (e : Change) → e.place ≡ i → LeadsOver shovels times Wanted above e
       own e q = leads_by above e (λ k. go k (nearest shovels times Wanted by_ties not_yet e k x (subst (λ (j : ℕ). LeastOther times j x) (sym q) o)))
@@ -201,8 +207,8 @@ module _ (known : Known) (shovels times : List ℕ) where
 
           go : Counts times Wanted e → Beside shovels times Wanted e x → (c : Change) × LeadsOver shovels times Wanted above c × Counts times Wanted c × NoLater shovels c e
           go k (inl c) = to x c (tried-above.0.still _ tried_at.leads)
-          go k (inr (inl c)) = to (x - 1) c.2 (tried-above.0.still _ (tried_at.still _ (tried-below.1 (omega (arith, c.0)))))
-          go k (inr (inr c)) = to (x + 1) c.2 (tried-above.1 (omega (arith, c.0)))
+          go k (inr (inl c)) = to (x - 1) c.2 (tried-above.0.still _ (tried_at.still _ (tried-below.1 c.0 (rw (ap (λ (j : ℕ). get_or times j 0) q) at c.1))))
+          go k (inr (inr c)) = to (x + 1) c.2 (tried-above.1 c.0 (rw (ap (λ (j : ℕ). get_or times j 0) q) at c.1))
 
       best_next : BestOf shovels times Wanted (i + 1) above
       best_next =
@@ -216,5 +222,8 @@ module _ (known : Known) (shovels times : List ℕ) where
           go e l (no n) = tried-above.0.still e (tried_at.still e (tried-below.0.still e (b.leads e (omega arith))))
 
       -- as they are answered one after the other
-      pub best_found : (r₁ r₂ r₃ : Option Change) → r₁ ≡ step v best → r₂ ≡ step (Some x) r₁ → r₃ ≡ step w r₂ → BestOf shovels times Wanted (i + 1) r₃
-      best_found r₁ r₂ r₃ e₁ e₂ e₃ = subst (BestOf shovels times Wanted (i + 1)) (sym (e₃ ∙ ap (step w) (e₂ ∙ ap (step (Some x)) e₁))) best_next
+      pub best_found : (r₁ r₂ r₃ : Option Change) → r₁ ≡ cond (eqb x 0 || ltb t x) best (step (x - 1) best) → r₂ ≡ step x r₁
+          → r₃ ≡ cond (eqb x most_time || ltb x t) r₂ (step (x + 1) r₂)
+          → BestOf shovels times Wanted (i + 1) r₃
+      best_found r₁ r₂ r₃ e₁ e₂ e₃ =
+          subst (BestOf shovels times Wanted (i + 1)) (sym (e₃ ∙ ap (λ (b : Option Change). cond (eqb x most_time || ltb x t) b (step (x + 1) b)) (e₂ ∙ ap (step x) e₁))) best_next

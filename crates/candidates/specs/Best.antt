@@ -12,14 +12,9 @@ use Rattle.outcomes.specs.Elsewhere.{elsewhere}
 unfoldable pub attempted : Known → List ℕ → List ℕ → Change → Option Change → Option Change
 attempted known shovels times c best = cond (ltb 0 c.seconds && (comes_first shovels c best && elsewhere known shovels (changed times c))) (Some c) best
 
--- the best change once time v of shovel i is tried, if there is such a time
-unfoldable pub attempted_at : Known → List ℕ → List ℕ → ℕ → Option ℕ → Option Change → Option Change
-attempted_at known shovels times i None best = best
-attempted_at known shovels times i (Some v) best = attempted known shovels times (change_to times i v) best
-
--- the same of a shovel whose time varies
-abbrev pub attempted_to : Varied → Option ℕ → Option Change → Option Change
-attempted_to s v best = attempted_at s.known.now s.shovels.now s.times.now s.place v best
+-- the best change once the shovel's time v is tried
+abbrev pub attempted_to : Varied → ℕ → Option Change → Option Change
+attempted_to s v best = attempted s.known.now s.shovels.now s.times.now (change_to s.times.now s.place v) best
 
 module _ (shovels times : List ℕ) (Wanted : List ℕ → Type 0) where
   unfoldable pub Sound : Option Change → Type 0

@@ -29,9 +29,9 @@ fn try_shovel(
         place: i,
         others: o,
     };
-    let below = attempt::attempt(&shovel, o.time.checked_sub(1), best);
-    let at = attempt::attempt(&shovel, Some(o.time), below);
-    attempt::attempt(&shovel, o.time.checked_add(1), at)
+    let below = attempt::attempt_below(&shovel, best);
+    let at = attempt::attempt(&shovel, o.time, below);
+    attempt::attempt_above(&shovel, at)
 }
 
 // The least change of all. The margin calls this once the pick is not refused, with what it found.
