@@ -28,7 +28,8 @@ pub fn period_refusal(card: &Card) -> Result<(), Refusal>
     Ok(())
 }
 
-// Any bytes as an accepted card: the eight values, or the first of refusals 1 to 9 that applies. Each call that works by a card begins with it.
+// Any bytes as an accepted card: the eight values, or the first of refusals 1 to 9 that applies. Each call that works by a card asks this
+// first: on a card alone here, on a card and a state where the card was read (call_check::check::look).
 pub fn accept(card: &[u8]) -> Result<Card, Refusal>
     ensures { numbered result ≡ accepting card.now }
 {

@@ -1,1 +1,2 @@
 pub mod Strip
+pub mod Page

@@ -1,6 +1,8 @@
 -- For the readers of lists: numbers put to a list, and what is still to come.
-use Rattle.std.proofs.Common.{◌≡◌, ℕ, ◌+◌, ◌<◌, ◌≤◌, List, [], ◌∷◌, Option, Some, None, length, set, map, get_or, suc, refl, sym, ap, ap₂, ◌∙◌, arith, eqb}
+use Rattle.std.proofs.Common.{inl, inr, ◌≡◌, ℕ, ◌+◌, ◌<◌, ◌≤◌, List, [], ◌∷◌, Option, Some, None, length, set, map, get_or, suc, refl, sym, ap, ap₂, ◌∙◌, arith, eqb}
 use lib.Pointwise.{pointwise}
+use Rattle.std.proofs.lemmas.Bool.{cases_eq}
+use Rattle.std.proofs.lemmas.List.{get_or-set_same, get_or-set_other}
 use Rattle.std.proofs.lemmas.Bool.Decides.{nat_tests}
 use Rattle.std.specs.List as std
 use Rattle.case_numbers.specs.Numbers.{fold}
@@ -46,3 +48,12 @@ each f (x ∷ xs) (y ∷ ys) l e = ap₂ (λ a bs. a ∷ bs) (e 0 (omega arith))
 
 pub mapped : (f : ℕ → ℕ) (xs ys : List ℕ) (n : ℕ) → length xs ≡ n → length ys ≡ n → ((i : ℕ) → i < n → get_or ys i 0 ≡ f (get_or xs i 0)) → ys ≡ map f xs
 mapped f xs ys n l m e = each f xs ys (m ∙ sym l) (λ i h. e i (omega (arith, h, l)))
+
+-- the next element of a list that is being made so, written over what stands there
+pub mapped_next : (f : ℕ → ℕ) (xs ys : List ℕ) (k v : ℕ) → k < length ys → v ≡ f (get_or xs k 0) → ((i : ℕ) → i < k → get_or ys i 0 ≡ f (get_or xs i 0))
+    → (i : ℕ) → i < k + 1 → get_or (set ys k v) i 0 ≡ f (get_or xs i 0)
+mapped_next f xs ys k v l e h i j =
+    elim (cases_eq i k) [
+      | inl same ↦ ap (λ n. get_or (set ys k v) n 0) same ∙ get_or-set_same ys k v 0 l ∙ e ∙ ap (λ n. f (get_or xs n 0)) (sym same)
+      | inr other ↦ get_or-set_other ys k i v 0 other ∙ h i (omega (arith, j, other))
+    ]

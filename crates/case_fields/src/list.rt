@@ -1,7 +1,8 @@
 // Lists of numbers in a field.
-ghost use Rattle.std.specs.Prelude.{◌≡◌, ◌≤◌, Some, ◌%◌, map, take};
-ghost use Rattle.case_numbers.specs.Numbers.{base_of, numeral};
-ghost use Rattle.case_fields.specs.Lists.{empty, with_number, is_nothing, numbers_in, pair_value, bytes_in};
+ghost use Rattle.std.specs.Prelude.{◌≡◌, ℕ, ◌≤◌, Some, option_map, ◌%◌, length, map, take};
+ghost use Rattle.case_numbers.specs.Numbers.{base_of, fold, numeral};
+ghost use Rattle.case_fields.specs.Text.{parts, comma};
+ghost use Rattle.case_fields.specs.Lists.{empty, held, with_number, is_nothing, numbers_in, pairs, pair_value, bytes_in};
 
 use case_numbers::number;
 use std::marker::Model;
@@ -74,13 +75,9 @@ impl<const SIZE: usize> Numbers<SIZE> {
     fn with(self, number: u32, most: u32) -> Option<Self>
         ensures { result ≡ with_number most (Some self.entry) (Some number) }
     {
-        if most < number || self.count == SIZE {
-            return None;
-        }
-        let mut longer = self;
-        longer.words[longer.count] = number;
-        longer.count += 1;
-        Some(longer)
+        let mut words = self.words;
+        let count = put(&mut words, self.count, number, most)?;
+        Some(Numbers { words, count })
     }
 }
 
@@ -96,14 +93,23 @@ impl Numbers<ROOM> {
     pub fn halves(&self) -> [u16; ROOM]
         ensures { result ≡ map (λ x. x % 65536) self.now.words }
     {
-        self.words.map(|word| (word % 0x1_0000) as u16)
+        // By index: `map` hands the array on by value, and takes it apart word by word.
+        let mut halves = [0; ROOM];
+        for k in 0..ROOM {
+            halves[k] = (self.words[k] % 0x1_0000) as u16;
+        }
+        halves
     }
 
     // The low 8 bits of each word.
     pub fn bytes(&self) -> [u8; ROOM]
         ensures { result ≡ map (λ x. x % 256) self.now.words }
     {
-        self.words.map(|word| (word % 0x100) as u8)
+        let mut bytes = [0; ROOM];
+        for k in 0..ROOM {
+            bytes[k] = (self.words[k] % 0x100) as u8;
+        }
+        bytes
     }
 }
 
@@ -125,21 +131,42 @@ pub fn is_nothing(field: &[u8]) -> bool
     field == b"-".as_slice()
 }
 
+// A number put behind the first `count` words, and how many there are then; none where the words are full or the number is above the most.
+fn put(words: &mut [u32], count: usize, number: u32, most: u32) -> Option<usize>
+    ensures value { with_number most (Some (held words.old count)) (Some number) ≡ option_map (held words.new) result }
+    ensures bound { (n : ℕ) → result ≡ Some n → n ≤ length words.new }
+{
+    if most < number || words.len() <= count {
+        return None;
+    }
+    words[count] = number;
+    Some(count + 1)
+}
+
+// The numbers of a field put into words that are lent, from the first on, and how many there are. The words stay where they are: a fold hands its list on by value,
+// and a strip of 64 KiB would be copied for each of its words.
+fn read_into(words: &mut [u32], field: &[u8], hex: bool, most: u32) -> Option<usize>
+    ensures value { fold (with_number most) (Some (held words.old 0)) (map (numeral (base_of hex)) (parts comma field.now)) ≡ option_map (held words.new) result }
+    ensures bound { (n : ℕ) → result ≡ Some n → n ≤ length words.new }
+{
+    let mut count = 0;
+    for part in field.split(|byte| *byte == b',') {
+        count = put(words, count, number::number_of(part, hex)?, most)?;
+    }
+    Some(count)
+}
+
 // Numbers up to the most, commas between. Whether they are in hex is a bool, as the definition numbers_in takes it.
 pub fn numbers_of<const SIZE: usize>(field: &[u8], hex: bool, most: u32) -> Option<Numbers<SIZE>>
     ensures { result ≡ numbers_in hex most SIZE field.now }
 {
-    let empty = Some(Numbers::new());
-    if is_nothing(field) {
-        return empty;
-    }
-    // The closures here and below have their clauses written out, since the check reads none off a closure where sizes are parameters.
-    field.split(|byte| *byte == b',').fold(
-        empty,
-        move |list, part|
-            ensures { result ≡ with_number most list.entry (numeral (base_of hex) part.now) }
-        { with_number(list, number::number_of(part, hex), most) },
-    )
+    let mut words = [0; SIZE];
+    let count = if is_nothing(field) {
+        0
+    } else {
+        read_into(&mut words, field, hex, most)?
+    };
+    Some(Numbers { words, count })
 }
 
 // The byte of two hex digits.
@@ -153,21 +180,30 @@ fn pair_of(pair: &[u8]) -> Option<u32>
     }
 }
 
+// The bytes of a field put into words that are lent, from the first on, and how many there are.
+fn read_pairs_into(words: &mut [u32], field: &[u8]) -> Option<usize>
+    ensures value { fold (with_number 255) (Some (held words.old 0)) (map pair_value (pairs field.now)) ≡ option_map (held words.new) result }
+    ensures bound { (n : ℕ) → result ≡ Some n → n ≤ length words.new }
+{
+    let mut count = 0;
+    for pair in field.chunks(2) {
+        count = put(words, count, pair_of(pair)?, BYTE)?;
+    }
+    Some(count)
+}
+
 // Bytes as pairs of hex digits.
 pub fn bytes_of<const SIZE: usize>(field: &[u8]) -> Option<Numbers<SIZE>>
     ensures { result ≡ bytes_in SIZE field.now }
 {
-    let empty = Some(Numbers::new());
-    if is_nothing(field) {
-        return empty;
-    }
     if field.is_empty() {
         return None;
     }
-    field.chunks(2).fold(
-        empty,
-        |list, pair|
-            ensures { result ≡ with_number 255 list.entry (pair_value pair.now) }
-        { with_number(list, pair_of(pair), BYTE) },
-    )
+    let mut words = [0; SIZE];
+    let count = if is_nothing(field) {
+        0
+    } else {
+        read_pairs_into(&mut words, field)?
+    };
+    Some(Numbers { words, count })
 }

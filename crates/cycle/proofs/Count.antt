@@ -6,10 +6,16 @@ use native.Mathlib.Nat.{le_refl}
 use native.Mathlib.Decide.{ℕ_discrete, dec_lt, le_ind}
 use native.Mathlib.Numerals.{add-one}
 use native.Mathlib.Omega.{arith}
+use mir.Val.{bool_byte}
 use Rattle.cycle.specs.Notation.{sum, one, count}
 use Rattle.cycle.proofs.Sum.{sum_ext, sum_add, sum_zero, sum_one, sum_mono, sum_le, term_le_sum}
 
 -- ---- a test's value
+
+-- as the code adds it
+pub byte-one : (b : Bool) → bool_byte b ≡ one b
+byte-one true = refl
+byte-one false = refl
 
 pub one_le : (b : Bool) → one b ≤ 1
 one_le true = le_refl 1

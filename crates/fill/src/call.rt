@@ -4,6 +4,7 @@ ghost use Rattle.refusals.specs.Refusals.{told};
 ghost use Rattle.fills.specs.Fills.{fill_refusal, filled, filled_state};
 
 use call_check::check as handed;
+use card_read::read;
 use gates::tsc1;
 use outputs::row;
 use refusals::Refusal;
@@ -23,11 +24,12 @@ pub fn fill(
     ensures words { strip.new ≡ filled card.now state.old strip.old place count }
     ensures after { state.new ≡ filled_state card.now state.old strip.old place count }
 {
-    let values = handed::card_for(card, state)?;
+    let found = read::read(card);
+    let values = handed::look(&found, state)?;
     check::span_refusal(strip.len(), place, count)?;
     let is_tsc1 = tsc1::is_tsc1(card);
     let held = lent::load(state);
-    let last = row::fill_words(values, is_tsc1, held, count, &mut strip[place..]);
+    let last = row::fill_words(*values, is_tsc1, held, count, &mut strip[place..]);
     lent::store(last, state);
     Ok(())
 }

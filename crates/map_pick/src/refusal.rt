@@ -6,6 +6,7 @@ ghost use Rattle.places.specs.Places.{place_checks};
 ghost use Rattle.map_pick.specs.Measured.{can_measure};
 
 use call_check::check;
+use card_read::read;
 use places::map;
 use refusals::Refusal;
 use tie_list::check::MOST_SHOVELS;
@@ -31,6 +32,7 @@ pub fn first_refusal(
 ) -> Result<(), Refusal>
     ensures { told result ≡ first_of (call_checks card.now state.now ++ place_checks shovels.now xs.now ys.now mapped) }
 {
-    check::card_for(card, state)?;
+    let found = read::read(card);
+    check::look(&found, state)?;
     map::places_refusal(shovels, xs, ys, mapped)
 }

@@ -5,6 +5,7 @@ ghost use Rattle.margins.specs.Margins.{IsMargin};
 use super::{changed, chosen};
 use call_check::check;
 use candidates::search;
+use card_read::read;
 use gates::tsc1;
 use margins::Nearest;
 use pick::listing;
@@ -21,12 +22,13 @@ pub fn margin(
 ) -> Result<Nearest, Refusal>
     ensures { IsMargin card.now state.now shovels.now times.now (numbered result) }
 {
-    let values = check::card_for(card, state)?;
+    let read = read::read(card);
+    let values = check::look(&read, state)?;
     let found = listing::list_ties(values.width as u32, shovels, times)?;
     let is_tsc1 = tsc1::is_tsc1(card);
     let held = lent::load(state);
     let known = chosen::known_of(
-        values,
+        *values,
         is_tsc1,
         held,
         shovels,

@@ -4,6 +4,7 @@ ghost use Rattle.picks.specs.Picks.{picking, picked, answering};
 
 use super::{listing, ranks};
 use call_check::check;
+use card_read::read;
 use gates::tsc1;
 use picks::Pick;
 use refusals::Refusal;
@@ -14,7 +15,8 @@ fn choose(card: &[u8], state: &mut [u32], shovels: &[u16], times: &[u32]) -> Res
     ensures answer { answering result ≡ picking card.now state.old shovels.now times.now }
     ensures after { state.new ≡ picked card.now state.old shovels.now times.now }
 {
-    let values = check::card_for(card, state)?;
+    let read = read::read(card);
+    let values = check::look(&read, state)?;
     let found = listing::list_ties(values.width as u32, shovels, times)?;
     let ties = found.ties as u8;
     if found.ties == 1 {
@@ -22,7 +24,7 @@ fn choose(card: &[u8], state: &mut [u32], shovels: &[u16], times: &[u32]) -> Res
         return Ok(Pick::Shovel(nearest, ties, 0));
     }
     let is_tsc1 = tsc1::is_tsc1(card);
-    let drawn = ranks::draw_rank(values, is_tsc1, state, found.ties as u32);
+    let drawn = ranks::draw_rank(*values, is_tsc1, state, found.ties as u32);
     let number = rank::chosen_by(shovels, times, found.least, drawn.rank as usize);
     Ok(Pick::Shovel(number, ties, drawn.taken))
 }

@@ -4,6 +4,7 @@ ghost use Rattle.refusals.specs.Refusals.{told};
 ghost use Rattle.picks.specs.Picks.{pick_refusal};
 
 use call_check::check;
+use card_read::read;
 use pick::listing;
 use refusals::Refusal;
 
@@ -16,7 +17,8 @@ pub fn pick_refusal(
 ) -> Result<(), Refusal>
     ensures { told result ≡ pick_refusal card.now state.now shovels.now times.now }
 {
-    let values = check::card_for(card, state)?;
+    let found = read::read(card);
+    let values = check::look(&found, state)?;
     listing::list_ties(values.width as u32, shovels, times)?;
     Ok(())
 }

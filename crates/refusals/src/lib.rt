@@ -1,7 +1,7 @@
 // The refusals of documents 01 and 02, each with its trade word. Which of several is told, and the laws of that, are in specs/ and proofs/.
 #![tactic(auto)]
 
-ghost use Rattle.std.specs.Prelude.{◌≡◌};
+ghost use Rattle.std.specs.Prelude.{◌≡◌, Some, decimal};
 ghost use Rattle.refusals.specs.Refusals.{number};
 
 use std::fmt;
@@ -72,8 +72,10 @@ impl Refusal {
     }
 }
 
-// Printed as its number.
+// Printed as its number, in decimal.
 impl fmt::Display for Refusal {
+    ghost output = { λ r. Some (decimal (number r)) };
+
     fn fmt<W: fmt::Write>(&self, f: &mut fmt::Formatter<W>) -> fmt::Result {
         let number = self.number();
         write!(f, "{number}")

@@ -4,7 +4,6 @@ ghost use Rattle.ties.specs.Ties.{most_shovels};
 ghost use Rattle.tie_others.specs.Others.{joined_by, IsOthers};
 
 use changes::MOST_TIME;
-use std::cmp::Ordering;
 
 // With no shovel at all, the greatest time, and none.
 #[derive(Clone, Copy)]
@@ -23,18 +22,21 @@ fn joined(o: Others, other: bool, t: u32, lower: bool) -> Others
     if !other {
         return o;
     }
-    match t.cmp(&o.time) {
-        Ordering::Less => Others {
+    // Two tests, and no match on what `cmp` answers, which takes a quarter more of a margin of 64 ties.
+    if t < o.time {
+        Others {
             time: t,
             ties: 1,
             lower: usize::from(lower),
-        },
-        Ordering::Equal => Others {
+        }
+    } else if t == o.time {
+        Others {
             time: t,
             ties: o.ties + 1,
             lower: o.lower + usize::from(lower),
-        },
-        Ordering::Greater => o,
+        }
+    } else {
+        o
     }
 }
 

@@ -1,22 +1,24 @@
-use Rattle.std.proofs.Common.{Some, sym, ap, ◌∙◌, refl, rules}
-use Rattle.std.proofs.lemmas.Iterator.Consumers.{fold_from_yields_List}
-use Rattle.case_fields.specs.Lists.{with_number, pairs, pair_value, bytes_in}
-use Rattle.case_fields.proofs.Pairs.{YieldsList-from_pairs}
-use Rattle.case_fields.proofs.Lists.{gathered}
+use Rattle.std.proofs.Common.{Some, option_map, sym, ap, ap₂, ◌∙◌}
+use Rattle.case_fields.specs.Lists.{held, bytes_in}
+use Rattle.case_fields.proofs.Pairs.{no_bytes}
 use Rattle.case_fields.proofs.list.bytes_of.Goals as goal
-
-pub returns-then-is_nothing : goal.returns-then-is_nothing
-unfolding bytes_in
-returns-then-is_nothing g c = simp (sym c.is_nothing.ensures ∙ c.if-is_nothing.true) (ap Some c.new.ensures)
+use Rattle.case_fields.proofs.list.bytes_of.Goals.{then-is_nothing, else-is_nothing+in_ok-count}
 
 pub returns-then-is_empty : goal.returns-then-is_empty
+returns-then-is_empty g c = sym (no_bytes g.row.SIZE c.args.field.now (sym c.is_empty.ensures ∙ c.if-is_empty.true))
+
+pub returns-in_err-count : goal.returns-in_err-count
 unfolding bytes_in
-returns-then-is_empty g c = simp (sym c.is_nothing.ensures ∙ c.if-is_nothing.false, sym c.is_empty.ensures ∙ c.if-is_empty.true) refl
+returns-in_err-count g c =
+    simp (sym c.is_nothing.ensures ∙ c.if-is_nothing.false, sym c.is_empty.ensures ∙ c.if-is_empty.false)
+    (c.from_residual.ensures ∙ sym (c.read_pairs_into.ensures.value ∙ ap (option_map (held c.read_pairs_into.new.words)) c.in_err-count.was))
 
 pub returns : goal.returns
 unfolding bytes_in
 returns g c =
-    simp (sym c.is_nothing.ensures ∙ c.if-is_nothing.false, sym c.is_empty.ensures ∙ c.if-is_empty.false)
-    (gathered 255 g.row.SIZE pair_value c.new.result _ _ c.fold.result c.new.ensures (ap pairs (sym c.chunks.ensures.rest))
-    (fold_from_yields_List _ (λ b p. with_number 255 b (pair_value p)) (Some c.new.result) c.fold.result c.fold.ensures.ran
-    (YieldsList-from_pairs c.chunks.ensures.size) (λ a x b q k. search rules)))
+    elim c.if-is_nothing.branch [
+      | then-is_nothing w ↦ simp (sym c.is_nothing.ensures ∙ w.if-is_nothing.true) (ap₂ (λ xs n. Some (held xs n)) w.words-is w.count-is)
+      | else-is_nothing+in_ok-count w ↦
+          simp (sym c.is_nothing.ensures ∙ w.if-is_nothing.false, sym c.is_empty.ensures ∙ c.if-is_empty.false)
+          (ap₂ (λ xs n. Some (held xs n)) w.words-is w.count-is ∙ sym (w.read_pairs_into.ensures.value ∙ ap (option_map (held w.read_pairs_into.new.words)) w.in_ok-count.was))
+    ]

@@ -1,23 +1,20 @@
-use Rattle.std.proofs.Common.{Some, eqb, sym, ap, ◌∙◌, rules, tests}
-use Rattle.std.proofs.lemmas.Iterator.Splits.{YieldsList-from_slice_split}
-use Rattle.std.proofs.lemmas.Iterator.Consumers.{fold_from_yields_List}
-use Rattle.case_numbers.specs.Numbers.{numeral, base_of}
-use Rattle.case_fields.specs.Lists.{with_number, numbers_in}
-use Rattle.case_fields.proofs.Parts.{parts_split}
-use Rattle.case_fields.proofs.Lists.{gathered}
+use Rattle.std.proofs.Common.{◌≡◌, ℕ, List, Some, option_map, refl, sym, ap, ap₂, ◌∙◌}
+use Rattle.case_fields.specs.Lists.{held, numbers_in}
 use Rattle.case_fields.proofs.list.numbers_of.Goals as goal
+use Rattle.case_fields.proofs.list.numbers_of.Goals.{then-is_nothing, else-is_nothing+in_ok-count}
 
-pub returns-then-is_nothing : goal.returns-then-is_nothing
+pub returns-in_err-count : goal.returns-in_err-count
 unfolding numbers_in
-returns-then-is_nothing g c = simp (sym c.is_nothing.ensures ∙ c.if-is_nothing.true) (ap Some c.new.ensures)
+returns-in_err-count g c =
+    simp (sym c.is_nothing.ensures ∙ c.if-is_nothing.false)
+    (c.from_residual.ensures ∙ sym (c.read_into.ensures.value ∙ ap (option_map (held c.read_into.new.words)) c.in_err-count.was))
 
 pub returns : goal.returns
 unfolding numbers_in
-returns g c = let field = c.args.field.now in
-    let most = c.args.most in
-    let value = numeral (base_of c.args.hex) in
-    let s = c.split.ensures in
-    simp (sym c.is_nothing.ensures ∙ c.if-is_nothing.false)
-    (gathered most g.row.SIZE value c.new.result _ _ c.fold.result c.new.ensures (parts_split 44 field)
-    (fold_from_yields_List _ (λ b p. with_number most b (value p)) (Some c.new.result) c.fold.result c.fold.ensures.ran
-    (YieldsList-from_slice_split _ (λ b. eqb b 44) field s.rest s.done s.closure (λ x b q k. search (rules, tests))) (λ a x b q k. search rules)))
+returns g c =
+    elim c.if-is_nothing.branch [
+      | then-is_nothing w ↦ simp (sym c.is_nothing.ensures ∙ w.if-is_nothing.true) (ap₂ (λ xs n. Some (held xs n)) w.words-is w.count-is)
+      | else-is_nothing+in_ok-count w ↦
+          simp (sym c.is_nothing.ensures ∙ w.if-is_nothing.false)
+          (ap₂ (λ xs n. Some (held xs n)) w.words-is w.count-is ∙ sym (w.read_into.ensures.value ∙ ap (option_map (held w.read_into.new.words)) w.in_ok-count.was))
+    ]

@@ -8,7 +8,7 @@ use Rattle.cycle.proofs.Lists.{part_rest}
 use Rattle.refusals.specs.Refusals.{first_of}
 use Rattle.refusals.proofs.Answers.{told_of_value, told_of_refusal}
 use Rattle.draws.proofs.Opening.{Clear}
-use Rattle.call_check.proofs.Checked.{refused, clear}
+use Rattle.call_check.proofs.Checked.{look_refused, look_clear}
 use Rattle.draws.proofs.Called.{few, accepted, ready}
 use Rattle.spans.specs.Span.{span_checks}
 use Rattle.spans.proofs.Span.{span_within}
@@ -18,8 +18,8 @@ use Rattle.fill.proofs.call.fill.Goals as goal
 use Rattle.fill.proofs.call.fill.Goals.{In_ok-span_refusal, In_ok-values}
 
 -- past the first test neither card nor state is refused, and the values are the card's
-passing : (c : In_ok-values) → Clear c.args.card.now c.args.state.now c.in_ok-values.values
-passing c = clear _ _ c.card_for.ensures c.in_ok-values.was
+passing : (c : In_ok-values) → Clear c.args.card.now c.args.state.now c.in_ok-values.values.now
+passing c = look_clear _ _ (c.look.ensures _ c.read-found.ensures) c.in_ok-values.was
 
 -- past the second the span is not
 fits : (c : In_ok-span_refusal) → let a = c.args in first_of (span_checks (length a.strip.now) a.place a.count) ≡ 0
@@ -30,7 +30,7 @@ inside c = span_within _ _ _ (fits c)
 
 pub returns-in_err-values : goal.returns-in_err-values
 returns-in_err-values c = let p = err_from_is_err_and c.from_residual.result c.from_residual.ensures.1 in
-    let told = refused_call _ _ _ _ _ c.in_err-values.field-0.0 (refused c.args.card.now c.args.state.now c.card_for.ensures c.in_err-values.was) in
+    let told = refused_call _ _ _ _ _ c.in_err-values.field-0.0 (look_refused c.args.card.now c.args.state.now (c.look.ensures _ c.read-found.ensures) c.in_err-values.was) in
     rw (p.1, p.2) (record { answer = told.0; words = told.1.0; after = told.1.1 })
 
 pub returns-in_err-span_refusal : goal.returns-in_err-span_refusal

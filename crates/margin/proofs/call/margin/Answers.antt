@@ -5,7 +5,7 @@ use Rattle.refusals.specs.declared.Refusal.{Refusal}
 use Rattle.refusals.specs.Refusals.{number, numbered}
 use Rattle.refusals.proofs.Answers.{number_nonzero}
 use Rattle.draws.proofs.Opening.{Clear}
-use Rattle.call_check.proofs.Checked.{refused, clear}
+use Rattle.call_check.proofs.Checked.{look_refused, look_clear}
 use Rattle.draws.proofs.Called.{few, accepted, ready}
 use Rattle.gates.proofs.GateStep.{only-p1}
 use Rattle.changes.specs.declared.Change.{Change}
@@ -21,13 +21,13 @@ use Rattle.margin.proofs.call.margin.Goals as goal
 use Rattle.margin.proofs.call.margin.Goals.{After-known_of-known, After-least_change, In_ok-values, In_ok-found}
 
 -- past the first test the card and the state are not refused
-passing : (c : In_ok-values) → Clear c.args.card.now c.args.state.now c.in_ok-values.values
-passing c = clear c.args.card.now c.args.state.now c.card_for.ensures c.in_ok-values.was
+passing : (c : In_ok-values) → Clear c.args.card.now c.args.state.now c.in_ok-values.values.now
+passing c = look_clear c.args.card.now c.args.state.now (c.look.ensures _ c.read-read.ensures) c.in_ok-values.was
 
 -- past the second nothing is
-going : (c : In_ok-found) → let a = c.args in Free a.card.now a.state.now a.shovels.now a.times.now c.in_ok-values.values c.in_ok-found.found
+going : (c : In_ok-found) → let a = c.args in Free a.card.now a.state.now a.shovels.now a.times.now c.in_ok-values.values.now c.in_ok-found.found
 going c = let a = c.args in
-    let k = clear a.card.now a.state.now c.card_for.ensures c.in_ok-values.was in
+    let k = look_clear a.card.now a.state.now (c.look.ensures _ c.read-read.ensures) c.in_ok-values.was in
     free _ _ _ _ k c.list_ties.ensures.refusal c.in_ok-found.was c.in_ok-found.ensures.found
 
 refusal : (bytes xs shovels times : List ℕ) (e : Refusal) → pick_refusal bytes xs shovels times ≡ number e → IsMargin bytes xs shovels times (numbered (Err e))
@@ -35,7 +35,7 @@ refusal bytes xs shovels times e q = (margin_refused bytes xs shovels times (λ 
 
 -- what the search is given
 draws : (c : After-known_of-known) → let a = c.args in
-    Draws a.state.now a.shovels.now a.times.now c.in_ok-values.values c.in_ok-found.found c.known_of-known.result
+    Draws a.state.now a.shovels.now a.times.now c.in_ok-values.values.now c.in_ok-found.found c.known_of-known.result
 draws c =
     let e = c.known_of-known.ensures in
     record { width = e.width; state = c.load-held.result; lent = c.load-held.ensures; words = e.words; chosen = e.chosen }
@@ -51,7 +51,7 @@ pub returns-in_err-values : goal.returns-in_err-values
 returns-in_err-values c = let a = c.args in
     let p = err_from_is_err_and c.from_residual.result c.from_residual.ensures.1 in
     let e = c.in_err-values.field-0.0 in
-    rw (p.1, p.2) (refusal _ _ _ _ e (told_call _ _ _ _ e (refused a.card.now a.state.now c.card_for.ensures c.in_err-values.was)))
+    rw (p.1, p.2) (refusal _ _ _ _ e (told_call _ _ _ _ e (look_refused a.card.now a.state.now (c.look.ensures _ c.read-read.ensures) c.in_err-values.was)))
 
 pub list_ties-requires : goal.list_ties-requires
 list_ties-requires c = (accepted (passing (goal.at.list_ties-requires c).In_ok-values)).narrow

@@ -3,7 +3,7 @@ use Rattle.std.proofs.lemmas.Result.{err_from_is_err_and}
 use Rattle.tsc.specs.declared.Card.{Card}
 use Rattle.tsc.specs.Coverage.{IsState}
 use Rattle.draws.proofs.Opening.{Clear}
-use Rattle.call_check.proofs.Checked.{refused, clear}
+use Rattle.call_check.proofs.Checked.{look_refused, look_clear}
 use Rattle.draws.proofs.Called.{accepted, in_range}
 use Rattle.gates.proofs.GateStep.{only-p1}
 use Rattle.sample.specs.declared.draw.Sample.{Sample}
@@ -13,20 +13,20 @@ use Rattle.pick.proofs.call.choose.Goals as goal
 use Rattle.pick.proofs.call.choose.Goals.{In_ok-values, In_ok-found}
 
 -- past the first test the card and the state are not refused
-passing : (c : In_ok-values) → Clear c.args.card.now c.args.state.now c.in_ok-values.values
-passing c = clear c.args.card.now c.args.state.now c.card_for.ensures c.in_ok-values.was
+passing : (c : In_ok-values) → Clear c.args.card.now c.args.state.now c.in_ok-values.values.now
+passing c = look_clear c.args.card.now c.args.state.now (c.look.ensures _ c.read-read.ensures) c.in_ok-values.was
 
 -- past the second nothing is
-going : (c : In_ok-found) → let a = c.args in Free a.card.now a.state.now a.shovels.now a.times.now c.in_ok-values.values c.in_ok-found.found
+going : (c : In_ok-found) → let a = c.args in Free a.card.now a.state.now a.shovels.now a.times.now c.in_ok-values.values.now c.in_ok-found.found
 going c = let a = c.args in
-    let k = clear a.card.now a.state.now c.card_for.ensures c.in_ok-values.was in
+    let k = look_clear a.card.now a.state.now (c.look.ensures _ c.read-read.ensures) c.in_ok-values.was in
     free _ _ _ _ k c.list_ties.ensures.refusal c.in_ok-found.was c.in_ok-found.ensures.found
 
 pub returns-in_err-values : goal.returns-in_err-values
 returns-in_err-values c = let a = c.args in
     let p = err_from_is_err_and c.from_residual.result c.from_residual.ensures.1 in
     let e = c.in_err-values.field-0.0 in
-    let both = refused_pick _ _ _ _ e (told_call _ _ _ _ e (refused a.card.now a.state.now c.card_for.ensures c.in_err-values.was)) in
+    let both = refused_pick _ _ _ _ e (told_call _ _ _ _ e (look_refused a.card.now a.state.now (c.look.ensures _ c.read-read.ensures) c.in_err-values.was)) in
     rw (p.1, p.2) (record { answer = both.0; after = both.1 })
 
 pub list_ties-requires : goal.list_ties-requires

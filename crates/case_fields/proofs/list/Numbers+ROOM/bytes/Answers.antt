@@ -1,9 +1,13 @@
-use Rattle.std.proofs.Common.{◌%◌, map, ap, ◌∙◌, rules}
+use Rattle.std.proofs.Common.{ℕ, ◌%◌, map, ap, ◌∙◌, arith, rules}
 use Rattle.case_fields.specs.Lists.{Held}
-use Rattle.case_fields.proofs.Lists.{mapped}
+use Rattle.case_fields.proofs.Lists.{mapped, mapped_next}
 use Rattle.case_fields.proofs.list.Numbers+ROOM.bytes.Goals as goal
 
+pub loop-k-preserved : goal.loop-k-preserved
+loop-k-preserved c = let l = c.loop-k in
+    (search rules, mapped_next (λ (x : ℕ). x % 256) c.self.inside.words l.bytes l.k _ (search rules) (search rules) l.invariant.1)
+
 pub returns : goal.returns
-returns c = let m = c.map.ensures.items in
-    mapped (λ x. x % 256) c.self.inside.words c.map.result 600 (search rules) m.long (λ i h. let k = m.at i 0 0 h in search rules)
-    ∙ ap (λ (h : Held). map (λ x. x % 256) h.words) c.self.view_is
+returns c =
+    mapped (λ (x : ℕ). x % 256) c.self.inside.words c.loop-k.bytes 600 (search rules) c.loop-k.invariant.0 (λ i h. c.loop-k.invariant.1 i (omega (arith, h)))
+    ∙ ap (λ (h : Held). map (λ (x : ℕ). x % 256) h.words) c.self.view_is

@@ -1,0 +1,2 @@
+-- What holds of the front of an array that is lent.
+pub mod Front
