@@ -7,7 +7,7 @@ use case_numbers::number;
 use std::io;
 use std::io::Write;
 
-// nist CARD STRIP PAGELEN. On its own, since a function clears its locals on entry: put in line it would clear the strip, 64 KiB, for lines of every kind.
+// nist CARD STRIP PAGELEN. Not put in line, so that its frame, which has the strip of 64 KiB more than once, is there for its lines alone.
 #[inline(never)]
 pub fn replay_nist<W: Write>(out: &mut W, line: &[u8], card: &[u8]) -> io::Result<()> {
     let words = strip::words_of(line::field(line, 2));
